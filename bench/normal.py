@@ -2,7 +2,8 @@
 
     normal.py PROGRAM MEGABYTES [OTHER]
 
-PROGRAM is the built html_normal, which gets the Standard's table of references; OTHER a program that reads a page and writes its normal text too, to be timed beside it.
+PROGRAM is the built html_normal, which gets the Standard's table of references; OTHER a program that reads a page and writes its
+normal text too, to be timed beside it.
 """
 
 import os
@@ -89,7 +90,10 @@ class Page:
             return f'<svg viewBox="0 0 9 9"><g fill="red"><path d="M0 0L9 9Z"/><title>{self.words(2)}</title></g></svg>\n'
         if kind < 0.46:
             options = self.items(4, 4, lambda: f"<option value=1>{self.words(1)}")
-            return f"<form action=/s><input name=q value='{self.words(2)}'><select>{options}</select><textarea>{self.words(5)}</textarea></form>\n"
+            return (
+                f"<form action=/s><input name=q value='{self.words(2)}'><select>{options}</select>"
+                f"<textarea>{self.words(5)}</textarea></form>\n"
+            )
         if kind < 0.48:
             return f"<pre>{self.words(8)}\n    &lt;tag&gt;\n</pre>\n"
         if kind < 0.55 and depth < 5:
@@ -165,7 +169,9 @@ def whole(programs, folder, megabytes):
     for place, program in enumerate(programs):
         seconds = statistics.median(r[place][0] for r in rounds)
         kilobytes = max(r[place][1] for r in rounds)
-        print(f"{os.path.basename(program[0])}: {size} bytes in {seconds:.2f} s, {size / seconds / 1e6:.1f} MB a second, {kilobytes / 1000:.0f} MB held")
+        speed = size / seconds / 1e6
+        held = kilobytes / 1000
+        print(f"{os.path.basename(program[0])}: {size} bytes in {seconds:.2f} s, {speed:.1f} MB a second, {held:.0f} MB held")
     if len(programs) == 2:
         ratio = statistics.median(r[0][0] / r[1][0] for r in rounds)
         print(f"ratio of the times in one round: {ratio:.2f}")

@@ -14,11 +14,21 @@ import re
 import sys
 
 TOP = os.path.join(os.path.dirname(os.path.abspath(__file__)), "..", "crates")
-HEAD = re.compile(r"^(\s*)(?:(?:abbrev|unfoldable|pub|record|data|ruleset)\s+)*(?:abbrev|unfoldable|pub|record|data)\s+(?:pub\s+)?(?:record\s+|data\s+)?(\S+)\s*(?::|\(|\{)")
+# not the value `record s { f = .. }`, which begins as the declaration of a record does
+HEAD = re.compile(
+    r"^(\s*)(?!record\s+\S+\s+\{\s*(?:\S+ =|$))(?:(?:abbrev|unfoldable|pub|record|data|ruleset)\s+)*"
+    r"(?:abbrev|unfoldable|pub|record|data)\s+(?:pub\s+)?(?:record\s+|data\s+)?(\S+)\s*(?::|\(|\{)"
+)
 PLAIN = re.compile(r"^(\s*)([^\s:()]+)\s+:\s")
 USE = re.compile(r"^\s*(?:pub\s+)?use\s+(\S+?)(?:\.\{([^}]*)\})?(?:\s+as\s+(\S+))?\s*$")
 WORD = re.compile(r"[^\s(){}\[\],;λ.]+(?:\.[^\s(){}\[\],;λ.]+)*")
-NORMALISE = ["html_normal/Normal IsNormalised", "html_normal/Normal IsFailed", "html_normal/Normal CountsReads", "html_normal/Normal is_write_fault", "devices/Devices count_after"]
+NORMALISE = [
+    "html_normal/Normal IsNormalised",
+    "html_normal/Normal IsFailed",
+    "html_normal/Normal CountsReads",
+    "html_normal/Normal is_write_fault",
+    "devices/Devices count_after",
+]
 
 
 class File:

@@ -68,7 +68,9 @@ def run(program, shim, page, table, refused):
     def hand_over():
         os.dup2(tells, 3)
 
-    ran = subprocess.run(words, input=page.encode(), capture_output=True, env=environment, preexec_fn=hand_over, close_fds=False, timeout=60)
+    ran = subprocess.run(
+        words, input=page.encode(), capture_output=True, env=environment, preexec_fn=hand_over, close_fds=False, timeout=60
+    )
     os.close(tells)
     with os.fdopen(told) as count:
         asked = int(count.read() or 0)
@@ -90,7 +92,8 @@ def refuse_each(program, shim, name, page, table):
             longest = max(longest, len(written))
         else:
             return f"{name}: request {refused} of {asked}: status {status}, {line!r}, {written!r}", False
-    return f"{name}: {asked} requests refused: {memory} memory, {kept} own; at most {longest} of {len(own[1])} bytes were written", own[0] == 0
+    written = f"at most {longest} of {len(own[1])} bytes were written"
+    return f"{name}: {asked} requests refused: {memory} memory, {kept} own; {written}", own[0] == 0
 
 
 def main():

@@ -35,7 +35,8 @@ def main():
         if "RowsOf" in file:
             continue
         with open(file, encoding="utf-8") as it:
-            for match in LIST.finditer(it.read()):
+            # a comment's list of sections may go on in its next line
+            for match in LIST.finditer(re.sub(r"\n\s*-- ", " ", it.read())):
                 for section in re.findall(r"\d+(?:\.\d+)+", match[1]):
                     found[section].add(file)
     with open("docs/STANDARD.md", "w", encoding="utf-8") as page:

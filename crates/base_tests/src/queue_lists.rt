@@ -1,4 +1,5 @@
-//! The queue beside a plain list of characters: each public call, on all texts of 0 to 4 characters of three kinds, from each place in them.
+//! The queue beside a plain list of characters: each public call, on all texts of 0 to 4 characters of three kinds, from each place in
+//! them.
 ghost use Rattle.std.specs.Str.{IsAscii};
 
 use html_queue::{BufferQueue, SetResult, SmallCharSet};

@@ -13,7 +13,8 @@ use Rattle.html_tokenizer.proofs.Errors.Rises.{more-sum}
 use Rattle.html_tokens.specs.Notes.{errors_of, was_quiet}
 use Rattle.html_tokens.specs.Table.{Row}
 use Rattle.bench_tokenizer.specs.Counts.{counted_by, counting}
-use Rattle.bench_tokenizer.specs.Readings.{Begins, CountsPage, HasRead, IsCounted, Reads, ReadsPage, noted, owed_after, page_owes, page_reading, to_come}
+use Rattle.bench_tokenizer.specs.Readings.{Begins, CountsPage, HasRead, IsCounted, Reads, ReadsPage, noted, owed_after}
+use Rattle.bench_tokenizer.specs.Readings.{page_owes, page_reading, to_come}
 use Rattle.bench_tokenizer.specs.declared.counts.Counts.{Counts}
 
 -- a text without a byte is empty
@@ -25,7 +26,8 @@ told-fewer : (before rise own n : ℕ) → min (before + (rise + own)) 0xffff_ff
 told-fewer before rise own n h = omega arith
 
 -- where an error was told for each faulty item, and then one for each further one, one was told for each of them all
-told-all : (before rise m n : ℕ) → min before 0xffff_ffff_ffff_ffff ≤ m → min (m + rise) 0xffff_ffff_ffff_ffff ≤ n → min (and_more rise before) 0xffff_ffff_ffff_ffff ≤ n
+told-all : (before rise m n : ℕ) → min before 0xffff_ffff_ffff_ffff ≤ m → min (m + rise) 0xffff_ffff_ffff_ffff ≤ n
+    → min (and_more rise before) 0xffff_ffff_ffff_ffff ≤ n
 told-all before rise m n h k = let sum = more-sum rise before in omega (arith, sum, h, k)
 
 still-told : (owed m n : ℕ) → min owed 0xffff_ffff_ffff_ffff ≤ m → m ≤ n → min owed 0xffff_ffff_ffff_ffff ≤ n
@@ -36,10 +38,13 @@ pub begun : (table : List Row) (page : List ℕ) (k : Tokenizer Counts) → Begi
 begun table page k begins = record { owed = steps.nothing_owed; told = omega arith; same = sym (begins.same page); takes = begins.takes }
 
 -- after a text that a tokenizer read, what follows that text is the rest of the page
-read-on : (table : List Row) (page text behind : List ℕ) (old new : Tokenizer Counts) → HasRead table page old (text ++ behind) → Reads old new text → HasRead table page new behind
+read-on : (table : List Row) (page text behind : List ℕ) (old new : Tokenizer Counts) → HasRead table page old
+    (text ++ behind) → Reads old new text → HasRead table page new behind
 read-on table page text behind old new read reads = record {
   owed = owed_after reads.owed read.owed;
-  told = told-all read.owed.faults reads.owed.faults old.sink.errors new.sink.errors read.told (told-fewer old.sink.errors reads.owed.faults (owed_for_text old.stream.exact_errors reads.came).faults new.sink.errors reads.rises.enough);
+  told = told-all read.owed.faults reads.owed.faults old.sink.errors new.sink.errors read.told
+      (told-fewer old.sink.errors reads.owed.faults (owed_for_text old.stream.exact_errors reads.came).faults
+      new.sink.errors reads.rises.enough);
   same = read.same ∙ reads.same read.owed behind;
   takes = reads.takes;
 }
@@ -50,18 +55,23 @@ whole-page : (table : List Row) (k new : Tokenizer Counts) (page : List ℕ) (re
 whole-page table k new page rest read none gives =
     let has_ended = rw read.takes.begun at gives in
     let owed = owed_after has_ended.owed read.owed in
-    let told = still-told (and_more has_ended.owed.faults read.owed.faults) has_ended.told.errors new.sink.errors (told-all read.owed.faults has_ended.owed.faults k.sink.errors has_ended.told.errors read.told has_ended.rises.enough) has_ended.kept in
+    let told = still-told (and_more has_ended.owed.faults read.owed.faults) has_ended.told.errors new.sink.errors
+    (told-all read.owed.faults has_ended.owed.faults k.sink.errors has_ended.told.errors read.told
+    has_ended.rises.enough) has_ended.kept in
     let whole : page_reading table page ≡ Ok (counted_by new.sink, noted owed) =
     read.same ∙ ap (λ r. to_come k read.owed (chars r)) none ∙ ap (to_come k read.owed) chars-nil ∙ has_ended.same (noted read.owed) in
     let is_owed : errors_of (page_reading table page) ≡ owed.faults = ap errors_of whole in
     let is_heard : was_quiet (page_reading table page) ≡ owed.is_quiet = ap was_quiet whole in
     record {
-      read = whole ∙ (ap (λ n. Ok (counted_by new.sink, record { pauses = []; errors = n; is_quiet = owed.is_quiet })) (sym is_owed) ∙ ap (λ q. Ok (counted_by new.sink, record { pauses = []; errors = page_owes table page; is_quiet = q })) (sym is_heard));
+      read = whole ∙ (ap (λ n. Ok
+          (counted_by new.sink, record { pauses = []; errors = n; is_quiet = owed.is_quiet })) (sym is_owed)
+          ∙ ap (λ q. Ok (counted_by new.sink, record { pauses = []; errors = page_owes table page; is_quiet = q })) (sym is_heard));
       told = subst (λ n. min n 0xffff_ffff_ffff_ffff ≤ new.sink.errors) (sym is_owed) told;
     }
 
 -- the same of whatever page it is
-pub read-further : (page text behind : List ℕ) (first old new : Tokenizer Counts) → ReadsPage first old page (text ++ behind) → Reads old new text → ReadsPage first new page behind
+pub read-further : (page text behind : List ℕ) (first old new : Tokenizer Counts) → ReadsPage first old page
+    (text ++ behind) → Reads old new text → ReadsPage first new page behind
 read-further page text behind first old new read reads table h = read-on table page text behind old new (read table h) reads
 
 pub page-counted : (first k new : Tokenizer Counts) (page : List ℕ) (rest : List ℕ) → ReadsPage first k page (chars rest) → rest ≡ []

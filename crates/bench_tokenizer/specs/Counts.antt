@@ -24,7 +24,14 @@ pub record Counted : Type 0 where
   pub has_ended : Bool
 
 abbrev pub counted_by : Counts → Counted
-counted_by c = record { is_hostile = c.is_hostile; characters = c.characters; tags = c.tags; attributes = c.attributes; comments = c.comments; has_ended = c.has_ended }
+counted_by c = record {
+  is_hostile = c.is_hostile;
+  characters = c.characters;
+  tags = c.tags;
+  attributes = c.attributes;
+  comments = c.comments;
+  has_ended = c.has_ended;
+}
 
 -- nothing was told yet
 abbrev pub nothing : Bool → Counted
@@ -125,7 +132,8 @@ keeps s h (CommentToken text) = h
 keeps s h _ = h
 
 pieces : (s : Counted) (a b : List ℕ) → counted (counted s (CharacterTokens a)) (CharacterTokens b) ≡ counted s (CharacterTokens (a ++ b))
-pieces s a b = ap (λ n. record s { characters = n }) (plus-plus s.characters (length a) (length b) ∙ ap (plus s.characters) (sym (length-append a b)))
+pieces s a b = ap (λ n. record s { characters = n }) (plus-plus s.characters (length a) (length b)
+    ∙ ap (plus s.characters) (sym (length-append a b)))
 
 idle : (s : Counted) → IsWithin s → (t : Token) → IsIdle t → counted s t ≡ s
 idle s h (CharacterTokens []) i = ap (λ n. record s { characters = n }) (plus-zero s.characters h)
@@ -143,7 +151,8 @@ IsTagReply-script true EndTag = tt
 IsTagReply-script false EndTag = tt
 
 replies : (is_hostile : Bool) (t : Token) → IsReplyTo t (reply_to is_hostile t)
-replies is_hostile (TagToken tag) = IsTagReply-if (bytes_eq tag.name (codes "script")) (reply_to_script is_hostile tag.kind) Continue (IsTagReply-script is_hostile tag.kind) tt
+replies is_hostile (TagToken tag) = IsTagReply-if (bytes_eq tag.name (codes "script"))
+    (reply_to_script is_hostile tag.kind) Continue (IsTagReply-script is_hostile tag.kind) tt
 replies is_hostile _ = refl
 
 pub counts_laws : SinkLaws IsWithin step ended is_quiet

@@ -15,7 +15,8 @@ use Rattle.bench_tokenizer.specs.declared.counts.Counts.{Counts}
 
 -- what the definitions make of a whole page, with this table of references
 abbrev pub page_reading : List Row → List ℕ → Result (Counted × Notes ℕ) (Refusal × ℕ)
-page_reading table page = noted_reading step is_quiet asks_cdata ended table (first_stand None None) 0 (nothing false, no_notes) (normal_text true page)
+page_reading table page = noted_reading step is_quiet asks_cdata ended table (first_stand None None) 0
+    (nothing false, no_notes) (normal_text true page)
 
 -- how many errors a page owes
 abbrev pub page_owes : List Row → List ℕ → ℕ
@@ -23,7 +24,14 @@ page_owes table page = errors_of (page_reading table page)
 
 -- What is counted of a page is what the definitions make of it: no pause, and an error at least for each faulty item, up to u64::MAX.
 pub record IsCounted (table : List Row) (page : List ℕ) (counts : Counts) : Type 0 where
-  pub read : page_reading table page ≡ Ok (counted_by counts, record { pauses = []; errors = page_owes table page; is_quiet = was_quiet (page_reading table page) })
+  pub read : page_reading table page ≡ Ok (
+    counted_by counts,
+    record {
+      pauses = [];
+      errors = page_owes table page;
+      is_quiet = was_quiet (page_reading table page);
+    },
+  )
   pub told : min (page_owes table page) 0xffff_ffff_ffff_ffff ≤ counts.errors
 
 -- what is owed, noted with no pause
@@ -43,8 +51,8 @@ pub record Takes (k : Tokenizer Counts) : Type 0 where
   pub ready : IsReady counting k
   pub begun : refusal k.stream ≡ None
 
--- A tokenizer read a text, of which these characters came, which owed this: whatever follows, what was to come over the text and that is what is now to come
--- over that.
+-- A tokenizer read a text, of which these characters came, which owed this: whatever follows, what was to come over the text and that is
+-- what is now to come over that.
 pub record Reads (old new : Tokenizer Counts) (text : List ℕ) : Type 0 where
   pub owed : Owed
   pub came : List ℕ

@@ -4,7 +4,8 @@ ghost use Rattle.std.specs.Str.{chars};
 ghost use Rattle.html_tokens.specs.Notes.{one_if};
 ghost use Rattle.html_tokens.specs.Sink.{numbered};
 ghost use Rattle.bench_tokenizer.specs.FirstBytes.{is_first};
-ghost use Rattle.bench_tokenizer.specs.Counts.{Counted, IsWithin, counted_by, counted, error_counted, step, ended, nothing, asks_cdata, number, has_failed, errors_ended, is_quiet, counts_laws, reply_to};
+ghost use Rattle.bench_tokenizer.specs.Counts.{Counted, IsWithin, counted_by, counted, error_counted, step, ended, nothing};
+ghost use Rattle.bench_tokenizer.specs.Counts.{asks_cdata, number, has_failed, errors_ended, is_quiet, counts_laws, reply_to};
 
 use html_tokenizer::states::RawKind;
 use html_tokenizer::{TagKind, Token, TokenSink, TokenSinkResult};

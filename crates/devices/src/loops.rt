@@ -11,7 +11,8 @@ use super::{DeviceFault, Target};
 /// tried again. Where one failed, a beginning of the bytes was written.
 pub fn write_whole<T: Target>(target: &mut T, bytes: &[u8]) -> Result<(), DeviceFault>
     ensures ok { OnOk result (T.written target.new ≡ append_known (T.written target.old) bytes.now) }
-    ensures err { OnErr result ((n : ℕ) × (n ≤ length bytes.now) × (T.written target.new ≡ append_known (T.written target.old) (take n bytes.now))) }
+    ensures err { OnErr result
+        ((n : ℕ) × (n ≤ length bytes.now) × (T.written target.new ≡ append_known (T.written target.old) (take n bytes.now))) }
     ensures counted { T.failures target.new ≡ count_after (is_err result) (T.failures target.old) }
     ensures same_references { T.references target.new ≡ T.references target.old }
 {

@@ -52,7 +52,14 @@ impl MemWriter {
         zero: bool,
     ) -> Result<MemWriter, AllocError>
         requires { 0 < piece }
-        ensures { IfOk result (λ w. w ≡ record { written = []; room = room; piece = piece; fails_in = fail_at; zero = zero; failures = 0 }) }
+        ensures { IfOk result (λ w. w ≡ record {
+          written = [];
+          room = room;
+          piece = piece;
+          fails_in = fail_at;
+          zero = zero;
+          failures = 0;
+        }) }
     {
         Ok(MemWriter {
             bytes: Vec::with_capacity(alloc, room)?,

@@ -4,7 +4,8 @@ use Rattle.figpliers.specs.Counting.{tags_after}
 use Rattle.figpliers.specs.Sink.{IsIdle, IsReplyTo, SinkLaws, Step}
 use Rattle.figpliers.specs.TokenSinkResult.TheVariants.{Continue}
 use Rattle.figpliers.specs.Token.{Token}
-use Rattle.figpliers.specs.Token.TheVariants.{CharacterTokens, CommentToken, DoctypeToken, EOFToken, NullCharacterToken, ParseError, TagToken}
+use Rattle.figpliers.specs.Token.TheVariants.{CharacterTokens, CommentToken, DoctypeToken, EOFToken, NullCharacterToken}
+use Rattle.figpliers.specs.Token.TheVariants.{ParseError, TagToken}
 
 -- a token is counted if it is a tag, and reading goes on
 abbrev pub step : Step ℕ

@@ -17,14 +17,16 @@ module _ {S : Type 0} (step : Step S) (refuses : Refuses S) where
     counts : reached.counts ≡ all_counted f.policy f.stack f.counts calls
 
   abbrev RanAll : Filtering S → List Call → Filtering S → Type 0
-  RanAll f calls reached = Ran f calls (filtered f.policy f.stack f.front calls) (λ left. filtered f.policy f.stack f.front (calls ++ left)) reached
+  RanAll f calls reached = Ran f calls (filtered f.policy f.stack f.front calls)
+      (λ left. filtered f.policy f.stack f.front (calls ++ left)) reached
 
   -- what is passed on for calls after a call
   abbrev later_calls : Filtering S → Call → List Call → List Call
   later_calls f call calls = filtered f.policy (open_after f.policy f.stack call) (front_after f.front (passed_by f call)) calls
 
   -- by what is passed on for the first call, and what the serializer makes of it
-  ran-passed : (f : Filtering S) (call : Call) (calls : List Call) (reached : Filtering S) (on : Call) (r : Result S SerializeFault) → step f.inner on ≡ r
+  ran-passed : (f : Filtering S) (call : Call) (calls : List Call) (reached : Filtering S) (on : Call)
+      (r : Result S SerializeFault) → step f.inner on ≡ r
       → ((next : Filtering S) → run (step_over step) next calls ≡ Ok reached → RanAll next calls reached)
       → and_then (after_pass f call r) (λ next. run (step_over step) next calls) ≡ Ok reached
       → Ran f (call ∷ calls) (on ∷ later_calls f call calls) (λ left. on ∷ later_calls f call (calls ++ left)) reached
@@ -36,8 +38,10 @@ module _ {S : Type 0} (step : Step S) (refuses : Refuses S) where
   ran-by : (f : Filtering S) (call : Call) (calls : List Call) (reached : Filtering S) (on : Option Call)
       → ((next : Filtering S) → run (step_over step) next calls ≡ Ok reached → RanAll next calls reached)
       → and_then (after_pass f call (pass step f.inner on)) (λ next. run (step_over step) next calls) ≡ Ok reached
-      → Ran f (call ∷ calls) (call_before on (later_calls f call calls)) (λ left. call_before on (later_calls f call (calls ++ left))) reached
-  ran-by f call calls reached None later h = let ran = later (after_call f call f.inner) h in record { inner = ran.inner; split = ran.split; counts = ran.counts }
+      → Ran f (call ∷ calls) (call_before on (later_calls f call calls))
+      (λ left. call_before on (later_calls f call (calls ++ left))) reached
+  ran-by f call calls reached None later h = let ran = later (after_call f call f.inner) h in
+      record { inner = ran.inner; split = ran.split; counts = ran.counts }
   ran-by f call calls reached (Some on) later h = ran-passed f call calls reached on (step f.inner on) refl later h
 
   same-state : (f reached : Filtering S) → run (step_over step) f [] ≡ Ok reached → f ≡ reached
@@ -57,18 +61,23 @@ module _ {S : Type 0} (step : Step S) (refuses : Refuses S) where
   wanted s new [] fault is e = (is, e)
   wanted s new (call ∷ calls) fault is e = inl (is, e)
 
-  refused-by : (s new : S) (on : Option Call) (calls : List Call) (fault : SerializeFault) → IsStopped refuses s on fault new → StopsBefore refuses s (call_before on calls) fault new
+  refused-by : (s new : S) (on : Option Call) (calls : List Call) (fault : SerializeFault)
+      → IsStopped refuses s on fault new → StopsBefore refuses s (call_before on calls) fault new
   refused-by s new on calls fault (inl h) = wanted s new (call_before on calls) fault h.0 h.1
   refused-by s new None calls fault (inr h) = absurd h
   refused-by s new (Some on) calls fault (inr h) = inr h
 
-  stopped-before : (reached new : Filtering S) (left : List Call) (fault : SerializeFault) → StopsBefore (refuses_over refuses) reached left fault new
+  stopped-before : (reached new : Filtering S) (left : List Call) (fault : SerializeFault)
+      → StopsBefore (refuses_over refuses) reached left fault new
       → StopsBefore refuses reached.inner (filtered reached.policy reached.stack reached.front left) fault new.inner
   stopped-before reached new [] fault h = (h.0, ap (λ (f : Filtering S). f.inner) h.1)
-  stopped-before reached new (call ∷ calls) fault (inl h) = wanted reached.inner new.inner (filtered reached.policy reached.stack reached.front (call ∷ calls)) fault h.0 (ap (λ (f : Filtering S). f.inner) h.1)
-  stopped-before reached new (call ∷ calls) fault (inr h) = refused-by reached.inner new.inner (passed_by reached call) (later_calls reached call calls) fault h
+  stopped-before reached new (call ∷ calls) fault (inl h) = wanted reached.inner new.inner
+      (filtered reached.policy reached.stack reached.front (call ∷ calls)) fault h.0 (ap (λ (f : Filtering S). f.inner) h.1)
+  stopped-before reached new (call ∷ calls) fault (inr h) = refused-by reached.inner new.inner
+      (passed_by reached call) (later_calls reached call calls) fault h
 
-  pub walks-filtered : {R : Type 0} (f new : Filtering S) (calls : List Call) (result : Result R SerializeFault) → Walks (step_over step) (refuses_over refuses) f calls result new
+  pub walks-filtered : {R : Type 0} (f new : Filtering S) (calls : List Call) (result : Result R SerializeFault)
+      → Walks (step_over step) (refuses_over refuses) f calls result new
       → Walks step refuses f.inner (filtered f.policy f.stack f.front calls) result new.inner
   walks-filtered f new calls (Ok x) h = (ran calls new f h).inner
   walks-filtered f new calls (Err fault) h =
@@ -83,12 +92,15 @@ module _ {S : Type 0} (step : Step S) (refuses : Refuses S) where
       }
 
   -- the same with what was counted
-  pub walks-with : {R : Type 0} (s new : S) (calls : List Call) (counts : Cleaned) (result : Result R SerializeFault) → Walks step refuses s calls result new → Walks step refuses s calls (with_counts counts result) new
+  pub walks-with : {R : Type 0} (s new : S) (calls : List Call) (counts : Cleaned)
+      (result : Result R SerializeFault) → Walks step refuses s calls result new → Walks step refuses s calls
+      (with_counts counts result) new
   walks-with s new calls counts (Ok x) h = h
   walks-with s new calls counts (Err fault) h = h
 
   -- where a walk ends, what was not passed on was counted
-  pub walks-counted : {R : Type 0} (f new : Filtering S) (calls : List Call) (counts : Cleaned) (result : Result R SerializeFault) → counts ≡ new.counts → Walks (step_over step) (refuses_over refuses) f calls result new
+  pub walks-counted : {R : Type 0} (f new : Filtering S) (calls : List Call) (counts : Cleaned)
+      (result : Result R SerializeFault) → counts ≡ new.counts → Walks (step_over step) (refuses_over refuses) f calls result new
       → IfOk (with_counts counts result) (λ counts. counts ≡ all_counted f.policy f.stack f.counts calls)
   walks-counted f new calls counts (Ok x) e h = e ∙ (ran calls new f h).counts
   walks-counted f new calls counts (Err fault) e h = tt

@@ -12,7 +12,8 @@ use Rattle.html_clean.specs.Pieces.{written_pieces}
 use Rattle.html_clean.specs.Policies.{is_mark, starts_with_mark, without_marks}
 use Rattle.html_clean.specs.declared.policy.Policy.{Policy}
 
-escaped-starts : (amp lt gt nbsp : Bool) (c : ℕ) (rest : List ℕ) → is_mark c ≡ false → starts_with_mark (escaped_by amp lt gt nbsp c ++ rest) ≡ false
+escaped-starts : (amp lt gt nbsp : Bool) (c : ℕ) (rest : List ℕ) → is_mark c ≡ false
+    → starts_with_mark (escaped_by amp lt gt nbsp c ++ rest) ≡ false
 escaped-starts true lt gt nbsp c rest h = refl
 escaped-starts false true gt nbsp c rest h = refl
 escaped-starts false false true nbsp c rest h = refl
@@ -25,7 +26,8 @@ escape-starts c cs rest h =
     ∙ escaped-starts (nat_eq c 0x26) (nat_eq c 0x3C) (nat_eq c 0x3E) (nat_eq c 0xA0) c (escape cs ++ rest) h
 
 -- a text without marks in front has none in front
-no-mark-by : (c : ℕ) (cs : List ℕ) (b : Bool) → is_mark c ≡ b → starts_with_mark (without_marks cs) ≡ false → starts_with_mark (cond b (without_marks cs) (c ∷ cs)) ≡ false
+no-mark-by : (c : ℕ) (cs : List ℕ) (b : Bool) → is_mark c ≡ b → starts_with_mark (without_marks cs) ≡ false
+    → starts_with_mark (cond b (without_marks cs) (c ∷ cs)) ≡ false
 no-mark-by c cs true h k = k
 no-mark-by c cs false h k = h
 
@@ -37,7 +39,8 @@ no-mark (c ∷ cs) = no-mark-by c cs (is_mark c) refl (no-mark cs)
 abbrev text_of : Trees → List ℕ
 text_of trees = written_pieces (pieces_of trees)
 
-starts-by : (m : List ℕ) (front after : Trees) → starts_with_mark m ≡ false → starts_with_mark (text_of front) ≡ false → starts_with_mark (text_of (unmarked_by m front after)) ≡ false
+starts-by : (m : List ℕ) (front after : Trees) → starts_with_mark m ≡ false
+    → starts_with_mark (text_of front) ≡ false → starts_with_mark (text_of (unmarked_by m front after)) ≡ false
 starts-by [] front after h k = k
 starts-by (c ∷ cs) front after h k = escape-starts c cs (text_of after) h
 
@@ -56,6 +59,9 @@ unmarked-same discard_bom [] h = refl
 unmarked-same true (c ∷ t) h = rw h refl
 unmarked-same false (c ∷ t) h = refl
 
-pub own-text : (policy : Policy) (trees : Trees) → are_kept policy trees ≡ true → has_no_return (text_of (unmarked trees)) ≡ true → (discard_bom : Bool) → normal_text discard_bom (text_of (unmarked trees)) ≡ text_of (unmarked trees)
+pub own-text : (policy : Policy) (trees : Trees) → are_kept policy trees ≡ true
+    → has_no_return (text_of (unmarked trees)) ≡ true → (discard_bom : Bool) → normal_text discard_bom
+    (text_of (unmarked trees)) ≡ text_of (unmarked trees)
 own-text policy trees kept none discard_bom =
-    ap (newlines_after false) (unmarked-same discard_bom (text_of (unmarked trees)) (starts policy trees kept)) ∙ newlines-own (text_of (unmarked trees)) none
+    ap (newlines_after false) (unmarked-same discard_bom (text_of (unmarked trees)) (starts policy trees kept))
+    ∙ newlines-own (text_of (unmarked trees)) none

@@ -14,7 +14,8 @@ joined [] b h k = k
 joined (c ∷ a) b h k = let p = and_parts (not (nat_eq c 13)) (has_no_return a) h in rw p.0 (joined a b p.1 k)
 
 piece-normal : (named : List ℕ → Bool) (piece : Piece) → is_read_piece named piece ≡ true → has_no_return (written_piece piece) ≡ true
-piece-normal named (Start name attributes) h = let p = start-parts named name attributes h in start-no_return name attributes p.tag p.read.each p.normal
+piece-normal named (Start name attributes) h = let p = start-parts named name attributes h in
+    start-no_return name attributes p.tag p.read.each p.normal
 piece-normal named (Text text) h = text-no_return text (and_parts (not (is_no_text text) && has_no_null text) (has_no_return text) h).1
 piece-normal named (End name) h = end-no_return name (and_parts (is_tag_name name) (named name) h).0
 

@@ -9,9 +9,11 @@ use Rattle.markup.specs.declared.attributes.Attribute.{Attribute}
 use Rattle.markup.specs.declared.names.QualName.{QualName}
 use Rattle.html_round_trip.specs.Slices.Forms.{is_no_text}
 use Rattle.html_round_trip.proofs.Slices.Names.{has-none}
-use Rattle.html_clean.specs.Cleaned.{are_kept, cleaned, cleaned_before, unmarked, unmarked_by, element_before, is_lawful_attribute, is_lawful_text, kids_of, text_before}
+use Rattle.html_clean.specs.Cleaned.{are_kept, cleaned, cleaned_before, unmarked, unmarked_by, element_before}
+use Rattle.html_clean.specs.Cleaned.{is_lawful_attribute, is_lawful_text, kids_of, text_before}
 use Rattle.html_clean.specs.Names.{is_void}
-use Rattle.html_clean.specs.Policies.{added_if, fate_by, is_kept_attribute, is_kept_name, is_mark, is_plain_character, kept_attributes, kept_after, plain_attribute, without_marks}
+use Rattle.html_clean.specs.Policies.{added_if, fate_by, is_kept_attribute, is_kept_name, is_mark, is_plain_character}
+use Rattle.html_clean.specs.Policies.{kept_attributes, kept_after, plain_attribute, without_marks}
 use Rattle.html_clean.specs.declared.elements.Fate.{Fate}
 use Rattle.html_clean.specs.declared.elements.Fate.TheVariants.{Kept}
 use Rattle.html_clean.specs.declared.policy.Policy.{Policy}
@@ -35,7 +37,8 @@ with-by : (b : Bool) (kept : List Attribute) (a x : Attribute) → b ≡ true �
 with-by true kept a x h e = ap (λ (x : Attribute). kept ++ x ∷ []) e
 with-by false kept a x h e = absurd cc
 
-attributes-same : (policy : Policy) (element : List ℕ) (attributes kept : List Attribute) → list_all (is_lawful_attribute policy element) attributes ≡ true → are_distinct (kept ++ attributes) ≡ true
+attributes-same : (policy : Policy) (element : List ℕ) (attributes kept : List Attribute)
+    → list_all (is_lawful_attribute policy element) attributes ≡ true → are_distinct (kept ++ attributes) ≡ true
     → kept_after policy element kept attributes ≡ kept ++ attributes
 attributes-same policy element [] kept h d = sym (append-nil kept)
 attributes-same policy element (a ∷ rest) kept h d =
@@ -56,14 +59,20 @@ kids-same : (v : Bool) (kids : Trees) → (v ≡ true → kids ≡ Nothing) → 
 kids-same true kids h = sym (h refl)
 kids-same false kids h = refl
 
-element-same : (policy : Policy) (name : QualName) (attributes : List Attribute) (template : Bool) (kids rest : Trees) → IsKeptElement policy name attributes template kids rest
-    → left policy kids ≡ kids → left policy rest ≡ rest → left policy (Element name attributes template kids rest) ≡ Element name attributes template kids rest
+element-same : (policy : Policy) (name : QualName) (attributes : List Attribute) (template : Bool)
+    (kids rest : Trees) → IsKeptElement policy name attributes template kids rest
+    → left policy kids ≡ kids → left policy rest ≡ rest → left policy (Element name attributes template kids rest) ≡
+    Element name attributes template kids rest
 element-same policy name attributes template kids rest p inside behind =
     let lawful = and_parts (list_all (is_lawful_attribute policy name.local) attributes) (are_distinct attributes) p.lawful in
-    let kept = fate-kept (is_html name && is_kept_name policy name.local) (is_among name.local policy.dropped.items) (and-both _ _ p.html p.named) in
-    let kids_same : kids_of (is_void name.local) (left policy kids) ≡ kids = ap (kids_of (is_void name.local)) inside ∙ kids-same (is_void name.local) kids (λ e. nothing-in (is_void name.local) kids e p.void) in
-    ap (λ (f : Fate). element_before f name (kept_attributes policy name.local attributes) (cleaned_before policy kids) (left policy rest)) kept
-    ∙ (ap (λ (list : List Attribute). Element name list false (kids_of (is_void name.local) (left policy kids)) (left policy rest)) (attributes-same policy name.local attributes [] lawful.0 lawful.1)
+    let kept = fate-kept (is_html name && is_kept_name policy name.local) (is_among name.local policy.dropped.items)
+    (and-both _ _ p.html p.named) in
+    let kids_same : kids_of (is_void name.local) (left policy kids) ≡ kids = ap (kids_of (is_void name.local))
+    inside ∙ kids-same (is_void name.local) kids (λ e. nothing-in (is_void name.local) kids e p.void) in
+    ap (λ (f : Fate). element_before f name (kept_attributes policy name.local attributes)
+    (cleaned_before policy kids) (left policy rest)) kept
+    ∙ (ap (λ (list : List Attribute). Element name list false (kids_of (is_void name.local) (left policy kids))
+    (left policy rest)) (attributes-same policy name.local attributes [] lawful.0 lawful.1)
     ∙ (ap (λ (kids : Trees). Element name attributes false kids (left policy rest)) kids_same
     ∙ (ap (λ (rest : Trees). Element name attributes false kids rest) behind
     ∙ ap (λ (t : Bool). Element name attributes t kids rest) (sym p.own))))
@@ -73,7 +82,8 @@ kept-same policy Nothing h = refl
 kept-same policy (Text text rest) h =
     let p = and_parts (is_lawful_text text) (are_kept policy rest) h in
     let q = and_parts (not (is_no_text text)) (list_all is_plain_character text) p.0 in
-    ap (λ text. text_before text (left policy rest)) (plain-same text q.1) ∙ (before-same text (left policy rest) q.0 ∙ ap (Text text) (kept-same policy rest p.1))
+    ap (λ text. text_before text (left policy rest)) (plain-same text q.1)
+    ∙ (before-same text (left policy rest) q.0 ∙ ap (Text text) (kept-same policy rest p.1))
 kept-same policy (Comment text rest) h = absurd cc
 kept-same policy (ProcessingInstruction target text rest) h = absurd cc
 kept-same policy (Doctype name public_id system_id rest) h = absurd cc
@@ -83,7 +93,8 @@ kept-same policy (Element name attributes template kids rest) h =
 
 -- IN FRONT
 
-marks-by : (c : ℕ) (cs : List ℕ) (b : Bool) → is_mark c ≡ b → without_marks (without_marks cs) ≡ without_marks cs → without_marks (cond b (without_marks cs) (c ∷ cs)) ≡ cond b (without_marks cs) (c ∷ cs)
+marks-by : (c : ℕ) (cs : List ℕ) (b : Bool) → is_mark c ≡ b → without_marks (without_marks cs) ≡ without_marks cs
+    → without_marks (cond b (without_marks cs) (c ∷ cs)) ≡ cond b (without_marks cs) (c ∷ cs)
 marks-by c cs true h k = k
 marks-by c cs false h k = rw h refl
 
@@ -91,7 +102,8 @@ marks-again : (cs : List ℕ) → without_marks (without_marks cs) ≡ without_m
 marks-again [] = refl
 marks-again (c ∷ cs) = marks-by c cs (is_mark c) refl (marks-again cs)
 
-again-by : (m : List ℕ) (rest : Trees) → without_marks m ≡ m → unmarked (unmarked rest) ≡ unmarked rest → unmarked (unmarked_by m (unmarked rest) rest) ≡ unmarked_by m (unmarked rest) rest
+again-by : (m : List ℕ) (rest : Trees) → without_marks m ≡ m → unmarked (unmarked rest) ≡ unmarked rest
+    → unmarked (unmarked_by m (unmarked rest) rest) ≡ unmarked_by m (unmarked rest) rest
 again-by [] rest h k = k
 again-by (c ∷ cs) rest h k = ap (λ m. unmarked_by m (unmarked rest) rest) h
 

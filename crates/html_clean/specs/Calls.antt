@@ -48,7 +48,8 @@ text_passed false (c ∷ cs) = Some (WriteText (c ∷ cs))
 
 -- what is passed on for a call, in front of which nothing was passed on, or something
 abbrev pub passed : Policy → List Opened → Bool → Call → Option Call
-passed policy stack front (StartElem name attributes) = if_passed (opened policy stack name).passes (StartElem name (kept_attributes policy name.local attributes))
+passed policy stack front (StartElem name attributes) = if_passed (opened policy stack name).passes
+    (StartElem name (kept_attributes policy name.local attributes))
 passed policy stack front (EndElem name) = if_passed (passes stack) (EndElem name)
 passed policy stack front (WriteText text) = text_passed (hides stack) (text_at front text)
 passed policy stack front _ = None

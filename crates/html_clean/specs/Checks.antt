@@ -22,4 +22,5 @@ unsafe_in_rules (rule ∷ rules) = or_else (unsafe_attribute rule.attributes.ite
 
 -- the first name that is never kept: of elements, then of attributes of rules, then of attributes of all
 abbrev pub never_kept : Policy → Option (List ℕ)
-never_kept policy = or_else (unsafe_element policy.kept.items) (or_else (unsafe_in_rules policy.kept.items) (unsafe_attribute policy.everywhere.items))
+never_kept policy = or_else (unsafe_element policy.kept.items)
+    (or_else (unsafe_in_rules policy.kept.items) (unsafe_attribute policy.everywhere.items))

@@ -41,7 +41,8 @@ cleaned_before policy (Comment text rest) after = cleaned_before policy rest aft
 cleaned_before policy (ProcessingInstruction target text rest) after = cleaned_before policy rest after
 cleaned_before policy (Doctype name public_id system_id rest) after = cleaned_before policy rest after
 cleaned_before policy (Element name attributes template kids rest) after =
-    element_before (fate policy name) name (kept_attributes policy name.local attributes) (cleaned_before policy kids) (cleaned_before policy rest after)
+    element_before (fate policy name) name (kept_attributes policy name.local attributes)
+    (cleaned_before policy kids) (cleaned_before policy rest after)
 
 -- a text before trees, or if it is empty what is left of these in front
 abbrev pub unmarked_by : List ℕ → Trees → Trees → Trees

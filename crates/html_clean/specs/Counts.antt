@@ -34,7 +34,8 @@ lost_attributes policy element attributes = length attributes - length (kept_att
 
 -- after a call
 abbrev pub counted : Policy → List Opened → Cleaned → Call → Cleaned
-counted policy stack counts (StartElem name attributes) = start_counted (hides stack) (fate policy name) (lost_attributes policy name.local attributes) counts
+counted policy stack counts (StartElem name attributes) = start_counted (hides stack) (fate policy name)
+    (lost_attributes policy name.local attributes) counts
 counted policy stack counts (WriteComment text) = comment_counted (hides stack) counts
 counted policy stack counts (WriteProcessingInstruction target text) = comment_counted (hides stack) counts
 counted policy stack counts _ = counts

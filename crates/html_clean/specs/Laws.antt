@@ -22,11 +22,13 @@ AreCleanedKept = (policy : Policy) (trees : Trees) → are_kept policy (cleaned 
 
 -- the tags and texts of trees that are kept are kept, and the tags are balanced
 abbrev pub AreKeptPieces : Type 0
-AreKeptPieces = (policy : Policy) (trees : Trees) → are_kept policy trees ≡ true → (are_kept_pieces policy (pieces_of trees) ≡ true) × (is_balanced (pieces_of trees) [] ≡ true)
+AreKeptPieces = (policy : Policy) (trees : Trees) → are_kept policy trees ≡ true
+    → (are_kept_pieces policy (pieces_of trees) ≡ true) × (is_balanced (pieces_of trees) [] ≡ true)
 
--- What is written of cleaned trees is its own normal text, also where a mark at the front is dropped. Read in data from a sound state it is told as just the tags and texts of
--- these trees; then what follows is read, in data again.
-abbrev pub IsCleanedRead : {S H F : Type 0} → (S → Type 0) → (S → Token → ℕ → Result (S × TokenSinkResult H) F) → (S → Bool) → (S → S) → Type 0
+-- What is written of cleaned trees is its own normal text, also where a mark at the front is dropped. Read in data from a sound state it
+-- is told as just the tags and texts of these trees; then what follows is read, in data again.
+abbrev pub IsCleanedRead : {S H F : Type 0} → (S → Type 0) → (S → Token → ℕ → Result (S × TokenSinkResult H) F)
+    → (S → Bool) → (S → S) → Type 0
 IsCleanedRead {S} is_sound step cdata ends =
     (policy : Policy) → GoesOn is_sound step (is_kept_name policy) → (erred : Fault → S → S) (rows : List Row) → ReadsEscapes rows
     → (scripting : Bool) (trees : Trees) (last : Option (List ℕ)) (breaks : ℕ) (s : S) → is_sound s → (t : List ℕ)
@@ -34,7 +36,8 @@ IsCleanedRead {S} is_sound step cdata ends =
     let pieces = pieces_of (cleaned policy trees) in
     ((discard_bom : Bool) → normal_text discard_bom text ≡ text)
     × (reading step erred cdata ends rows (in_data last) breaks s (text ++ t)
-    ≡ (telling step breaks s pieces >>= λ told. reading step erred cdata ends rows (in_data (last_after last pieces)) (breaks + line_breaks text) told t))
+    ≡ (telling step breaks s pieces >>= λ told. reading step erred cdata ends rows
+    (in_data (last_after last pieces)) (breaks + line_breaks text) told t))
 
 -- filtering the calls of trees leaves the calls of the cleaned trees
 abbrev pub AreCleanedCalls : Type 0

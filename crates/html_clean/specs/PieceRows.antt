@@ -6,7 +6,8 @@ use Rattle.html_clean.specs.Pieces.{Start, Text, End, written_pieces}
 abbrev pub piece_rows : Rows
 piece_rows =
     row_of (written_pieces (Start (codes "img") (at "alt" "\"><script>" ∷ []) ∷ [])) (start "img" (at "alt" "\"><script>" ∷ []) ∷ [])
-    ∷ row_of (written_pieces (Start (codes "blockquote") [] ∷ Text (codes "<script>&lt;") ∷ End (codes "blockquote") ∷ [])) (start "blockquote" [] ∷ text "<script>&lt;" ∷ end "blockquote" [] ∷ [])
+    ∷ row_of (written_pieces (Start (codes "blockquote") [] ∷ Text (codes "<script>&lt;") ∷
+    End (codes "blockquote") ∷ [])) (start "blockquote" [] ∷ text "<script>&lt;" ∷ end "blockquote" [] ∷ [])
     ∷ []
 
 abbrev pub ArePieceRowsRead : Type 0

@@ -53,7 +53,8 @@ telling step breaks s (piece ∷ rest) =
 -- without U+0000 and U+000D; a text that is not empty and has neither
 abbrev pub is_read_piece : (List ℕ → Bool) → Piece → Bool
 is_read_piece named (Start name attributes) =
-    ((is_tag_name name && named name) && (list_all is_read_attribute attributes && are_distinct attributes)) && list_all (λ a. has_no_return a.value) attributes
+    ((is_tag_name name && named name) && (list_all is_read_attribute attributes && are_distinct attributes))
+    && list_all (λ a. has_no_return a.value) attributes
 is_read_piece named (Text text) = (not (is_no_text text) && has_no_null text) && has_no_return text
 is_read_piece named (End name) = is_tag_name name && named name
 

@@ -102,7 +102,8 @@ added_if false kept a = kept
 
 -- attributes with one more, with its plain value, if it is kept and none of its name was
 abbrev pub kept_with : Policy → List ℕ → List Attribute → Attribute → List Attribute
-kept_with policy element kept a = added_if (is_kept_attribute policy element (plain_attribute a) && not (has_local_name a.name.local kept)) kept (plain_attribute a)
+kept_with policy element kept a = added_if (is_kept_attribute policy element (plain_attribute a)
+    && not (has_local_name a.name.local kept)) kept (plain_attribute a)
 
 -- those that are kept after others: of those of one name the first
 abbrev pub kept_after : Policy → List ℕ → List Attribute → List Attribute → List Attribute

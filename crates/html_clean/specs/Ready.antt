@@ -29,8 +29,11 @@ ready_rules =
     (codes "table", codes "align" ∷ codes "char" ∷ codes "charoff" ∷ codes "summary" ∷ []) ∷
     (codes "tbody", codes "align" ∷ codes "char" ∷ codes "charoff" ∷ []) ∷
     (codes "td", codes "align" ∷ codes "char" ∷ codes "charoff" ∷ codes "colspan" ∷ codes "headers" ∷ codes "rowspan" ∷ []) ∷
-    (codes "tfoot", codes "align" ∷ codes "char" ∷ codes "charoff" ∷ []) ∷
-    (codes "th", codes "align" ∷ codes "char" ∷ codes "charoff" ∷ codes "colspan" ∷ codes "headers" ∷ codes "rowspan" ∷ codes "scope" ∷ []) ∷
+    (codes "tfoot", codes "align" ∷ codes "char" ∷ codes "charoff" ∷ []) ∷ (
+      codes "th",
+      codes "align" ∷ codes "char" ∷ codes "charoff" ∷ codes "colspan" ∷ codes "headers" ∷
+          codes "rowspan" ∷ codes "scope" ∷ [],
+    ) ∷
     (codes "thead", codes "align" ∷ codes "char" ∷ codes "charoff" ∷ []) ∷
     (codes "tr", codes "align" ∷ codes "char" ∷ codes "charoff" ∷ []) ∷ []
 

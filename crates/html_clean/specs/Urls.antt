@@ -35,7 +35,8 @@ option_cons c (Some cs) = Some (c ∷ cs)
 -- what stands before ":", in lower case, if it is all of such characters
 abbrev pub scheme_rest : List ℕ → Option (List ℕ)
 scheme_rest [] = None
-scheme_rest (c ∷ cs) = cond (nat_eq c 58) (Some []) (cond (is_scheme_character c) (option_cons (to_ascii_lowercase c) (scheme_rest cs)) None)
+scheme_rest (c ∷ cs) = cond (nat_eq c 58) (Some [])
+    (cond (is_scheme_character c) (option_cons (to_ascii_lowercase c) (scheme_rest cs)) None)
 
 abbrev pub scheme_of : List ℕ → Option (List ℕ)
 scheme_of [] = None

@@ -17,7 +17,8 @@ pub record IsLeft (policy : Policy) (trees : Trees) (pieces : List Piece) : Type
   pub balanced : is_balanced pieces [] ≡ true
 
 -- They were written, and what was taken away is counted; or a beginning of them, and then a write failed or memory was wanted.
-pub record WritesClean (policy : Policy) (trees : Trees) (old : WriterView) (result : Result Cleaned SerializeFault) (new : WriterView) : Type 0 where
+pub record WritesClean (policy : Policy) (trees : Trees) (old : WriterView) (result : Result Cleaned SerializeFault)
+    (new : WriterView) : Type 0 where
   pub pieces : List Piece
   pub left : IsLeft policy trees pieces
   pub writes : Writes (encode_utf8_all (written_pieces pieces)) old result new

@@ -1,6 +1,7 @@
 //! Which attributes are kept.
 ghost use Rattle.std.specs.Prelude.{◌≡◌, ◌&&◌, IfOk, IfErr, OnOk, is_none};
-ghost use Rattle.html_clean.specs.Policies.{gives, has_url, is_in_rule, is_kept_attribute, is_kept_kind, is_named_for, is_safe_attribute_name, kept_attributes, kept_with, plain_attribute};
+ghost use Rattle.html_clean.specs.Policies.{gives, has_url, is_in_rule, is_kept_attribute, is_kept_kind, is_named_for};
+ghost use Rattle.html_clean.specs.Policies.{is_safe_attribute_name, kept_attributes, kept_with, plain_attribute};
 ghost use Rattle.html_round_trip.specs.Slices.Forms.{is_no_text};
 ghost use Rattle.markup.specs.Trees.{is_among};
 ghost use Rattle.markup.specs.declared.fault.ParseFault.TheVariants.{Memory};

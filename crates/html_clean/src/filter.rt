@@ -124,7 +124,9 @@ fn pass_start<S: Serializer>(
     name: &QualName,
     attrs: &[Attribute],
 ) -> Result<u64, SerializeFault>
-    ensures passes { Passes S.step S.refuses (S.view serializer.old) (if_passed passes (StartElem name.now (policies.kept_attributes policy.now name.now.local attrs.now))) result (S.view serializer.new) }
+    ensures passes { Passes S.step S.refuses (S.view serializer.old)
+        (if_passed passes (StartElem name.now (policies.kept_attributes policy.now name.now.local attrs.now)))
+        result (S.view serializer.new) }
     ensures lost { IfOk result (λ lost. passes ≡ true → lost ≡ lost_attributes policy.now name.now.local attrs.now) }
     ensures same_references { S.references serializer.new ≡ S.references serializer.old }
 {
@@ -180,7 +182,8 @@ fn pass_text<S: Serializer>(
     front: bool,
     text: &str,
 ) -> Result<bool, SerializeFault>
-    ensures passes { Passes S.step S.refuses (S.view serializer.old) (text_passed hides (policies.text_at front (chars text.now))) result (S.view serializer.new) }
+    ensures passes { Passes S.step S.refuses (S.view serializer.old)
+        (text_passed hides (policies.text_at front (chars text.now))) result (S.view serializer.new) }
     ensures told { IfOk result (λ told. told ≡ is_some (text_passed hides (policies.text_at front (chars text.now)))) }
     ensures same_references { S.references serializer.new ≡ S.references serializer.old }
 {
@@ -258,7 +261,13 @@ impl<'a, S: Serializer> Serializer for Filter<'a, S> {
 
     ghost State = { Filtering S.State };
 
-    ghost view = { λ f. record { policy = f.policy.now; inner = S.view f.serializer.now; stack = f.begun; front = f.front; counts = f.counts } };
+    ghost view = { λ f. record {
+      policy = f.policy.now;
+      inner = S.view f.serializer.now;
+      stack = f.begun;
+      front = f.front;
+      counts = f.counts;
+    } };
 
     ghost step = { step_over S.step };
 

@@ -93,7 +93,8 @@ impl Policy {
         element: &str,
         attributes: &[&str],
     ) -> Result<(), ParseFault>
-        ensures ok { OnOk result (map rule_names self.new.kept.items ≡ map rule_names self.old.kept.items ++ (chars element.now, map (λ name. chars name.now) attributes.now) ∷ []) }
+        ensures ok { OnOk result (map rule_names self.new.kept.items ≡ map rule_names self.old.kept.items
+            ++ (chars element.now, map (λ name. chars name.now) attributes.now) ∷ []) }
         ensures same { self.new ≡ record self.old { kept = self.new.kept } }
         ensures refused { OnErr result (self.new.kept.items ≡ self.old.kept.items) }
         ensures fault { IfErr result (λ fault. fault ≡ Memory) }

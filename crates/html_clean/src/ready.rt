@@ -151,7 +151,8 @@ fn texts_of(alloc: Global, list: &[&str]) -> Result<Vec<Text>, ParseFault>
 
 /// Adds rules for elements without attributes of their own.
 fn push_plain(alloc: Global, list: &[&str], rules: &mut Vec<Rule>) -> Result<(), ParseFault>
-    ensures ok { OnOk result (map rule_names rules.new.items ≡ map rule_names rules.old.items ++ map (λ name. (chars name.now, [])) list.now) }
+    ensures ok { OnOk result (map rule_names rules.new.items ≡ map rule_names rules.old.items
+        ++ map (λ name. (chars name.now, [])) list.now) }
     ensures fault { IfErr result (λ fault. fault ≡ Memory) }
 {
     for name in list {
@@ -166,7 +167,8 @@ fn push_rules(
     list: &[(&str, &[&str])],
     rules: &mut Vec<Rule>,
 ) -> Result<(), ParseFault>
-    ensures ok { OnOk result (map rule_names rules.new.items ≡ map rule_names rules.old.items ++ map (λ row. (chars row.0.now, map (λ name. chars name.now) row.1.now)) list.now) }
+    ensures ok { OnOk result (map rule_names rules.new.items ≡ map rule_names rules.old.items
+        ++ map (λ row. (chars row.0.now, map (λ name. chars name.now) row.1.now)) list.now) }
     ensures fault { IfErr result (λ fault. fault ≡ Memory) }
 {
     for (name, attributes) in list {

@@ -38,7 +38,8 @@ pub fn serialize_clean<S: Serializer, T: Serialize>(
     scope: TraversalScope,
     policy: &Policy,
 ) -> Result<Cleaned, SerializeFault>
-    ensures walks { Walks S.step S.refuses (S.view serializer.old) (filtered policy.now [] true (T.calls node.now scope)) result (S.view serializer.new) }
+    ensures walks { Walks S.step S.refuses (S.view serializer.old)
+        (filtered policy.now [] true (T.calls node.now scope)) result (S.view serializer.new) }
     ensures counts { IfOk result (λ counts. counts ≡ all_counted policy.now [] nothing_counted (T.calls node.now scope)) }
     ensures same_references { S.references serializer.new ≡ S.references serializer.old }
 {
@@ -63,8 +64,11 @@ fn walk<Wr: Target + Drop, T: Serialize>(
     node: &T,
     policy: &Policy,
 ) -> Walked<Wr>
-    ensures serializes { Serializes true false (ChildrenOnly None) (filtered policy.now [] true (T.calls node.now (ChildrenOnly None))) (told_by Wr.written Wr.failures writer) result.answer (told_by Wr.written Wr.failures result.writer) }
-    ensures counts { IfOk result.answer (λ counts. counts ≡ all_counted policy.now [] nothing_counted (T.calls node.now (ChildrenOnly None))) }
+    ensures serializes { Serializes true false (ChildrenOnly None)
+        (filtered policy.now [] true (T.calls node.now (ChildrenOnly None))) (told_by Wr.written Wr.failures writer)
+        result.answer (told_by Wr.written Wr.failures result.writer) }
+    ensures counts { IfOk result.answer (λ counts. counts ≡ all_counted policy.now [] nothing_counted
+        (T.calls node.now (ChildrenOnly None))) }
     ensures same_references { Wr.references result.writer ≡ Wr.references writer }
 {
     match HtmlSerializer::new_or_back(alloc, writer, SerializeOpts::default()) {
@@ -94,7 +98,8 @@ pub fn write_clean<W: Target, T: Serialize>(
     node: &T,
     policy: &Policy,
 ) -> Result<Cleaned, SerializeFault>
-    ensures text { (trees : Trees) → T.calls node.now (ChildrenOnly None) ≡ calls_of trees → WritesClean policy.now trees (told_by W.written W.failures writer.old) result (told_by W.written W.failures writer.new) }
+    ensures text { (trees : Trees) → T.calls node.now (ChildrenOnly None) ≡ calls_of trees
+        → WritesClean policy.now trees (told_by W.written W.failures writer.old) result (told_by W.written W.failures writer.new) }
     ensures same_references { W.references writer.new ≡ W.references writer.old }
 {
     walk(alloc, writer, node, policy).answer

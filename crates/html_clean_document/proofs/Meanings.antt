@@ -25,7 +25,8 @@ use Rattle.html_clean_document.specs.Clean.{IsCleaned, IsDocumentOf, IsFailed, I
 -- WHAT WAS WRITTEN
 
 module _ (of : List ℕ → Trees → Type 0) (policy : Policy) (trees : Trees) where
-  pub was-cleaned : (whole : List ℕ) (left : Option (List ℕ)) (old new : WriterView) (counts : Cleaned) → of whole trees → left ≡ Some [] → WritesClean policy trees old (Ok counts) new
+  pub was-cleaned : (whole : List ℕ) (left : Option (List ℕ)) (old new : WriterView) (counts : Cleaned)
+      → of whole trees → left ≡ Some [] → WritesClean policy trees old (Ok counts) new
       → IsCleaned of policy whole left old.written new.written counts
   was-cleaned whole left old new counts is taken wrote = record {
     pieces = wrote.pieces;
@@ -35,7 +36,8 @@ module _ (of : List ℕ → Trees → Type 0) (policy : Policy) (trees : Trees) 
     counts_are = wrote.counts;
   }
 
-  pub write-failed : (fault : SerializeFault) (left left' : Option (List ℕ)) (old new : WriterView) → ((whole : List ℕ) → left ≡ Some whole → of whole trees) → WritesClean policy trees old (Err fault) new
+  pub write-failed : (fault : SerializeFault) (left left' : Option (List ℕ)) (old new : WriterView)
+      → ((whole : List ℕ) → left ≡ Some whole → of whole trees) → WritesClean policy trees old (Err fault) new
       → IsFailed of policy left left' old.written new.written (write_fault_of fault)
   write-failed serial.Write left left' old new is wrote = λ whole told. record {
     pieces = wrote.pieces;
@@ -56,7 +58,8 @@ module _ (of : List ℕ → Trees → Type 0) (policy : Policy) (trees : Trees) 
   write-failed serial.Failed left left' old new is wrote = absurd wrote.writes
 
   -- how often the writer failed
-  pub write-counted : (fault : SerializeFault) (old new : WriterView) → WritesClean policy trees old (Err fault) new → new.failures ≡ count_after (is_write_fault {T = Cleaned} (Err (write_fault_of fault))) old.failures
+  pub write-counted : (fault : SerializeFault) (old new : WriterView) → WritesClean policy trees old (Err fault) new
+      → new.failures ≡ count_after (is_write_fault {T = Cleaned} (Err (write_fault_of fault))) old.failures
   write-counted serial.Write old new wrote = wrote.writes.failed
   write-counted serial.NoParent old new wrote = absurd wrote.writes
   write-counted serial.NoElemInfo old new wrote = absurd wrote.writes
@@ -64,7 +67,8 @@ module _ (of : List ℕ → Trees → Type 0) (policy : Policy) (trees : Trees) 
   write-counted serial.Failed old new wrote = absurd wrote.writes
 
 -- a serializer reads nothing
-pub reads-counted : (T : Type 0) (fault : SerializeFault) (left left' : Option (List ℕ)) (failures failures' : Option ℕ) → failures' ≡ failures → CountsReads {T = T} (Err (write_fault_of fault)) left left' failures failures'
+pub reads-counted : (T : Type 0) (fault : SerializeFault) (left left' : Option (List ℕ))
+    (failures failures' : Option ℕ) → failures' ≡ failures → CountsReads {T = T} (Err (write_fault_of fault)) left left' failures failures'
 reads-counted T serial.Write left left' failures failures' same = same
 reads-counted T serial.NoParent left left' failures failures' same = same
 reads-counted T serial.NoElemInfo left left' failures failures' same = same
@@ -78,19 +82,28 @@ trees-walked : (f : Forest) → data_of f 0 ≡ forest.NodeData.Document → wal
 trees-walked f is = ap (λ about. trees_of f (children_of f (cond (template_of about) 1 0))) is
 
 module _ (f g : Forest) (forest_is : f ≡ g) where
-  trees-are : (id : ℕ) → id ≡ 0 → data_of f 0 ≡ forest.NodeData.Document → walked f id (ChildrenOnly None) ≡ document_trees (with_errors 0 g)
-  trees-are id id_is top = ap (λ n. walked f n (ChildrenOnly None)) id_is ∙ (trees-walked f top ∙ (ap document_trees forest_is ∙ sym (trees_of-same 0 g (children_of g 0))))
+  trees-are : (id : ℕ) → id ≡ 0 → data_of f 0 ≡ forest.NodeData.Document
+      → walked f id (ChildrenOnly None) ≡ document_trees (with_errors 0 g)
+  trees-are id id_is top = ap (λ n. walked f n (ChildrenOnly None)) id_is
+      ∙ (trees-walked f top ∙ (ap document_trees forest_is ∙ sym (trees_of-same 0 g (children_of g 0))))
 
   -- what was walked of a document that was read
-  pub document-walked : (id : ℕ) → id ≡ 0 → data_of f 0 ≡ forest.NodeData.Document → (table : List Row) (exact : _) (whole : List ℕ) (left : Option (List ℕ)) (errors : ℕ) → IsRead table exact whole left (with_errors 0 g) errors
+  pub document-walked : (id : ℕ) → id ≡ 0 → data_of f 0 ≡ forest.NodeData.Document → (table : List Row) (exact : _)
+      (whole : List ℕ) (left : Option (List ℕ)) (errors : ℕ) → IsRead table exact whole left (with_errors 0 g) errors
       → IsDocumentOf table whole (walked f id (ChildrenOnly None))
-  document-walked id id_is top table exact whole left errors read = record { document = with_errors 0 g; input = read.input; are = trees-are id id_is top }
+  document-walked id id_is top table exact whole left errors read = record {
+    document = with_errors 0 g;
+    input = read.input;
+    are = trees-are id id_is top;
+  }
 
   -- what was walked of a fragment that was read
-  pub fragment-walked : (root : ℕ) → root ≡ root_of f → (table : List Row) (name : QualName) (whole : List ℕ) (left : Option (List ℕ)) → IsFragmentRead table name whole left (with_errors 0 g)
+  pub fragment-walked : (root : ℕ) → root ≡ root_of f → (table : List Row) (name : QualName) (whole : List ℕ)
+      (left : Option (List ℕ)) → IsFragmentRead table name whole left (with_errors 0 g)
       → IsFragmentOf table name whole (walked f root (ChildrenOnly None))
   fragment-walked root root_is table name whole left read = record {
     fragment = with_errors 0 g;
     input = read.input;
-    are = ap (λ n. walked f n (ChildrenOnly None)) root_is ∙ (ap fragment_trees forest_is ∙ sym (trees_of-same 0 g (inner_of g (root_of g))));
+    are = ap (λ n. walked f n (ChildrenOnly None)) root_is
+        ∙ (ap fragment_trees forest_is ∙ sym (trees_of-same 0 g (inner_of g (root_of g))));
   }

@@ -19,10 +19,13 @@ use Rattle.html_rules.specs.Choice.{choose}
 use Rattle.html_rules.specs.Conditions.{holds}
 use Rattle.html_rules.specs.ForeignContent.{is_foreign}
 use Rattle.html_rules.specs.Modes.Foreign.{in_foreign_content}
-use Rattle.html_rules.specs.Rules.{Ending, Finished, Again, Replied, Settled, Turn, concluded, first_fit, fits, four_for_each, most_modes, rows, settle, settled_by, turn, turn_by_row, using_rules_for, within}
+use Rattle.html_rules.specs.Rules.{Ending, Finished, Again, Replied, Settled, Turn, concluded, first_fit, fits, four_for_each}
+use Rattle.html_rules.specs.Rules.{most_modes, rows, settle, settled_by, turn, turn_by_row, using_rules_for, within}
 use Rattle.html_rules.specs.State.{Open, State, current_number, hushed}
 use Rattle.html_rules.specs.Step.{refusal_of, step, step_by, taken}
-use Rattle.html_rules.specs.Table.{Row, Class, StartTags, EndTags, Conclusion, Done, Acknowledged, Reprocess, ReprocessInOriginal, ReprocessInMode, Using, UsingThen, UsingCurrentMode, RawText, PlainText, RunScript, ReportEncoding}
+use Rattle.html_rules.specs.Table.{Row, Class, StartTags, EndTags, Conclusion, Done, Acknowledged, Reprocess}
+use Rattle.html_rules.specs.Table.{ReprocessInOriginal, ReprocessInMode, Using, UsingThen, UsingCurrentMode, RawText, PlainText}
+use Rattle.html_rules.specs.Table.{RunScript, ReportEncoding}
 use Rattle.html_rules.specs.Tokens.{class_fits}
 use Rattle.html_rules.specs.declared.insertion_mode.InsertionMode.{InsertionMode}
 use Rattle.html_rules_laws.proofs.FirstFit.{by_fit, class_of_fits}
@@ -63,16 +66,20 @@ IsSafeTag (TagToken tag) = is_unsafe tag.name ≡ false
 IsSafeTag t = ⊥
 
 -- one of names of which each is unsafe is unsafe
-among-by : (name x : List ℕ) (names : List (List ℕ)) → (is_unsafe x ≡ true) × (list_all (λ name. is_unsafe name) names ≡ true) → (b : Bool) → bytes_eq name x ≡ b → (b || sets.is_among name names) ≡ true
+among-by : (name x : List ℕ) (names : List (List ℕ)) → (is_unsafe x ≡ true)
+    × (list_all (λ name. is_unsafe name) names ≡ true) → (b : Bool) → bytes_eq name x ≡ b → (b || sets.is_among name names) ≡ true
     → (list_all (λ name. is_unsafe name) names ≡ true → sets.is_among name names ≡ true → is_unsafe name ≡ true) → is_unsafe name ≡ true
 among-by name x names p true e k later = ap (λ name. is_unsafe name) ((bytes_eq-Decides name x).0 e) ∙ p.0
 among-by name x names p false e k later = later p.1 k
 
-among-all : (name : List ℕ) (names : List (List ℕ)) → list_all (λ name. is_unsafe name) names ≡ true → sets.is_among name names ≡ true → is_unsafe name ≡ true
+among-all : (name : List ℕ) (names : List (List ℕ)) → list_all (λ name. is_unsafe name) names ≡ true
+    → sets.is_among name names ≡ true → is_unsafe name ≡ true
 among-all name [] h k = absurd cc
-among-all name (x ∷ names) h k = among-by name x names (and_parts (is_unsafe x) (list_all (λ name. is_unsafe name) names) h) (bytes_eq name x) refl k (among-all name names)
+among-all name (x ∷ names) h k = among-by name x names
+    (and_parts (is_unsafe x) (list_all (λ name. is_unsafe name) names) h) (bytes_eq name x) refl k (among-all name names)
 
-fits-unsafe : (b : Bool) (name : List ℕ) (names : List (List ℕ)) → list_all (λ name. is_unsafe name) names ≡ true → (b && sets.is_among name names) ≡ true → is_unsafe name ≡ false → ⊥
+fits-unsafe : (b : Bool) (name : List ℕ) (names : List (List ℕ)) → list_all (λ name. is_unsafe name) names ≡ true
+    → (b && sets.is_among name names) ≡ true → is_unsafe name ≡ false → ⊥
 fits-unsafe b name names h k safe = absurd (true≢false (sym (among-all name names h (and_parts b (sets.is_among name names) k).1) ∙ safe))
 
 -- no such class has a safe tag
@@ -89,7 +96,8 @@ EndsWell (Replied r) = r ≡ reply.Continue
 
 module _ (t : Token) (safe : IsSafeTag t) where
   concluded-well : (using : InsertionMode → Token → State → Turn) → ((m : InsertionMode) (s : State) → EndsWell (using m t s).ends)
-      → (c : Class) (e : Conclusion) → class_fits c t ≡ true → replies_well c e ≡ true → (n : ℕ) (s : State) → EndsWell (concluded using e t n s).ends
+      → (c : Class) (e : Conclusion) → class_fits c t ≡ true → replies_well c e ≡ true → (n : ℕ) (s : State)
+      → EndsWell (concluded using e t n s).ends
   concluded-well using go c Done b h n s = tt
   concluded-well using go c Acknowledged b h n s = tt
   concluded-well using go c (Reprocess m) b h n s = tt
@@ -109,7 +117,8 @@ module _ (t : Token) (safe : IsSafeTag t) where
   first-well using go (r ∷ rs) h s =
       let parts = and_parts (replies_well r.on r.ends) (all_reply_well rs) h in
       by_fit (λ r. EndsWell (turn_by_row using r t s).ends) r (first_fit rs t s) (fits r t s)
-      (λ b. concluded-well using go r.on r.ends (class_of_fits (class_fits r.on t) (λ _. holds r.when t s) b) parts.0 (current_number s.open_elems) (act r.does t s))
+      (λ b. concluded-well using go r.on r.ends (class_of_fits (class_fits r.on t) (λ _. holds r.when t s) b)
+      parts.0 (current_number s.open_elems) (act r.does t s))
       (first-well using go rs parts.1 s)
 
   using-well : (n : ℕ) (m : InsertionMode) (s : State) → EndsWell (using_rules_for n m t s).ends
@@ -123,17 +132,22 @@ module _ (t : Token) (safe : IsSafeTag t) where
 
   turn-well : (s : State) → EndsWell (turn t s).ends
   unfolding turn
-  turn-well s = either-well (is_foreign s t) _ _ (first-well (using_rules_for most_modes) (using-well most_modes) in_foreign_content foreign-reply_well s) (using-well most_modes s.mode s)
+  turn-well s = either-well (is_foreign s t) _ _
+      (first-well (using_rules_for most_modes) (using-well most_modes) in_foreign_content foreign-reply_well s)
+      (using-well most_modes s.mode s)
 
-  settled-well : (again : State → Settled) → ((s : State) → (again s).reply ≡ reply.Continue) → (e : Ending) → EndsWell e → (s : State) → (settled_by again e t s).reply ≡ reply.Continue
+  settled-well : (again : State → Settled) → ((s : State) → (again s).reply ≡ reply.Continue) → (e : Ending)
+      → EndsWell e → (s : State) → (settled_by again e t s).reply ≡ reply.Continue
   settled-well again go (Finished acknowledged) h s = refl
   settled-well again go Again h s = go s
   settled-well again go (Replied r) h s = h
 
-  within-well : (n : ℕ) (beyond : State → Settled) → ((s : State) → (beyond s).reply ≡ reply.Continue) → (s : State) → (within n beyond t s).reply ≡ reply.Continue
+  within-well : (n : ℕ) (beyond : State → Settled) → ((s : State) → (beyond s).reply ≡ reply.Continue) → (s : State)
+      → (within n beyond t s).reply ≡ reply.Continue
   unfolding within
   within-well zero beyond go s = go s
-  within-well (suc n) beyond go s = settled-well (within n beyond t) (within-well n beyond go) (turn t s).ends (turn-well s) (turn t s).state
+  within-well (suc n) beyond go s = settled-well (within n beyond t) (within-well n beyond go) (turn t s).ends
+      (turn-well s) (turn t s).state
 
   four-well : (xs : List Open) (s : State) → (four_for_each xs t s).reply ≡ reply.Continue
   unfolding four_for_each
@@ -145,11 +159,13 @@ module _ (t : Token) (safe : IsSafeTag t) where
   settle-well s = within-well 16 (four_for_each s.open_elems t) (four-well s.open_elems) s
 
 -- what the step answers
-answered-well : (o : Option Refusal) (tag : Tag) (s : State) → is_unsafe tag.name ≡ false → IfOk (step_by o (TagToken tag) s) (λ p. p.1 ≡ reply.Continue)
+answered-well : (o : Option Refusal) (tag : Tag) (s : State) → is_unsafe tag.name ≡ false
+    → IfOk (step_by o (TagToken tag) s) (λ p. p.1 ≡ reply.Continue)
 unfolding taken
 answered-well (Some refusal) tag s safe = tt
 answered-well None tag s safe = settle-well (TagToken tag) safe (set_ignore_lf false (hushed s))
 
-pub tag-continues : (tag : Tag) (s : State) (line : ℕ) → is_unsafe tag.name ≡ false → IfOk (step s (TagToken tag) line) (λ p. p.1 ≡ reply.Continue)
+pub tag-continues : (tag : Tag) (s : State) (line : ℕ) → is_unsafe tag.name ≡ false
+    → IfOk (step s (TagToken tag) line) (λ p. p.1 ≡ reply.Continue)
 unfolding step
 tag-continues tag s line safe = answered-well (refusal_of (TagToken tag) s) tag s safe

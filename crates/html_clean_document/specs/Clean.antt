@@ -77,8 +77,10 @@ module _ (of : List ℕ → Trees → Type 0) (policy : Policy) where
 
   -- What a fault says of the bytes of the input that were left before and are left now, and of those written before and now.
   abbrev pub IsFailed : (left left' old new : Option (List ℕ)) → NormalFault → Type 0
-  IsFailed left left' old new (NotUtf8 at) = (new ≡ old) × ((whole rest : List ℕ) → left ≡ Some whole → left' ≡ Some rest → ShowsNotUtf8 whole rest at)
-  IsFailed left left' old new Read = (new ≡ old) × ((whole rest : List ℕ) → left ≡ Some whole → left' ≡ Some rest → HasBegun whole rest ⊎ IsTooLong whole rest)
+  IsFailed left left' old new (NotUtf8 at) =
+      (new ≡ old) × ((whole rest : List ℕ) → left ≡ Some whole → left' ≡ Some rest → ShowsNotUtf8 whole rest at)
+  IsFailed left left' old new Read = (new ≡ old) × ((whole rest : List ℕ) → left ≡ Some whole → left' ≡ Some rest
+      → HasBegun whole rest ⊎ IsTooLong whole rest)
   IsFailed left left' old new Write = (whole : List ℕ) → left ≡ Some whole → IsBegun whole old new
   IsFailed left left' old new Memory = (new ≡ old) ⊎ ((whole : List ℕ) → left ≡ Some whole → IsBegun whole old new)
   IsFailed left left' old new Refused = ⊥

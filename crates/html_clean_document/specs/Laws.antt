@@ -28,4 +28,5 @@ IsCleanedTold =
     → let text = written scripting default_entry (cleaned policy trees) in
     let pieces = pieces_of (cleaned policy trees) in
     reading step erred asks_cdata ended rows (in_data last) breaks s (text ++ t)
-    ≡ (telling step breaks s pieces >>= λ told. reading step erred asks_cdata ended rows (in_data (last_after last pieces)) (breaks + line_breaks text) told t)
+    ≡ (telling step breaks s pieces >>= λ told. reading step erred asks_cdata ended rows
+    (in_data (last_after last pieces)) (breaks + line_breaks text) told t)

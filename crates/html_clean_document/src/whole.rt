@@ -25,7 +25,8 @@ pub fn clean<R: Source, W: Target>(
 ) -> Result<Cleaned, NormalFault>
     ensures ok { IfOk result (λ counts. (whole : List ℕ) → R.left reader.old ≡ Some whole
         → IsCleaned (IsDocumentOf references) policy.now whole (R.left reader.new) (W.written writer.old) (W.written writer.new) counts) }
-    ensures err { IfErr result (IsFailed (IsDocumentOf references) policy.now (R.left reader.old) (R.left reader.new) (W.written writer.old) (W.written writer.new)) }
+    ensures err { IfErr result (IsFailed (IsDocumentOf references) policy.now (R.left reader.old)
+        (R.left reader.new) (W.written writer.old) (W.written writer.new)) }
     ensures read_failures { CountsReads result (R.left reader.old) (R.left reader.new) (R.failures reader.old) (R.failures reader.new) }
     ensures write_failures { W.failures writer.new ≡ count_after (is_write_fault result) (W.failures writer.old) }
     ensures same_reader { R.references reader.new ≡ R.references reader.old }
@@ -63,8 +64,10 @@ pub fn clean_fragment_in<R: Source, W: Target>(
     policy: &Policy,
 ) -> Result<Cleaned, NormalFault>
     ensures ok { IfOk result (λ counts. (whole : List ℕ) → R.left reader.old ≡ Some whole
-        → IsCleaned (IsFragmentOf references context) policy.now whole (R.left reader.new) (W.written writer.old) (W.written writer.new) counts) }
-    ensures err { IfErr result (IsFailed (IsFragmentOf references context) policy.now (R.left reader.old) (R.left reader.new) (W.written writer.old) (W.written writer.new)) }
+        → IsCleaned (IsFragmentOf references context) policy.now whole (R.left reader.new) (W.written writer.old)
+        (W.written writer.new) counts) }
+    ensures err { IfErr result (IsFailed (IsFragmentOf references context) policy.now (R.left reader.old)
+        (R.left reader.new) (W.written writer.old) (W.written writer.new)) }
     ensures read_failures { CountsReads result (R.left reader.old) (R.left reader.new) (R.failures reader.old) (R.failures reader.new) }
     ensures write_failures { W.failures writer.new ≡ count_after (is_write_fault result) (W.failures writer.old) }
     ensures same_reader { R.references reader.new ≡ R.references reader.old }
@@ -97,8 +100,10 @@ pub fn clean_fragment<R: Source, W: Target>(
     policy: &Policy,
 ) -> Result<Cleaned, NormalFault>
     ensures ok { IfOk result (λ counts. (whole : List ℕ) → R.left reader.old ≡ Some whole
-        → IsCleaned (IsFragmentOf references div_name) policy.now whole (R.left reader.new) (W.written writer.old) (W.written writer.new) counts) }
-    ensures err { IfErr result (IsFailed (IsFragmentOf references div_name) policy.now (R.left reader.old) (R.left reader.new) (W.written writer.old) (W.written writer.new)) }
+        → IsCleaned (IsFragmentOf references div_name) policy.now whole (R.left reader.new) (W.written writer.old)
+        (W.written writer.new) counts) }
+    ensures err { IfErr result (IsFailed (IsFragmentOf references div_name) policy.now (R.left reader.old)
+        (R.left reader.new) (W.written writer.old) (W.written writer.new)) }
     ensures read_failures { CountsReads result (R.left reader.old) (R.left reader.new) (R.failures reader.old) (R.failures reader.new) }
     ensures write_failures { W.failures writer.new ≡ count_after (is_write_fault result) (W.failures writer.old) }
     ensures same_reader { R.references reader.new ≡ R.references reader.old }

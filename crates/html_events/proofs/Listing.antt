@@ -6,7 +6,8 @@ use Rattle.html_events.specs.Events.{all_event_bytes, event_bytes, listed}
 
 run-listed : (bytes : List ℕ) (calls : List Call) → run listed bytes calls ≡ Ok (bytes ++ all_event_bytes calls)
 run-listed bytes [] = ap (λ (l : List ℕ). Ok l) (sym (append-nil bytes))
-run-listed bytes (call ∷ calls) = run-listed (bytes ++ event_bytes call) calls ∙ ap (λ (l : List ℕ). Ok l) (append_assoc bytes (event_bytes call) (all_event_bytes calls))
+run-listed bytes (call ∷ calls) = run-listed (bytes ++ event_bytes call) calls ∙ ap (λ (l : List ℕ). Ok l)
+    (append_assoc bytes (event_bytes call) (all_event_bytes calls))
 
 value_of : Result (List ℕ) SerializeFault → List ℕ
 value_of (Ok bytes) = bytes

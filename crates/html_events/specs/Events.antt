@@ -27,7 +27,8 @@ all_attribute_bytes (attribute ∷ others) = attribute_bytes attribute ++ all_at
 -- `S` an element begins: its namespace, its local name, the number of its attributes, and these; `E` it ends; `T` a text; `C` a comment;
 -- `D` the name of a doctype; `P` a processing instruction: what it is meant for, and its text
 abbrev pub event_bytes : Call → List ℕ
-event_bytes (StartElem name attributes) = 83 ∷ text_bytes name.ns ++ (text_bytes name.local ++ (number_bytes (length attributes) ++ all_attribute_bytes attributes))
+event_bytes (StartElem name attributes) = 83 ∷ text_bytes name.ns
+    ++ (text_bytes name.local ++ (number_bytes (length attributes) ++ all_attribute_bytes attributes))
 event_bytes (EndElem name) = 69 ∷ []
 event_bytes (WriteText text) = 84 ∷ text_bytes text
 event_bytes (WriteComment text) = 67 ∷ text_bytes text

@@ -1,6 +1,7 @@
 -- A tree line by line, as the tests of html5lib print it: a line for each node, each with a bar, two spaces for each node around it, and
 -- what the node is; an element's attributes follow in lines of their own, and so does the word `content` in a template.
-use Rattle.std.specs.Prelude.{◌≡◌, ◌⊎◌, ℕ, ◌-◌, ◌==◌, ◌&&◌, Bool, cond, List, [], ◌∷◌, ◌++◌, length, take, Option, Some, None, Ok, codes, encode_utf8_all}
+use Rattle.std.specs.Prelude.{◌≡◌, ◌⊎◌, ℕ, ◌-◌, ◌==◌, ◌&&◌, Bool, cond, List, [], ◌∷◌, ◌++◌, length, take, Option, Some, None}
+use Rattle.std.specs.Prelude.{Ok, codes, encode_utf8_all}
 use Rattle.std.specs.BTreeMap.{insert_entry}
 use Rattle.std.specs.Cmp.Lexicographic.{slice_cmp}
 use Rattle.std.specs.Io.KnownBytes.{append_known}
@@ -50,7 +51,8 @@ rows_from rows (attribute ∷ others) = rows_from (insert_entry (slice_cmp nat_c
 -- a line for each name with its value
 abbrev pub row_lines : List ℕ → List (List ℕ × List ℕ) → List ℕ
 row_lines indent [] = []
-row_lines indent (row ∷ rows) = line indent (encode_utf8_all row.0 ++ codes "=\"" ++ encode_utf8_all row.1 ++ codes "\"") ++ row_lines indent rows
+row_lines indent (row ∷ rows) = line indent (encode_utf8_all row.0 ++ codes "=\"" ++ encode_utf8_all row.1
+    ++ codes "\"") ++ row_lines indent rows
 
 abbrev pub two_spaces : List ℕ
 two_spaces = codes "  "
@@ -68,7 +70,8 @@ content_line indent name = cond (is_template name) (line indent (codes "content"
 
 abbrev pub element_lines : List ℕ → QualName → List Attribute → List ℕ
 element_lines indent name attributes =
-    line indent (codes "<" ++ encode_utf8_all (shown_name name) ++ codes ">") ++ (row_lines (indent ++ two_spaces) (rows_from [] attributes) ++ content_line (indent ++ two_spaces) name)
+    line indent (codes "<" ++ encode_utf8_all (shown_name name) ++ codes ">")
+    ++ (row_lines (indent ++ two_spaces) (rows_from [] attributes) ++ content_line (indent ++ two_spaces) name)
 
 -- OTHERS
 
@@ -114,7 +117,8 @@ walk_lines indent (call ∷ calls) = call_lines indent call ++ walk_lines (inden
 
 -- the lines of a node and of all that stands in it
 abbrev pub data_lines : NodeData → List Call → List ℕ
-data_lines (Doctype name public_id system_id) calls = doctype_line (encode_utf8_all name) (encode_utf8_all public_id) (encode_utf8_all system_id)
+data_lines (Doctype name public_id system_id) calls = doctype_line (encode_utf8_all name)
+    (encode_utf8_all public_id) (encode_utf8_all system_id)
 data_lines _ calls = walk_lines [] calls
 
 abbrev pub node_lines : Forest → ℕ → List ℕ
@@ -138,7 +142,10 @@ pub record Lines : Type 0 where
 
 -- a call more
 abbrev pub listed : Step Lines
-listed lines call = Ok (record { indent = indent_after lines.indent call; written = append_known lines.written (call_lines lines.indent call) })
+listed lines call = Ok (record {
+  indent = indent_after lines.indent call;
+  written = append_known lines.written (call_lines lines.indent call);
+})
 
 -- what refuses a call
 abbrev pub refuses : Refuses Lines

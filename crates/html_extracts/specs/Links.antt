@@ -23,7 +23,8 @@ abbrev pub link_named : Option QualName → Forest → ℕ → Option (List ℕ)
 link_named None f n = None
 link_named (Some name) f n =
     cond (bytes_eq name.ns (name_of Html))
-    (cond (has_href (encode_utf8_all name.local)) (attribute_of f n (codes "href")) (cond (has_source (encode_utf8_all name.local)) (attribute_of f n (codes "src")) None))
+    (cond (has_href (encode_utf8_all name.local)) (attribute_of f n (codes "href"))
+    (cond (has_source (encode_utf8_all name.local)) (attribute_of f n (codes "src")) None))
     None
 
 -- the link of a node, if it has one

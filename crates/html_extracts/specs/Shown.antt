@@ -7,7 +7,8 @@ use Rattle.markup.specs.declared.names.QualName.{QualName}
 -- whether the text in an element of this name is a program, a style sheet, or markup that stands in for something
 abbrev pub hides : List ℕ → Bool
 hides local =
-    bytes_eq local (codes "script") || bytes_eq local (codes "style") || bytes_eq local (codes "noscript") || bytes_eq local (codes "noframes")
+    bytes_eq local (codes "script") || bytes_eq local (codes "style") || bytes_eq local (codes "noscript")
+    || bytes_eq local (codes "noframes")
     || bytes_eq local (codes "noembed") || bytes_eq local (codes "iframe")
 
 abbrev pub is_shown_in : Option QualName → Bool

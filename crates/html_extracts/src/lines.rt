@@ -137,7 +137,8 @@ fn push_name(
     indent: &[u8],
     name: &QualName,
 ) -> Result<(), SerializeFault>
-    ensures ok { OnOk result (lines.new.items ≡ lines.old.items ++ line indent.now (codes "<" ++ encode_utf8_all (spec.shown_name name.now) ++ codes ">")) }
+    ensures ok { OnOk result (lines.new.items ≡ lines.old.items
+        ++ line indent.now (codes "<" ++ encode_utf8_all (spec.shown_name name.now) ++ codes ">")) }
     ensures fault { IfErr result (λ fault. fault ≡ Memory) }
 {
     let shown = shown_name(alloc, name)?;
@@ -167,7 +168,8 @@ fn push_inside(
     name: &QualName,
     attrs: &[Attribute],
 ) -> Result<(), SerializeFault>
-    ensures ok { OnOk result (lines.new.items ≡ lines.old.items ++ (row_lines indent.now (rows_from [] attrs.now) ++ content_line indent.now name.now)) }
+    ensures ok { OnOk result (lines.new.items ≡ lines.old.items
+        ++ (row_lines indent.now (rows_from [] attrs.now) ++ content_line indent.now name.now)) }
     ensures fault { IfErr result (λ fault. fault ≡ Memory) }
 {
     let rows = rows_of(alloc, attrs)?;
@@ -199,7 +201,8 @@ pub(crate) fn push_instruction(
     target: &str,
     text: &str,
 ) -> Result<(), SerializeFault>
-    ensures ok { OnOk result (lines.new.items ≡ lines.old.items ++ line indent.now (codes "<?" ++ target.now ++ codes " " ++ text.now ++ codes ">")) }
+    ensures ok { OnOk result (lines.new.items ≡ lines.old.items
+        ++ line indent.now (codes "<?" ++ target.now ++ codes " " ++ text.now ++ codes ">")) }
     ensures fault { IfErr result (λ fault. fault ≡ Memory) }
 {
     lines.extend_from_slice(b"| ")?;

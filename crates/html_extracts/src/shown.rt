@@ -41,7 +41,8 @@ pub fn is_shown(forest: &Forest, id: NodeId) -> bool
 /// The texts below a node that are shown, joined in their order, without a break between them. What stands in a template is not below
 /// it. Takes the memory of the text.
 pub fn shown_text(alloc: Global, forest: &Forest, top: NodeId) -> Result<String, ParseFault>
-    ensures ok { IfOk result (λ text. chars (string_bytes text) ≡ texts_of forest.now (filter (spec.is_shown forest.now) (below forest.now top))) }
+    ensures ok { IfOk result (λ text. chars (string_bytes text) ≡ texts_of forest.now
+        (filter (spec.is_shown forest.now) (below forest.now top))) }
     ensures fault { IfErr result (λ fault. fault ≡ Memory) }
 {
     let mut text = Text::empty(alloc);

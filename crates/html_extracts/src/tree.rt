@@ -38,7 +38,8 @@ impl<W: Target> LineWriter<W> {
 
     // Writes the line of a text between others.
     fn put_line(&mut self, before: &str, text: &str, after: &str) -> Result<(), SerializeFault>
-        ensures ok { OnOk result (W.written self.new.writer ≡ append_known (W.written self.old.writer) (line self.old.indent.items (before.now ++ text.now ++ after.now))) }
+        ensures ok { OnOk result (W.written self.new.writer ≡ append_known (W.written self.old.writer)
+            (line self.old.indent.items (before.now ++ text.now ++ after.now))) }
         ensures indent { self.new.indent ≡ self.old.indent }
         ensures fault { IfErr result (λ fault. (fault ≡ Memory) ⊎ (fault ≡ Write)) }
     {
@@ -49,7 +50,8 @@ impl<W: Target> LineWriter<W> {
 
     // Writes the line of a processing instruction.
     fn put_instruction(&mut self, target: &str, text: &str) -> Result<(), SerializeFault>
-        ensures ok { OnOk result (W.written self.new.writer ≡ append_known (W.written self.old.writer) (line self.old.indent.items (codes "<?" ++ target.now ++ codes " " ++ text.now ++ codes ">"))) }
+        ensures ok { OnOk result (W.written self.new.writer ≡ append_known (W.written self.old.writer)
+            (line self.old.indent.items (codes "<?" ++ target.now ++ codes " " ++ text.now ++ codes ">"))) }
         ensures indent { self.new.indent ≡ self.old.indent }
         ensures fault { IfErr result (λ fault. (fault ≡ Memory) ⊎ (fault ≡ Write)) }
     {
@@ -65,7 +67,8 @@ impl<W: Target> LineWriter<W> {
         public_id: &str,
         system_id: &str,
     ) -> Result<(), SerializeFault>
-        ensures ok { OnOk result (W.written self.new.writer ≡ append_known (W.written self.old.writer) (doctype_line name.now public_id.now system_id.now)) }
+        ensures ok { OnOk result (W.written self.new.writer ≡ append_known (W.written self.old.writer)
+            (doctype_line name.now public_id.now system_id.now)) }
         ensures fault { IfErr result (λ fault. (fault ≡ Memory) ⊎ (fault ≡ Write)) }
     {
         self.lines.clear();
@@ -136,7 +139,8 @@ fn write_walk<W: Target>(
     id: NodeId,
     lines: &mut LineWriter<W>,
 ) -> Result<(), SerializeFault>
-    ensures ok { OnOk result (W.written lines.new.writer ≡ append_known (W.written lines.old.writer) (walk_lines [] (calls_of (walked forest.now id IncludeNode)))) }
+    ensures ok { OnOk result (W.written lines.new.writer ≡ append_known (W.written lines.old.writer)
+        (walk_lines [] (calls_of (walked forest.now id IncludeNode)))) }
     ensures fault { IfErr result (λ fault. (fault ≡ Memory) ⊎ (fault ≡ Write)) }
 {
     lines.indent.clear();

@@ -9,7 +9,8 @@ use Rattle.html_ffi.specs.Reports.{cleaned_of, nothing_at, nothing_cleaned_at, r
 use Rattle.html_ffi.specs.declared.report.FigCleaned.{FigCleaned}
 use Rattle.html_ffi.specs.declared.report.FigReport.{FigReport}
 use Rattle.html_ffi.specs.declared.answer.Answer.{Answer}
-use Rattle.html_ffi.specs.declared.answer.Answer.TheVariants.{Done, NotUtf8, TooShort, Memory, TableNotUtf8, TableLine, TableName, TableDuplicate, TableValue}
+use Rattle.html_ffi.specs.declared.answer.Answer.TheVariants.{Done, NotUtf8, TooShort, Memory, TableNotUtf8, TableLine}
+use Rattle.html_ffi.specs.declared.answer.Answer.TheVariants.{TableName, TableDuplicate, TableValue}
 
 module _ (Makes : List ℕ → Type 0) (None : Type 0) (file page : List ℕ) (at : ℕ) (old new : List ℕ) where
   -- a text that was made was put in front of the room, or is too long for it
@@ -38,7 +39,8 @@ module _ (Makes : List ℕ → Type 0) (None : Type 0) (file page : List ℕ) (a
 
 -- of a page's text
 module _ (Is : (file page text : List ℕ) → Report → Type 0) (file page old new : List ℕ) (report : FigReport) (answer : Answer) where
-  pub text-put : (text lent : List ℕ) (count : ℕ) (told : Report) → Is file page text told → lent ≡ text → count ≡ length lent → report ≡ report_of count told → IsPut lent old new answer → MeansText Is file page old new report answer
+  pub text-put : (text lent : List ℕ) (count : ℕ) (told : Report) → Is file page text told → lent ≡ text
+      → count ≡ length lent → report ≡ report_of count told → IsPut lent old new answer → MeansText Is file page old new report answer
   text-put text lent count told is same counted report_is put =
       put-means (IsReported Is file page report) (report ≡ nothing_at report.at) file page report.at old new text answer
       (record { told = told; is = is; report_is = report_is ∙ ap (λ n. report_of n told) (counted ∙ ap length same) })
@@ -52,13 +54,15 @@ module _ (Is : (file page text : List ℕ) → Report → Type 0) (file page old
 
 -- of what was kept of a page
 module _ (Is : (file page text : List ℕ) → Cleaned → Type 0) (file page old new : List ℕ) (report : FigCleaned) (answer : Answer) where
-  pub cleaned-put : (text lent : List ℕ) (count : ℕ) (told : Cleaned) → Is file page text told → lent ≡ text → count ≡ length lent → report ≡ cleaned_of count told → IsPut lent old new answer → MeansCleaned Is file page old new report answer
+  pub cleaned-put : (text lent : List ℕ) (count : ℕ) (told : Cleaned) → Is file page text told → lent ≡ text
+      → count ≡ length lent → report ≡ cleaned_of count told → IsPut lent old new answer → MeansCleaned Is file page old new report answer
   cleaned-put text lent count told is same counted report_is put =
       put-means (IsReportedClean Is file page report) (report ≡ nothing_cleaned_at report.at) file page report.at old new text answer
       (record { counts = told; is = is; report_is = report_is ∙ ap (λ n. cleaned_of n told) (counted ∙ ap length same) })
       (subst (λ (t : List ℕ). IsPut t old new answer) same put)
 
-  pub cleaned-none : (at : ℕ) → Fails file page answer at → report ≡ nothing_cleaned_at at → new ≡ old → MeansCleaned Is file page old new report answer
+  pub cleaned-none : (at : ℕ) → Fails file page answer at → report ≡ nothing_cleaned_at at → new ≡ old
+      → MeansCleaned Is file page old new report answer
   cleaned-none at fails none same =
       let there : report.at ≡ at = ap (λ (r : FigCleaned). r.at) none in
       none-means (IsReportedClean Is file page report) (report ≡ nothing_cleaned_at report.at) file page report.at old new answer

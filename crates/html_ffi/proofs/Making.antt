@@ -28,7 +28,8 @@ use Rattle.html_ffi.specs.Answers.{Fails, failure_of, table_failure_of}
 use Rattle.html_ffi.specs.Calls.{IsNormalText, IsToldOf, IsTreeText}
 use Rattle.html_ffi.specs.declared.answer.Failure.{Failure}
 
-table-fails : (bytes page left : List ℕ) (fault : TableFileFault) → IsTableFault (Some bytes) (Some left) fault → Fails bytes page (table_failure_of fault).answer (table_failure_of fault).at
+table-fails : (bytes page left : List ℕ) (fault : TableFileFault) → IsTableFault (Some bytes) (Some left) fault
+    → Fails bytes page (table_failure_of fault).answer (table_failure_of fault).at
 table-fails bytes page left (file.NotUtf8 at) is = (is bytes left refl refl).front
 table-fails bytes page left file.Read is = refl
 table-fails bytes page left (file.BadLine line) is = is bytes refl
@@ -39,20 +40,27 @@ table-fails bytes page left (file.Table table.Memory) is = refl
 table-fails bytes page left file.Memory is = refl
 
 -- what is told of a table whose bytes were read
-pub table-failed : (bytes page told left : List ℕ) (fault : TableFileFault) (made : Failure) → told ≡ bytes → made ≡ table_failure_of fault → IsTableFault (Some told) (Some left) fault → Fails bytes page made.answer made.at
+pub table-failed : (bytes page told left : List ℕ) (fault : TableFileFault) (made : Failure) → told ≡ bytes
+    → made ≡ table_failure_of fault → IsTableFault (Some told) (Some left) fault → Fails bytes page made.answer made.at
 table-failed bytes page told left fault made same is given =
-    subst (λ (f : Failure). Fails bytes page f.answer f.at) (sym is) (table-fails bytes page left fault (subst (λ (bs : List ℕ). IsTableFault (Some bs) (Some left) fault) same given))
+    subst (λ (f : Failure). Fails bytes page f.answer f.at) (sym is)
+    (table-fails bytes page left fault (subst (λ (bs : List ℕ). IsTableFault (Some bs) (Some left) fault) same given))
 
 -- what is told of a page of which no text was made, by what a fault of reading and writing says
-pub page-failed : (bytes page : List ℕ) (Given : NormalFault → Type 0) (fault : NormalFault) (made : Failure) → ((at : ℕ) → Given (normal.NotUtf8 at) → IsValidUpTo page at) → made ≡ failure_of fault → Given fault → Fails bytes page made.answer made.at
-page-failed bytes page Given (normal.NotUtf8 at) made valid is given = subst (λ (f : Failure). Fails bytes page f.answer f.at) (sym is) (valid at given)
+pub page-failed : (bytes page : List ℕ) (Given : NormalFault → Type 0) (fault : NormalFault) (made : Failure)
+    → ((at : ℕ) → Given (normal.NotUtf8 at) → IsValidUpTo page at) → made ≡ failure_of fault → Given fault
+    → Fails bytes page made.answer made.at
+page-failed bytes page Given (normal.NotUtf8 at) made valid is given =
+    subst (λ (f : Failure). Fails bytes page f.answer f.at) (sym is) (valid at given)
 page-failed bytes page Given normal.Read made valid is given = subst (λ (f : Failure). Fails bytes page f.answer f.at) (sym is) refl
 page-failed bytes page Given normal.Write made valid is given = subst (λ (f : Failure). Fails bytes page f.answer f.at) (sym is) refl
 page-failed bytes page Given normal.Memory made valid is given = subst (λ (f : Failure). Fails bytes page f.answer f.at) (sym is) refl
 page-failed bytes page Given normal.Refused made valid is given = subst (λ (f : Failure). Fails bytes page f.answer f.at) (sym is) refl
 
 -- a page that was normalised to a writer with nothing in it
-pub normal-made : (file page : List ℕ) (rows : List Row) (left : Option (List ℕ)) (old written : List ℕ) (told : Report) → IsTableFile file (Some []) rows → old ≡ [] → IsNormalised rows false page left (Some old) (Some written) told → IsNormalText file page written told
+pub normal-made : (file page : List ℕ) (rows : List Row) (left : Option (List ℕ)) (old written : List ℕ)
+    (told : Report) → IsTableFile file (Some []) rows → old ≡ [] → IsNormalised rows false page left (Some old)
+    (Some written) told → IsNormalText file page written told
 normal-made file page rows left old written told table none n = record {
   rows = rows;
   table = table;
@@ -69,16 +77,21 @@ normal-made file page rows left old written told table none n = record {
 }
 
 -- the events of what stands in the document's node are those of its trees
-pub events-are : (f : Forest) (id : ℕ) (bytes : List ℕ) → data_of f 0 ≡ Document → id ≡ 0 → bytes ≡ all_event_bytes (calls_of (trees_of f (inner_of f id))) → bytes ≡ all_event_bytes (calls_of (document_trees f))
+pub events-are : (f : Forest) (id : ℕ) (bytes : List ℕ) → data_of f 0 ≡ Document → id ≡ 0 → bytes ≡ all_event_bytes
+    (calls_of (trees_of f (inner_of f id))) → bytes ≡ all_event_bytes (calls_of (document_trees f))
 events-are f id bytes first is given =
-    given ∙ ap (λ n. all_event_bytes (calls_of (trees_of f (inner_of f n)))) is ∙ ap (λ about. all_event_bytes (calls_of (trees_of f (children_of f (cond (template_of about) 1 0))))) first
+    given ∙ ap (λ n. all_event_bytes (calls_of (trees_of f (inner_of f n)))) is
+    ∙ ap (λ about. all_event_bytes (calls_of (trees_of f (children_of f (cond (template_of about) 1 0))))) first
 
 -- what was read to its end
-pub read-made : (rows : List Row) (page : List ℕ) (left : Option (List ℕ)) (document : Forest) (errors : ℕ) → IsRead rows false page left document errors → IsRead rows false page (Some []) document errors
+pub read-made : (rows : List Row) (page : List ℕ) (left : Option (List ℕ)) (document : Forest) (errors : ℕ)
+    → IsRead rows false page left document errors → IsRead rows false page (Some []) document errors
 read-made rows page left document errors read = record { input = read.input; taken = refl; counts = read.counts }
 
 -- the tree of a page that was read to its end
-pub tree-made : (file page : List ℕ) (rows : List Row) (f : Forest) (bytes : List ℕ) (told : Report) → IsTableFile file (Some []) rows → IsRead rows false page (Some []) (with_errors 0 f) f.errors → IsToldOf f bytes told → IsTreeText file page bytes told
+pub tree-made : (file page : List ℕ) (rows : List Row) (f : Forest) (bytes : List ℕ) (told : Report)
+    → IsTableFile file (Some []) rows → IsRead rows false page (Some []) (with_errors 0 f) f.errors
+    → IsToldOf f bytes told → IsTreeText file page bytes told
 tree-made file page rows f bytes told table read is = record {
   rows = rows;
   table = table;
@@ -91,7 +104,9 @@ tree-made file page rows f bytes told table read is = record {
 }
 
 -- what a policy keeps of a page, written to a writer with nothing in it
-pub cleaned-made : (of : List ℕ → Trees → Type 0) (policy : Policy) (page : List ℕ) (left : Option (List ℕ)) (old written : List ℕ) (counts : Cleaned) → old ≡ [] → IsCleaned of policy page left (Some old) (Some written) counts → IsCleaned of policy page (Some []) (Some []) (Some written) counts
+pub cleaned-made : (of : List ℕ → Trees → Type 0) (policy : Policy) (page : List ℕ) (left : Option (List ℕ))
+    (old written : List ℕ) (counts : Cleaned) → old ≡ [] → IsCleaned of policy page left (Some old)
+    (Some written) counts → IsCleaned of policy page (Some []) (Some []) (Some written) counts
 cleaned-made of policy page left old written counts none c = record {
   pieces = c.pieces;
   kept = c.kept;
@@ -101,5 +116,6 @@ cleaned-made of policy page left old written counts none c = record {
 }
 
 -- a table that was read to its end
-pub table-made : (bytes : List ℕ) (left : Option (List ℕ)) (rows : List Row) → IsTableFile bytes left rows → IsTableFile bytes (Some []) rows
+pub table-made : (bytes : List ℕ) (left : Option (List ℕ)) (rows : List Row) → IsTableFile bytes left rows
+    → IsTableFile bytes (Some []) rows
 table-made bytes left rows t = record { text = t.text; taken = refl; lines = t.lines; checked = t.checked }

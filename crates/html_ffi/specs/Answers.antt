@@ -9,7 +9,8 @@ use Rattle.html_tokens.specs.declared.table.TableFault.TheVariants as table
 use Rattle.html_normal.specs.declared.fault.NormalFault.{NormalFault}
 use Rattle.html_normal.specs.declared.fault.NormalFault.TheVariants as normal
 use Rattle.html_ffi.specs.declared.answer.Answer.{Answer}
-use Rattle.html_ffi.specs.declared.answer.Answer.TheVariants.{Done, NotUtf8, TooShort, Memory, TableNotUtf8, TableLine, TableName, TableDuplicate, TableValue}
+use Rattle.html_ffi.specs.declared.answer.Answer.TheVariants.{Done, NotUtf8, TooShort, Memory, TableNotUtf8, TableLine}
+use Rattle.html_ffi.specs.declared.answer.Answer.TheVariants.{TableName, TableDuplicate, TableValue}
 use Rattle.html_ffi.specs.declared.answer.Failure.{Failure}
 
 -- ANSWERS

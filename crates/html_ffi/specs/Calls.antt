@@ -61,12 +61,14 @@ pub record IsCleanFragment (file page text : List ℕ) (counts : Cleaned) : Type
   pub cleaned : IsCleaned (IsFragmentOf rows div_name) policy page (Some []) (Some []) (Some text) counts
 
 -- A text is as `Is` says, by what is told of the page, and this is the report of it.
-pub record IsReported (Is : (file page text : List ℕ) → Report → Type 0) (file page : List ℕ) (report : FigReport) (text : List ℕ) : Type 0 where
+pub record IsReported (Is : (file page text : List ℕ) → Report → Type 0) (file page : List ℕ) (report : FigReport)
+    (text : List ℕ) : Type 0 where
   pub told : Report
   pub is : Is file page text told
   pub report_is : report ≡ report_of (length text) told
 
-pub record IsReportedClean (Is : (file page text : List ℕ) → Cleaned → Type 0) (file page : List ℕ) (report : FigCleaned) (text : List ℕ) : Type 0 where
+pub record IsReportedClean (Is : (file page text : List ℕ) → Cleaned → Type 0) (file page : List ℕ)
+    (report : FigCleaned) (text : List ℕ) : Type 0 where
   pub counts : Cleaned
   pub is : Is file page text counts
   pub report_is : report ≡ cleaned_of (length text) counts
@@ -76,4 +78,5 @@ abbrev pub MeansText : (Is : (file page text : List ℕ) → Report → Type 0) 
 MeansText Is file page old new report = Means (IsReported Is file page report) (report ≡ nothing_at report.at) file page report.at old new
 
 abbrev pub MeansCleaned : (Is : (file page text : List ℕ) → Cleaned → Type 0) → (file page old new : List ℕ) → FigCleaned → Answer → Type 0
-MeansCleaned Is file page old new report = Means (IsReportedClean Is file page report) (report ≡ nothing_cleaned_at report.at) file page report.at old new
+MeansCleaned Is file page old new report = Means (IsReportedClean Is file page report)
+    (report ≡ nothing_cleaned_at report.at) file page report.at old new

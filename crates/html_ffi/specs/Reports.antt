@@ -17,14 +17,27 @@ quirks_number Quirks = 2
 
 -- the report of a page of which a text was made that has so many bytes
 abbrev pub report_of : ℕ → Report → FigReport
-report_of count told = record { length = count; errors = told.errors; at = 0; quirks = quirks_number told.quirks; plain = flag_of told.plain }
+report_of count told = record {
+  length = count;
+  errors = told.errors;
+  at = 0;
+  quirks = quirks_number told.quirks;
+  plain = flag_of told.plain;
+}
 
 -- the report of a page of which no text was made, with the place that is told
 abbrev pub nothing_at : ℕ → FigReport
 nothing_at at = record { length = 0; errors = 0; at = at; quirks = 0; plain = 0 }
 
 abbrev pub cleaned_of : ℕ → Cleaned → FigCleaned
-cleaned_of count counts = record { length = count; at = 0; unwrapped = counts.unwrapped; dropped = counts.dropped; attributes = counts.attributes; comments = counts.comments }
+cleaned_of count counts = record {
+  length = count;
+  at = 0;
+  unwrapped = counts.unwrapped;
+  dropped = counts.dropped;
+  attributes = counts.attributes;
+  comments = counts.comments;
+}
 
 abbrev pub nothing_cleaned_at : ℕ → FigCleaned
 nothing_cleaned_at at = record { length = 0; at = at; unwrapped = 0; dropped = 0; attributes = 0; comments = 0 }

@@ -62,7 +62,8 @@ fn clean_document_text(alloc: Global, file: &[u8], page: &[u8]) -> Made
 
 /// What a policy keeps of a page as a fragment in a `div`.
 fn kept_of_fragment(alloc: Global, table: References, page: &[u8], policy: &Policy) -> Made
-    ensures ok { IfOk result (λ made. IsCleaned (IsFragmentOf table div_name) policy.now page.now (Some []) (Some []) (Some made.0.written) made.1) }
+    ensures ok { IfOk result (λ made. IsCleaned (IsFragmentOf table div_name) policy.now page.now (Some [])
+        (Some []) (Some made.0.written) made.1) }
     ensures err { IfErr result (λ failure. (file : List ℕ) → Fails file page.now failure.answer failure.at) }
 {
     let mut writer = VecWriter::new(alloc);

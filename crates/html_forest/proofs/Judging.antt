@@ -1,5 +1,6 @@
 -- What is left to judge, after a node.
-use Rattle.std.proofs.Common.{◌≡◌, ◌∙◌, ◌+◌, ◌<◌, ℕ, suc, arith, length, Bool, true, false, List, [], ◌∷◌, ◌++◌, Option, Some, None, refl, sym, ap}
+use Rattle.std.proofs.Common.{◌≡◌, ◌∙◌, ◌+◌, ◌<◌, ℕ, suc, arith, length, Bool, true, false, List, [], ◌∷◌, ◌++◌, Option, Some}
+use Rattle.std.proofs.Common.{None, refl, sym, ap}
 use Rattle.std.specs.Prelude.{◌&&◌, reverse}
 use Rattle.std.proofs.lemmas.List.{reverse-append}
 use Rattle.markup.specs.Forest as forest
@@ -14,11 +15,15 @@ use Rattle.html_plain.specs.Elements.{place_after_element, place_after_text, ele
 use Rattle.html_plain.specs.Grammar.{is_plain, is_plain_start, is_some_and}
 use Rattle.html_plain.specs.declared.elements.PlainElement.{PlainElement}
 use Rattle.html_plain.specs.declared.place.PlainPlace.TheVariants.{BeforeRoot}
-use Rattle.html_forest.specs.Judging.{AreChildrenTaken, Descends, GoesOn, IsAround, IsAscent, IsAfterComment, IsAfterDoctype, IsAfterText, IsElementTaken, IsTaken, Walk, are_levels_plain, is_left_plain, is_walk_plain, nodes_left, plain_by, trees_after, trees_by, waiting_nodes, around_of, goes_on_at, is_plain_at, opens_here, takes_comment_here, takes_here}
+use Rattle.html_forest.specs.Judging.{AreChildrenTaken, Descends, GoesOn, IsAround, IsAscent, IsAfterComment, IsAfterDoctype}
+use Rattle.html_forest.specs.Judging.{IsAfterText, IsElementTaken, IsTaken, Walk, are_levels_plain, is_left_plain}
+use Rattle.html_forest.specs.Judging.{is_walk_plain, nodes_left, plain_by, trees_after, trees_by, waiting_nodes, around_of}
+use Rattle.html_forest.specs.Judging.{goes_on_at, is_plain_at, opens_here, takes_comment_here, takes_here}
 use Rattle.html_forest.specs.declared.plain.Level.{Level}
 use Rattle.html_forest.specs.declared.plain.Stand.{Stand}
 
-pub text-goes_on : (stand : Stand) (text : List ℕ) → takes_here stand text ≡ true → IsAfterText stand text (Some (record { place = place_after_text stand.place; after_text = true }))
+pub text-goes_on : (stand : Stand) (text : List ℕ) → takes_here stand text ≡ true → IsAfterText stand text
+    (Some (record { place = place_after_text stand.place; after_text = true }))
 unfolding is_plain
 text-goes_on stand text h rest = rw h refl
 
@@ -26,7 +31,8 @@ pub text-ends : (stand : Stand) (text : List ℕ) → takes_here stand text ≡ 
 unfolding is_plain
 text-ends stand text h rest = rw h refl
 
-pub comment-goes_on : (stand : Stand) (text : List ℕ) → takes_comment_here stand text ≡ true → IsAfterComment stand text (Some (record { place = stand.place; after_text = false }))
+pub comment-goes_on : (stand : Stand) (text : List ℕ) → takes_comment_here stand text ≡ true
+    → IsAfterComment stand text (Some (record { place = stand.place; after_text = false }))
 unfolding is_plain
 comment-goes_on stand text h rest = rw h refl
 
@@ -34,28 +40,38 @@ pub comment-ends : (stand : Stand) (text : List ℕ) → takes_comment_here stan
 unfolding is_plain
 comment-ends stand text h rest = rw h refl
 
-pub doctype-goes_on : (stand : Stand) (name public_id system_id : List ℕ) → opens_here stand name public_id system_id ≡ true → IsAfterDoctype stand name public_id system_id (Some (record { place = BeforeRoot; after_text = false }))
+pub doctype-goes_on : (stand : Stand) (name public_id system_id : List ℕ)
+    → opens_here stand name public_id system_id ≡ true → IsAfterDoctype stand name public_id system_id
+    (Some (record { place = BeforeRoot; after_text = false }))
 unfolding is_plain
 doctype-goes_on stand name public_id system_id h rest = rw h refl
 
-pub doctype-ends : (stand : Stand) (name public_id system_id : List ℕ) → opens_here stand name public_id system_id ≡ false → IsAfterDoctype stand name public_id system_id None
+pub doctype-ends : (stand : Stand) (name public_id system_id : List ℕ)
+    → opens_here stand name public_id system_id ≡ false → IsAfterDoctype stand name public_id system_id None
 unfolding is_plain
 doctype-ends stand name public_id system_id h rest = rw h refl
 
-pub element-goes_on : (stand : Stand) (name : QualName) (attributes : List Attribute) (k : PlainElement) → element_of name ≡ Some k → is_plain_start stand.place attributes false k ≡ true → IsAround stand name attributes (Some (around_of stand k))
+pub element-goes_on : (stand : Stand) (name : QualName) (attributes : List Attribute) (k : PlainElement)
+    → element_of name ≡ Some k → is_plain_start stand.place attributes false k ≡ true
+    → IsAround stand name attributes (Some (around_of stand k))
 unfolding is_plain
 element-goes_on stand name attributes k e h kids rest =
-    ap (λ o. is_some_and o (λ k. is_plain_start stand.place attributes false k && (is_plain (inside stand.place k) false kids && is_plain (place_after_element stand.place) false rest))) e ∙ (rw h refl)
+    ap (λ o. is_some_and o (λ k. is_plain_start stand.place attributes false k
+    && (is_plain (inside stand.place k) false kids && is_plain (place_after_element stand.place) false rest))) e ∙ (rw h refl)
 
-pub element-ends : (stand : Stand) (name : QualName) (attributes : List Attribute) (k : PlainElement) → element_of name ≡ Some k → is_plain_start stand.place attributes false k ≡ false → IsAround stand name attributes None
+pub element-ends : (stand : Stand) (name : QualName) (attributes : List Attribute) (k : PlainElement)
+    → element_of name ≡ Some k → is_plain_start stand.place attributes false k ≡ false → IsAround stand name attributes None
 unfolding is_plain
 element-ends stand name attributes k e h kids rest =
-    ap (λ o. is_some_and o (λ k. is_plain_start stand.place attributes false k && (is_plain (inside stand.place k) false kids && is_plain (place_after_element stand.place) false rest))) e ∙ (rw h refl)
+    ap (λ o. is_some_and o (λ k. is_plain_start stand.place attributes false k
+    && (is_plain (inside stand.place k) false kids && is_plain (place_after_element stand.place) false rest))) e ∙ (rw h refl)
 
-pub no-element : (stand : Stand) (name : QualName) (attributes : List Attribute) → element_of name ≡ None → IsAround stand name attributes None
+pub no-element : (stand : Stand) (name : QualName) (attributes : List Attribute) → element_of name ≡ None
+    → IsAround stand name attributes None
 unfolding is_plain
 no-element stand name attributes e kids rest =
-    ap (λ o. is_some_and o (λ k. is_plain_start stand.place attributes false k && (is_plain (inside stand.place k) false kids && is_plain (place_after_element stand.place) false rest))) e
+    ap (λ o. is_some_and o (λ k. is_plain_start stand.place attributes false k
+    && (is_plain (inside stand.place k) false kids && is_plain (place_after_element stand.place) false rest))) e
 
 -- WALKS
 
@@ -70,7 +86,8 @@ and-true false = refl
 reverse-last : (levels : List Level) (level : Level) → reverse (levels ++ level ∷ []) ≡ level ∷ reverse levels
 reverse-last levels level = reverse-append levels (level ∷ [])
 
-waiting-more : (f : Forest) (levels : List Level) (level : Level) → waiting_nodes f (levels ++ level ∷ []) ≡ waiting_nodes f levels + suc (nodes_in f level.rest + nodes_in f level.rest)
+waiting-more : (f : Forest) (levels : List Level) (level : Level)
+    → waiting_nodes f (levels ++ level ∷ []) ≡ waiting_nodes f levels + suc (nodes_in f level.rest + nodes_in f level.rest)
 waiting-more f [] level = omega arith
 waiting-more f (first ∷ levels) level = omega (arith, waiting-more f levels level)
 
@@ -78,13 +95,16 @@ no-template : (holds rest : Bool) → ((holds && false) && rest) ≡ false
 no-template true rest = refl
 no-template false rest = refl
 
-template-by : (stand : Stand) (attributes : List Attribute) (inner outer : PlainElement → Bool) (o : Option PlainElement) → is_some_and o (λ k. is_plain_start stand.place attributes true k && (inner k && outer k)) ≡ false
+template-by : (stand : Stand) (attributes : List Attribute) (inner outer : PlainElement → Bool)
+    (o : Option PlainElement) → is_some_and o (λ k. is_plain_start stand.place attributes true k && (inner k && outer k)) ≡ false
 template-by stand attributes inner outer None = refl
 template-by stand attributes inner outer (Some k) = no-template _ _
 
-template-odd : (stand : Stand) (name : QualName) (attributes : List Attribute) (kids rest : Trees) → is_plain_at stand (Element name attributes true kids rest) ≡ false
+template-odd : (stand : Stand) (name : QualName) (attributes : List Attribute) (kids rest : Trees)
+    → is_plain_at stand (Element name attributes true kids rest) ≡ false
 unfolding is_plain
-template-odd stand name attributes kids rest = template-by stand attributes (λ k. is_plain (inside stand.place k) false kids) (λ k. is_plain (place_after_element stand.place) false rest) (element_of name)
+template-odd stand name attributes kids rest = template-by stand attributes
+    (λ k. is_plain (inside stand.place k) false kids) (λ k. is_plain (place_after_element stand.place) false rest) (element_of name)
 
 instruction-odd : (stand : Stand) (target text : List ℕ) (rest : Trees) → is_plain_at stand (ProcessingInstruction target text rest) ≡ false
 unfolding is_plain
@@ -115,9 +135,12 @@ module _ (f : Forest) (tree : IsTree f) where
   with_node w n = (w.0, n ∷ w.1, w.2)
 
   node-plain : (w : Walk) (n : ℕ) (about : forest.NodeData) → data_of f n ≡ about
-      → is_walk_plain f (with_node w n) ≡ (is_plain_at w.0 (node_before about (trees_before f (inner_of f n)) (longer_by w)) && levels_plain w)
+      → is_walk_plain f (with_node w n) ≡
+      (is_plain_at w.0 (node_before about (trees_before f (inner_of f n)) (longer_by w)) && levels_plain w)
   node-plain w n about e =
-      ap (λ t. is_plain_at w.0 t && levels_plain w) (trees-first f tree.forest tree.contents n w.1 (trees_after f (reverse w.2)) ∙ ap (λ about. node_before about (trees_before f (inner_of f n)) (longer_by w)) e)
+      ap (λ t. is_plain_at w.0 t && levels_plain w)
+      (trees-first f tree.forest tree.contents n w.1 (trees_after f (reverse w.2))
+      ∙ ap (λ about. node_before about (trees_before f (inner_of f n)) (longer_by w)) e)
 
   fewer : (old new : Walk) (n : ℕ) → new.1 ≡ old.1 → new.2 ≡ old.2 → nodes_left f new < nodes_left f (with_node old n)
   fewer old new n e k =
@@ -126,53 +149,79 @@ module _ (f : Forest) (tree : IsTree f) where
       let b : waiting_nodes f new.2 ≡ waiting_nodes f old.2 = ap (waiting_nodes f) k in
       omega (arith, one, a, b)
 
-  went-on : (old new : Walk) (behind : Option Stand) (goes_on : Bool) → GoesOn behind new.0 goes_on → new.1 ≡ old.1 → new.2 ≡ old.2 → (goes_on_at behind (longer_by old) && levels_plain old) ≡ (goes_on && is_walk_plain f new)
+  went-on : (old new : Walk) (behind : Option Stand) (goes_on : Bool) → GoesOn behind new.0 goes_on → new.1 ≡ old.1
+      → new.2 ≡ old.2 → (goes_on_at behind (longer_by old) && levels_plain old) ≡ (goes_on && is_walk_plain f new)
   went-on old new None goes_on g e k = rw g refl
   went-on old new (Some b) goes_on g e k = rw (g.1, g.0, e, k) refl
 
   -- a node in which nothing stands, after which it goes on or not
-  leaf-taken : (old new : Walk) (n : ℕ) (about : forest.NodeData) (behind : Option Stand) (goes_on : Bool) → data_of f n ≡ about → ((inner : Trees → Trees) (rest : Trees) → is_plain_at old.0 (node_before about inner rest) ≡ goes_on_at behind rest) → GoesOn behind new.0 goes_on → new.1 ≡ old.1 → new.2 ≡ old.2
+  leaf-taken : (old new : Walk) (n : ℕ) (about : forest.NodeData) (behind : Option Stand) (goes_on : Bool)
+      → data_of f n ≡ about → ((inner : Trees → Trees) (rest : Trees)
+      → is_plain_at old.0 (node_before about inner rest) ≡ goes_on_at behind rest) → GoesOn behind new.0 goes_on
+      → new.1 ≡ old.1 → new.2 ≡ old.2
       → IsTaken f n old new goes_on
   leaf-taken old new n about behind goes_on d h g e k = record {
-    plain = node-plain old n about d ∙ (ap (λ b. b && levels_plain old) (h (trees_before f (inner_of f n)) (longer_by old)) ∙ went-on old new behind goes_on g e k);
+    plain = node-plain old n about d
+        ∙ (ap (λ b. b && levels_plain old) (h (trees_before f (inner_of f n)) (longer_by old)) ∙ went-on old new behind goes_on g e k);
     less = λ on. fewer old new n e k;
   }
 
-  pub text-taken : (old new : Walk) (n : ℕ) (text : List ℕ) (behind : Option Stand) (goes_on : Bool) → data_of f n ≡ forest.NodeData.Text text → IsAfterText old.0 text behind → GoesOn behind new.0 goes_on → new.1 ≡ old.1 → new.2 ≡ old.2 → IsTaken f n old new goes_on
-  text-taken old new n text behind goes_on d h g e k = leaf-taken old new n (forest.NodeData.Text text) behind goes_on d (λ inner rest. h rest) g e k
+  pub text-taken : (old new : Walk) (n : ℕ) (text : List ℕ) (behind : Option Stand) (goes_on : Bool)
+      → data_of f n ≡ forest.NodeData.Text text → IsAfterText old.0 text behind → GoesOn behind new.0 goes_on
+      → new.1 ≡ old.1 → new.2 ≡ old.2 → IsTaken f n old new goes_on
+  text-taken old new n text behind goes_on d h g e k = leaf-taken old new n (forest.NodeData.Text text) behind
+      goes_on d (λ inner rest. h rest) g e k
 
-  pub comment-taken : (old new : Walk) (n : ℕ) (text : List ℕ) (behind : Option Stand) (goes_on : Bool) → data_of f n ≡ forest.NodeData.Comment text → IsAfterComment old.0 text behind → GoesOn behind new.0 goes_on → new.1 ≡ old.1 → new.2 ≡ old.2 → IsTaken f n old new goes_on
-  comment-taken old new n text behind goes_on d h g e k = leaf-taken old new n (forest.NodeData.Comment text) behind goes_on d (λ inner rest. h rest) g e k
+  pub comment-taken : (old new : Walk) (n : ℕ) (text : List ℕ) (behind : Option Stand) (goes_on : Bool)
+      → data_of f n ≡ forest.NodeData.Comment text → IsAfterComment old.0 text behind → GoesOn behind new.0 goes_on
+      → new.1 ≡ old.1 → new.2 ≡ old.2 → IsTaken f n old new goes_on
+  comment-taken old new n text behind goes_on d h g e k = leaf-taken old new n (forest.NodeData.Comment text) behind
+      goes_on d (λ inner rest. h rest) g e k
 
-  pub doctype-taken : (old new : Walk) (n : ℕ) (name public_id system_id : List ℕ) (behind : Option Stand) (goes_on : Bool) → data_of f n ≡ forest.NodeData.Doctype name public_id system_id → IsAfterDoctype old.0 name public_id system_id behind → GoesOn behind new.0 goes_on → new.1 ≡ old.1 → new.2 ≡ old.2 → IsTaken f n old new goes_on
-  doctype-taken old new n name public_id system_id behind goes_on d h g e k = leaf-taken old new n (forest.NodeData.Doctype name public_id system_id) behind goes_on d (λ inner rest. h rest) g e k
+  pub doctype-taken : (old new : Walk) (n : ℕ) (name public_id system_id : List ℕ) (behind : Option Stand)
+      (goes_on : Bool) → data_of f n ≡ forest.NodeData.Doctype name public_id system_id
+      → IsAfterDoctype old.0 name public_id system_id behind → GoesOn behind new.0 goes_on → new.1 ≡ old.1
+      → new.2 ≡ old.2 → IsTaken f n old new goes_on
+  doctype-taken old new n name public_id system_id behind goes_on d h g e k = leaf-taken old new n
+      (forest.NodeData.Doctype name public_id system_id) behind goes_on d (λ inner rest. h rest) g e k
 
   -- a node that may stand nowhere
-  odd : (old new : Walk) (n : ℕ) (about : forest.NodeData) → data_of f n ≡ about → is_plain_at old.0 (node_before about (trees_before f (inner_of f n)) (longer_by old)) ≡ false → IsTaken f n old new false
+  odd : (old new : Walk) (n : ℕ) (about : forest.NodeData) → data_of f n ≡ about
+      → is_plain_at old.0 (node_before about (trees_before f (inner_of f n)) (longer_by old)) ≡ false → IsTaken f n old new false
   odd old new n about d h = record { plain = node-plain old n about d ∙ ap (λ b. b && levels_plain old) h; less = λ on. absurd cc }
 
-  pub instruction-taken : (old new : Walk) (n : ℕ) (target text : List ℕ) → data_of f n ≡ forest.NodeData.ProcessingInstruction target text → IsTaken f n old new false
+  pub instruction-taken : (old new : Walk) (n : ℕ) (target text : List ℕ)
+      → data_of f n ≡ forest.NodeData.ProcessingInstruction target text → IsTaken f n old new false
   instruction-taken old new n target text d = odd old new n _ d (instruction-odd old.0 target text _)
 
-  pub template-taken : (old new : Walk) (n : ℕ) (name : QualName) (attributes : List Attribute) (integration_point : Bool) → data_of f n ≡ forest.NodeData.Element name attributes true integration_point → IsTaken f n old new false
+  pub template-taken : (old new : Walk) (n : ℕ) (name : QualName) (attributes : List Attribute)
+      (integration_point : Bool) → data_of f n ≡ forest.NodeData.Element name attributes true integration_point → IsTaken f n old new false
   template-taken old new n name attributes integration_point d = odd old new n _ d (template-odd old.0 name attributes _ _)
 
-  deeper : (old new : Walk) (n : ℕ) (behind : Option Stand) → inner_of f n ≡ children_of f n → Descends f n behind old new → nodes_left f new < nodes_left f (with_node old n)
+  deeper : (old new : Walk) (n : ℕ) (behind : Option Stand) → inner_of f n ≡ children_of f n
+      → Descends f n behind old new → nodes_left f new < nodes_left f (with_node old n)
   deeper old new n behind i d =
       let one = nodes-first f tree.forest tree.contents n old.1 in
       let a : nodes_in f new.1 ≡ nodes_in f (inner_of f n) = ap (nodes_in f) (d.0 ∙ sym i) in
-      let b : waiting_nodes f new.2 ≡ waiting_nodes f old.2 + suc (nodes_in f old.1 + nodes_in f old.1) = ap (waiting_nodes f) d.1 ∙ waiting-more f old.2 (record { behind = behind; rest = old.1 }) in
+      let b : waiting_nodes f new.2 ≡ waiting_nodes f old.2 + suc (nodes_in f old.1 + nodes_in f old.1) =
+      ap (waiting_nodes f) d.1 ∙ waiting-more f old.2 (record { behind = behind; rest = old.1 }) in
       omega (arith, one, a, b)
 
   -- what a walk comes to once it went down
   down : (old new : Walk) (n : ℕ) (behind : Option Stand) → Descends f n behind old new
-      → is_walk_plain f new ≡ (is_plain_at new.0 (trees_before f (children_of f n) (trees_by f behind old.1 (trees_after f (reverse old.2)))) && plain_by f behind old.1 (trees_after f (reverse old.2)) (levels_plain old))
+      → is_walk_plain f new ≡ (is_plain_at new.0
+      (trees_before f (children_of f n) (trees_by f behind old.1 (trees_after f (reverse old.2))))
+      && plain_by f behind old.1 (trees_after f (reverse old.2)) (levels_plain old))
   down old new n behind d =
       ap (λ ns. is_left_plain f new.0 ns new.2) d.0
       ∙ (ap (λ ls. is_left_plain f new.0 (children_of f n) ls) d.1
-      ∙ ap (λ ls. is_plain_at new.0 (trees_before f (children_of f n) (trees_after f ls)) && are_levels_plain f ls) (reverse-last old.2 (record { behind = behind; rest = old.1 })))
+      ∙ ap (λ ls. is_plain_at new.0 (trees_before f (children_of f n) (trees_after f ls)) && are_levels_plain f ls)
+      (reverse-last old.2 (record { behind = behind; rest = old.1 })))
 
-  pub children-taken : (old new : Walk) (n : ℕ) (goes_on : Bool) (about : forest.NodeData) → data_of f n ≡ about → inner_of f n ≡ children_of f n → ((inner : Trees → Trees) (rest : Trees) → node_before about inner rest ≡ inner rest) → AreChildrenTaken f n old new goes_on → IsTaken f n old new goes_on
+  pub children-taken : (old new : Walk) (n : ℕ) (goes_on : Bool) (about : forest.NodeData) → data_of f n ≡ about
+      → inner_of f n ≡ children_of f n
+      → ((inner : Trees → Trees) (rest : Trees) → node_before about inner rest ≡ inner rest)
+      → AreChildrenTaken f n old new goes_on → IsTaken f n old new goes_on
   children-taken old new n goes_on about d i same h = record {
     plain =
         node-plain old n about d
@@ -183,7 +232,9 @@ module _ (f : Forest) (tree : IsTree f) where
     less = λ on. deeper old new n None i h.2;
   }
 
-  pub element-taken : (old new : Walk) (n : ℕ) (name : QualName) (attributes : List Attribute) (integration_point goes_on : Bool) → data_of f n ≡ forest.NodeData.Element name attributes false integration_point → IsElementTaken f n name attributes old new goes_on → IsTaken f n old new goes_on
+  pub element-taken : (old new : Walk) (n : ℕ) (name : QualName) (attributes : List Attribute)
+      (integration_point goes_on : Bool) → data_of f n ≡ forest.NodeData.Element name attributes false
+      integration_point → IsElementTaken f n name attributes old new goes_on → IsTaken f n old new goes_on
   element-taken old new n name attributes integration_point false d h = odd old new n _ d (h _ _)
   element-taken old new n name attributes integration_point true d h =
       let i : inner_of f n ≡ children_of f n = inner-plain f n _ refl (ap template_of d) in record {
@@ -205,11 +256,16 @@ module _ (f : Forest) (tree : IsTree f) where
       ∙ (ap (λ t. is_plain_at w.0 t && true) (trees-none f Nothing)
       ∙ (and-true (is_plain_at w.0 Nothing) ∙ nothing-plain w.0)))
 
-  ascent-by : (behind : Option Stand) (rest : List ℕ) (t : Trees) (above : Bool) (old new : Stand) (ends : Bool) → IsAscent behind old new ends → (is_plain_at old (trees_by f behind rest t) && plain_by f behind rest t above) ≡ (ends && (is_plain_at new (trees_before f rest t) && above))
+  ascent-by : (behind : Option Stand) (rest : List ℕ) (t : Trees) (above : Bool) (old new : Stand) (ends : Bool)
+      → IsAscent behind old new ends
+      → (is_plain_at old (trees_by f behind rest t) && plain_by f behind rest t above) ≡
+      (ends && (is_plain_at new (trees_before f rest t) && above))
   ascent-by None rest t above old new ends h = rw (h.0, h.1) refl
-  ascent-by (Some b) rest t above old new ends h = rw (h.0, h.1) (ap (λ x. x && (is_plain_at b (trees_before f rest t) && above)) (nothing-plain old))
+  ascent-by (Some b) rest t above old new ends h =
+      rw (h.0, h.1) (ap (λ x. x && (is_plain_at b (trees_before f rest t) && above)) (nothing-plain old))
 
-  pub ascended : (w : Walk) (new : Stand) (init : List Level) (level : Level) (ends : Bool) → w.1 ≡ [] → w.2 ≡ init ++ level ∷ [] → IsAscent level.behind w.0 new ends → is_walk_plain f w ≡ (ends && is_walk_plain f (new, level.rest, init))
+  pub ascended : (w : Walk) (new : Stand) (init : List Level) (level : Level) (ends : Bool) → w.1 ≡ [] → w.2 ≡ init
+      ++ level ∷ [] → IsAscent level.behind w.0 new ends → is_walk_plain f w ≡ (ends && is_walk_plain f (new, level.rest, init))
   ascended w new init level ends e k h =
       ap (λ ls. is_left_plain f w.0 w.1 ls) k
       ∙ (ap (λ ns. is_left_plain f w.0 ns (init ++ level ∷ [])) e
@@ -218,20 +274,26 @@ module _ (f : Forest) (tree : IsTree f) where
       ∙ ascent-by level.behind level.rest (trees_after f (reverse init)) (are_levels_plain f (reverse init)) w.0 new ends h)))
 
   -- where a level goes on: where those before it may not end nothing is plain, and else what is left is
-  pub ascent-odd : (w v : Walk) (init : List Level) (level : Level) (ends whole : Bool) → w.1 ≡ [] → w.2 ≡ init ++ level ∷ [] → IsAscent level.behind w.0 v.0 ends → ends ≡ false → is_walk_plain f w ≡ whole → false ≡ whole
-  ascent-odd w v init level ends whole e k h odd is = sym (ap (λ b. b && is_walk_plain f (v.0, level.rest, init)) odd) ∙ (sym (ascended w v.0 init level ends e k h) ∙ is)
+  pub ascent-odd : (w v : Walk) (init : List Level) (level : Level) (ends whole : Bool) → w.1 ≡ [] → w.2 ≡ init
+      ++ level ∷ [] → IsAscent level.behind w.0 v.0 ends → ends ≡ false → is_walk_plain f w ≡ whole → false ≡ whole
+  ascent-odd w v init level ends whole e k h odd is =
+      sym (ap (λ b. b && is_walk_plain f (v.0, level.rest, init)) odd) ∙ (sym (ascended w v.0 init level ends e k h) ∙ is)
 
-  pub ascent-kept : (w v : Walk) (init : List Level) (level : Level) (ends whole : Bool) → w.1 ≡ [] → w.2 ≡ init ++ level ∷ [] → IsAscent level.behind w.0 v.0 ends → v.1 ≡ level.rest → v.2 ≡ init → ends ≡ true → is_walk_plain f w ≡ whole → is_walk_plain f v ≡ whole
+  pub ascent-kept : (w v : Walk) (init : List Level) (level : Level) (ends whole : Bool) → w.1 ≡ [] → w.2 ≡ init
+      ++ level ∷ [] → IsAscent level.behind w.0 v.0 ends → v.1 ≡ level.rest → v.2 ≡ init → ends ≡ true
+      → is_walk_plain f w ≡ whole → is_walk_plain f v ≡ whole
   ascent-kept w v init level ends whole e k h r i even is =
       ap (λ ns. is_left_plain f v.0 ns v.2) r
       ∙ (ap (λ ls. is_left_plain f v.0 level.rest ls) i
       ∙ (sym (ap (λ b. b && is_walk_plain f (v.0, level.rest, init)) even) ∙ (sym (ascended w v.0 init level ends e k h) ∙ is)))
 
   -- less is left once a level is gone
-  pub ascent-less : (w v : Walk) (init : List Level) (level : Level) → w.1 ≡ [] → w.2 ≡ init ++ level ∷ [] → v.1 ≡ level.rest → v.2 ≡ init → nodes_left f v < nodes_left f w
+  pub ascent-less : (w v : Walk) (init : List Level) (level : Level) → w.1 ≡ [] → w.2 ≡ init ++ level ∷
+      [] → v.1 ≡ level.rest → v.2 ≡ init → nodes_left f v < nodes_left f w
   ascent-less w v init level e k r i =
       let a : nodes_in f w.1 ≡ 0 = ap (nodes_in f) e ∙ nodes-none f in
-      let b : waiting_nodes f w.2 ≡ waiting_nodes f init + suc (nodes_in f level.rest + nodes_in f level.rest) = ap (waiting_nodes f) k ∙ waiting-more f init level in
+      let b : waiting_nodes f w.2 ≡ waiting_nodes f init + suc (nodes_in f level.rest + nodes_in f level.rest) =
+      ap (waiting_nodes f) k ∙ waiting-more f init level in
       let c : nodes_in f v.1 ≡ nodes_in f level.rest = ap (nodes_in f) r in
       let d : waiting_nodes f v.2 ≡ waiting_nodes f init = ap (waiting_nodes f) i in
       omega (arith, a, b, c, d)

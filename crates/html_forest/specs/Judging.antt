@@ -47,15 +47,20 @@ IsAfterComment stand text behind = (rest : Trees) → is_plain_at stand (Comment
 
 -- and after a doctype
 abbrev pub IsAfterDoctype : Stand → List ℕ → List ℕ → List ℕ → Option Stand → Type 0
-IsAfterDoctype stand name public_id system_id behind = (rest : Trees) → is_plain_at stand (Doctype name public_id system_id rest) ≡ goes_on_at behind rest
+IsAfterDoctype stand name public_id system_id behind = (rest : Trees)
+    → is_plain_at stand (Doctype name public_id system_id rest) ≡ goes_on_at behind rest
 
 -- and in and after an element that is no template
 abbrev pub IsAround : Stand → QualName → List Attribute → Option Around → Type 0
-IsAround stand name attributes around = (kids rest : Trees) → is_plain_at stand (Element name attributes false kids rest) ≡ both_at around kids rest
+IsAround stand name attributes around = (kids rest : Trees)
+    → is_plain_at stand (Element name attributes false kids rest) ≡ both_at around kids rest
 
 -- where nodes stand in and after an element that may stand here
 abbrev pub around_of : Stand → PlainElement → Around
-around_of stand k = record { inside = record { place = inside stand.place k; after_text = false }; behind = record { place = place_after_element stand.place; after_text = false } }
+around_of stand k = record {
+  inside = record { place = inside stand.place k; after_text = false };
+  behind = record { place = place_after_element stand.place; after_text = false };
+}
 
 -- trees after others, where no other place is given for them
 abbrev pub trees_by : Forest → Option Stand → List ℕ → Trees → Trees
@@ -78,7 +83,8 @@ are_levels_plain f (level ∷ levels) = plain_by f level.behind level.rest (tree
 
 -- whether all that is left is plain: nodes from a stand on, and the levels that wait, of which the last comes first
 abbrev pub is_left_plain : Forest → Stand → List ℕ → List Level → Bool
-is_left_plain f stand rest levels = is_plain_at stand (trees_before f rest (trees_after f (reverse levels))) && are_levels_plain f (reverse levels)
+is_left_plain f stand rest levels = is_plain_at stand (trees_before f rest (trees_after f (reverse levels)))
+    && are_levels_plain f (reverse levels)
 
 -- from where some nodes end to where those that waited after them begin, and whether the first may end there
 abbrev pub IsAscent : Option Stand → Stand → Stand → Bool → Type 0
@@ -101,7 +107,8 @@ Descends f n behind old new = (new.1 ≡ children_of f n) × (new.2 ≡ old.2 ++
 -- the walk goes on in an element, or ends
 abbrev pub IsElementTaken : Forest → ℕ → QualName → List Attribute → Walk → Walk → Bool → Type 0
 IsElementTaken f n name attributes old new false = IsAround old.0 name attributes None
-IsElementTaken f n name attributes old new true = (behind : Stand) × (IsAround old.0 name attributes (Some (record { inside = new.0; behind = behind })) × Descends f n (Some behind) old new)
+IsElementTaken f n name attributes old new true = (behind : Stand)
+    × (IsAround old.0 name attributes (Some (record { inside = new.0; behind = behind })) × Descends f n (Some behind) old new)
 
 -- the walk goes on among the children of a node, and then after it
 abbrev pub AreChildrenTaken : Forest → ℕ → Walk → Walk → Bool → Type 0

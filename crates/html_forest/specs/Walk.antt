@@ -1,5 +1,6 @@
 -- The walk of a node: what is still to be called, and what a turn of it does.
-use Rattle.std.specs.Prelude.{◌≡◌, ◌==◌, ◌&&◌, ℕ, zero, suc, ◌+◌, ◌-◌, ◌<◌, Bool, true, cond, is_none, List, [], ◌∷◌, ◌++◌, Option, Some, None, IfSome, Result, Ok, Err}
+use Rattle.std.specs.Prelude.{◌≡◌, ◌==◌, ◌&&◌, ℕ, zero, suc, ◌+◌, ◌-◌, ◌<◌, Bool, true, cond, is_none, List, [], ◌∷◌, ◌++◌}
+use Rattle.std.specs.Prelude.{Option, Some, None, IfSome, Result, Ok, Err}
 use Rattle.markup.specs.Calls.{Call, Refuses, Step, Stops, calls_before, ended, first_calls, run}
 use Rattle.markup.specs.Forest.{Forest, children_of, data_of, element_name, holds_children, is_among, is_contents, parent_of}
 use Rattle.markup.specs.Trees.{Trees, inner_of, trees_of, weight}
@@ -44,7 +45,8 @@ from f (Some n) = n ∷ behind f n
 -- what is called once what stands in a node was walked that lies so deep below the root
 unfoldable pub calls_above : Forest → ℕ → ℕ → ℕ → List Call
 calls_above f root zero n = []
-calls_above f root (suc depth) n = ended (element_name (data_of f n)) (calls_before (trees_of f (behind f n)) (calls_above f root depth (up_of f root depth n)))
+calls_above f root (suc depth) n = ended (element_name (data_of f n))
+    (calls_before (trees_of f (behind f n)) (calls_above f root depth (up_of f root depth n)))
 
 -- two for each node that is then left, and one for each that ends
 unfoldable pub size_above : Forest → ℕ → ℕ → ℕ → ℕ
@@ -86,5 +88,6 @@ IsAhead step old calls left new = (made : List Call) × ((calls ≡ made ++ left
 
 -- some of the calls were made, the others are left at another place, and less is left to walk; or a call was refused
 abbrev pub Advances : {S : Type 0} → Step S → Refuses S → Forest → ℕ → S → Spot → Result Spot SerializeFault → S → Type 0
-Advances step refuses f root old spot (Ok next) new = IsSpot f root next × IsAhead step old (calls_left f root spot) (calls_left f root next) new × (size_left f root next < size_left f root spot)
+Advances step refuses f root old spot (Ok next) new = IsSpot f root next × IsAhead step old (calls_left f root spot)
+    (calls_left f root next) new × (size_left f root next < size_left f root spot)
 Advances step refuses f root old spot (Err fault) new = Stops step refuses old (calls_left f root spot) fault new

@@ -44,7 +44,8 @@ pub fn join_text(
     requires there { at < vec_len nodes.old }
     requires stored { AreStored store.old (entries_of nodes.old.items) }
     ensures joined { IfOk result (λ joined. joined ≡ is_some (text_of (about_at (abouts_of store.old nodes.old.items) at))) }
-    ensures ok { OnOk result (abouts_of store.new nodes.new.items ≡ joined_abouts (abouts_of store.old nodes.old.items) at more.now (text_of (about_at (abouts_of store.old nodes.old.items) at))) }
+    ensures ok { OnOk result (abouts_of store.new nodes.new.items ≡ joined_abouts
+        (abouts_of store.old nodes.old.items) at more.now (text_of (about_at (abouts_of store.old nodes.old.items) at))) }
     ensures err { OnErr result (abouts_of store.new nodes.new.items ≡ abouts_of store.old nodes.old.items) }
     ensures fault { IfErr result (λ fault. fault ≡ Memory) }
     ensures stored { AreStored store.new (entries_of nodes.new.items) }
@@ -96,7 +97,8 @@ pub fn add_attributes(
 ) -> Result<(), ParseFault>
     requires there { at < vec_len nodes.old }
     requires stored { AreStored store.now (entries_of nodes.old.items) }
-    ensures ok { OnOk result (abouts_of store.now nodes.new.items ≡ about_with (abouts_of store.now nodes.old.items) at (with_attributes (about_at (abouts_of store.now nodes.old.items) at) others)) }
+    ensures ok { OnOk result (abouts_of store.now nodes.new.items ≡ about_with (abouts_of store.now nodes.old.items)
+        at (with_attributes (about_at (abouts_of store.now nodes.old.items) at) others)) }
     ensures err { OnErr result (abouts_of store.now nodes.new.items ≡ abouts_of store.now nodes.old.items) }
     ensures fault { IfErr result (λ fault. fault ≡ Memory) }
     ensures stored { AreStored store.now (entries_of nodes.new.items) }

@@ -1,5 +1,6 @@
 //! A forest of nodes in a vector.
-ghost use Rattle.std.specs.Prelude.{◌≡◌, ◌≤◌, ◌<◌, ◌^◌, ℕ, IsSome, IfSome, IfNone, IfOk, IfErr, OnOk, OnErr, None, Some, true, false, codes, is_some, nat_lt};
+ghost use Rattle.std.specs.Prelude.{◌≡◌, ◌≤◌, ◌<◌, ◌^◌, ℕ, IsSome, IfSome, IfNone, IfOk, IfErr, OnOk, OnErr, None, Some, true};
+ghost use Rattle.std.specs.Prelude.{false, codes, is_some, nat_lt};
 ghost use Rattle.markup.specs.declared.fault.ParseFault.TheVariants.{Memory};
 ghost use Rattle.html_forest.specs.Views.{contents_in, data_view, joined_if, place_view};
 
@@ -18,7 +19,8 @@ use std::alloc::Global;
 use std::borrow::CowStr;
 use std::marker::Model;
 
-/// A forest: the document, and what was put under it or made beside it. A contract sees the data and the children of each node, the quirks mode and the number of errors.
+/// A forest: the document, and what was put under it or made beside it. A contract sees the data and the children of each node, the
+/// quirks mode and the number of errors.
 #[derive(Debug, Drop)]
 pub struct Forest {
     alloc: Global,
@@ -36,7 +38,8 @@ impl Model for Forest {
 
     ghost view = { λ a. forest_view a.store a.nodes.items a.quirks a.errors };
 
-    ghost invariant = { λ a. IsHeld (forest_view a.store a.nodes.items a.quirks a.errors) a.store (entries_of a.nodes.items) (links_of a.nodes.items) };
+    ghost invariant = { λ a. IsHeld (forest_view a.store a.nodes.items a.quirks a.errors) a.store
+        (entries_of a.nodes.items) (links_of a.nodes.items) };
 }
 
 impl Forest {
@@ -45,7 +48,10 @@ impl Forest {
     ghost use Rattle.markup.specs.Named.{HasContents, IsOrdinary};
     ghost use Rattle.markup.specs.Forest.NodeData.{Contents, Doctype, Element, Text as TextNode};
     ghost use Rattle.html_forest.specs.Links.{first_of, next_under, previous_under};
-    ghost use Rattle.markup.specs.Forest.{IsForest, IsLoose, IsPlace, MayPut, children_of, contents_of, data_if, data_of, element_name, empty_forest, is_contents, last_of, node_count, parent_at, parent_of, place_before, place_near, previous_at, put, put_child, put_new, put_text, text_of, with_node};
+    ghost use Rattle.markup.specs.Forest.{IsForest, IsLoose, IsPlace, MayPut, children_of, contents_of, data_if, data_of};
+    ghost use Rattle.markup.specs.Forest.{element_name, empty_forest, is_contents, last_of, node_count, parent_at, parent_of};
+    ghost use Rattle.markup.specs.Forest.{place_before, place_near, previous_at, put, put_child, put_new, put_text, text_of};
+    ghost use Rattle.markup.specs.Forest.{with_node};
 
     /// A document with nothing in it, in no quirks mode and with no error. It grows in the memory of `alloc`.
     pub fn new(alloc: Global) -> Result<Forest, ParseFault>
@@ -229,7 +235,8 @@ impl Forest {
     ) -> Result<NodeId, ParseFault>
         requires { IsOrdinary (Element name attrs flags.template flags.mathml_annotation_xml_integration_point) }
         ensures named { IfOk result (λ made. made ≡ node_count self.old) }
-        ensures ok { OnOk result (self.new ≡ with_node self.old (Element name attrs flags.template flags.mathml_annotation_xml_integration_point)) }
+        ensures ok { OnOk result (self.new ≡ with_node self.old
+            (Element name attrs flags.template flags.mathml_annotation_xml_integration_point)) }
         ensures err { OnErr result (self.new ≡ self.old) }
         ensures fault { IfErr result (λ fault. fault ≡ Memory) }
     {
@@ -249,7 +256,8 @@ impl Forest {
     ) -> Result<NodeId, ParseFault>
         requires { IsOrdinary (Element (html_name name) attrs flags.template flags.mathml_annotation_xml_integration_point) }
         ensures named { IfOk result (λ made. made ≡ node_count self.old) }
-        ensures ok { OnOk result (self.new ≡ with_node self.old (Element (html_name name) attrs flags.template flags.mathml_annotation_xml_integration_point)) }
+        ensures ok { OnOk result (self.new ≡ with_node self.old
+            (Element (html_name name) attrs flags.template flags.mathml_annotation_xml_integration_point)) }
         ensures err { OnErr result (self.new ≡ self.old) }
         ensures fault { IfErr result (λ fault. fault ≡ Memory) }
     {
@@ -303,7 +311,8 @@ impl Forest {
         requires named { is_html_name (Some name) (codes "template") ≡ true }
         requires template { flags.template ≡ true }
         ensures named { IfOk result (λ made. made ≡ node_count self.old) }
-        ensures ok { OnOk result (self.new ≡ with_node (with_node self.old (Element name attrs flags.template flags.mathml_annotation_xml_integration_point)) Contents) }
+        ensures ok { OnOk result (self.new ≡ with_node
+            (with_node self.old (Element name attrs flags.template flags.mathml_annotation_xml_integration_point)) Contents) }
         ensures err { OnErr result (self.new ≡ self.old) }
         ensures fault { IfErr result (λ fault. fault ≡ Memory) }
     {
@@ -373,8 +382,10 @@ impl Forest {
     /// Adds text at the end of the text just before a place, and says whether one stands there.
     fn join_text(&mut self, place: &Place, text: &Text) -> Result<bool, ParseFault>
         requires { IsPlace self.old (place_view place.now) }
-        ensures joined { IfOk result (λ joined. joined ≡ is_some (text_of (data_if self.old (previous_at self.old (place_view place.now))))) }
-        ensures ok { OnOk result (self.new ≡ joined_if self.old text.now (previous_at self.old (place_view place.now)) (text_of (data_if self.old (previous_at self.old (place_view place.now))))) }
+        ensures joined { IfOk result
+            (λ joined. joined ≡ is_some (text_of (data_if self.old (previous_at self.old (place_view place.now))))) }
+        ensures ok { OnOk result (self.new ≡ joined_if self.old text.now
+            (previous_at self.old (place_view place.now)) (text_of (data_if self.old (previous_at self.old (place_view place.now))))) }
         ensures err { OnErr result (self.new ≡ self.old) }
         ensures fault { IfErr result (λ fault. fault ≡ Memory) }
     {
@@ -421,7 +432,8 @@ impl Forest {
 
 impl TreeSink for Forest {
     ghost use Rattle.std.specs.Prelude.{ℕ};
-    ghost use Rattle.markup.specs.Forest.{IsNode, IsParent, MayPut, data_of, integration_point_of, node_count, parent_of, place_before, place_near, put_child};
+    ghost use Rattle.markup.specs.Forest.{IsNode, IsParent, MayPut, data_of, integration_point_of, node_count, parent_of};
+    ghost use Rattle.markup.specs.Forest.{place_before, place_near, put_child};
     ghost use Rattle.markup.specs.Forest.Place.{Last};
     ghost use Rattle.html_forest.specs.declared.node.NodeId.{NodeId};
 
@@ -531,7 +543,8 @@ impl TreeSink for Forest {
     ) -> Result<(), ParseFault>
         requires sibling { IsSome (parent_of self.old sibling.now) }
         requires child { MayPut (λ (id : ℕ). id) self.old (place_before sibling.now (parent_of self.old sibling.now)) child }
-        ensures ok { OnOk result (self.new ≡ put_child (λ (id : ℕ). id) self.old (place_before sibling.now (parent_of self.old sibling.now)) child) }
+        ensures ok { OnOk result (self.new ≡ put_child (λ (id : ℕ). id) self.old
+            (place_before sibling.now (parent_of self.old sibling.now)) child) }
         ensures err { OnErr result (self.new ≡ self.old) }
         ensures fault { IfErr result (λ fault. fault ≡ Memory) }
         ensures grows { node_count self.old ≤ node_count self.new }
@@ -549,7 +562,8 @@ impl TreeSink for Forest {
         requires element { IsNode self.old element.now }
         requires previous { IsParent self.old previous.now }
         requires child { MayPut (λ (id : ℕ). id) self.old (place_near element.now previous.now (parent_of self.old element.now)) child }
-        ensures ok { OnOk result (self.new ≡ put_child (λ (id : ℕ). id) self.old (place_near element.now previous.now (parent_of self.old element.now)) child) }
+        ensures ok { OnOk result (self.new ≡ put_child (λ (id : ℕ). id) self.old
+            (place_near element.now previous.now (parent_of self.old element.now)) child) }
         ensures err { OnErr result (self.new ≡ self.old) }
         ensures fault { IfErr result (λ fault. fault ≡ Memory) }
         ensures grows { node_count self.old ≤ node_count self.new }

@@ -1,7 +1,8 @@
 //! Changes of the nodes, one at a time. They know nothing of what makes a forest.
 ghost use Rattle.std.specs.Prelude.{◌≡◌, ◌+◌, ◌<◌, ℕ, ◌∷◌, ◌++◌, [], Some, None, IfSome, slice_set, vec_len};
 ghost use Rattle.std.specs.Vec.{vec_capacity};
-ghost use Rattle.html_forest.specs.Links.{adopted, before_set, after_set, emptied, ended_by, led_by, link_at, moved_after, moved_to, no_links, placed, unplaced};
+ghost use Rattle.html_forest.specs.Links.{adopted, before_set, after_set, emptied, ended_by, led_by, link_at, moved_after};
+ghost use Rattle.html_forest.specs.Links.{moved_to, no_links, placed, unplaced};
 ghost use Rattle.html_forest.specs.Views.{entries_of, links_of, walk_from, IsWalk};
 
 use crate::entry::Entry;
@@ -95,7 +96,8 @@ fn set_before(nodes: &mut Vec<Node>, parent: NodeId, next: Option<NodeId>, to: L
 fn set_place(nodes: &mut Vec<Node>, child: NodeId, parent: Link, previous: Link, next: Link)
     requires { child < vec_len nodes.old }
     ensures entries { entries_of nodes.new.items ≡ entries_of nodes.old.items }
-    ensures links { (n : ℕ) → link_at (links_of nodes.new.items) n ≡ moved_to child parent previous next n (link_at (links_of nodes.old.items) n) }
+    ensures links { (n : ℕ) → link_at (links_of nodes.new.items) n ≡ moved_to child parent previous next n
+        (link_at (links_of nodes.old.items) n) }
     ensures len { vec_len nodes.new ≡ vec_len nodes.old }
 {
     let mut changed = links(nodes, child);
@@ -118,7 +120,8 @@ pub fn link_between(
     requires next { IfSome next (λ id. id < vec_len nodes.old) }
     requires child { child < vec_len nodes.old }
     ensures entries { entries_of nodes.new.items ≡ entries_of nodes.old.items }
-    ensures links { (n : ℕ) → link_at (links_of nodes.new.items) n ≡ placed parent previous next child n (link_at (links_of nodes.old.items) n) }
+    ensures links { (n : ℕ) → link_at (links_of nodes.new.items) n ≡ placed parent previous next child n
+        (link_at (links_of nodes.old.items) n) }
     ensures len { vec_len nodes.new ≡ vec_len nodes.old }
 {
     let above = Link::new(Some(parent));
@@ -136,7 +139,9 @@ pub fn unlink(nodes: &mut Vec<Node>, parent: NodeId, child: NodeId)
     requires previous { IfSome (link_at (links_of nodes.old.items) child).previous (λ id. id < vec_len nodes.old) }
     requires next { IfSome (link_at (links_of nodes.old.items) child).next (λ id. id < vec_len nodes.old) }
     ensures entries { entries_of nodes.new.items ≡ entries_of nodes.old.items }
-    ensures links { (n : ℕ) → link_at (links_of nodes.new.items) n ≡ unplaced parent (link_at (links_of nodes.old.items) child).previous (link_at (links_of nodes.old.items) child).next child n (link_at (links_of nodes.old.items) n) }
+    ensures links { (n : ℕ) → link_at (links_of nodes.new.items) n ≡ unplaced parent
+        (link_at (links_of nodes.old.items) child).previous (link_at (links_of nodes.old.items) child).next child n
+        (link_at (links_of nodes.old.items) n) }
     ensures len { vec_len nodes.new ≡ vec_len nodes.old }
 {
     let Links { previous, next, .. } = links(nodes, child);
@@ -150,7 +155,8 @@ fn adopt(nodes: &mut Vec<Node>, first: Option<NodeId>, parent: NodeId)
     requires first { IsWalk nodes.old.items first }
     requires parent { parent < vec_len nodes.old }
     ensures entries { entries_of nodes.new.items ≡ entries_of nodes.old.items }
-    ensures links { (n : ℕ) → link_at (links_of nodes.new.items) n ≡ adopted parent (walk_from nodes.old.items first) n (link_at (links_of nodes.old.items) n) }
+    ensures links { (n : ℕ) → link_at (links_of nodes.new.items) n ≡ adopted parent
+        (walk_from nodes.old.items first) n (link_at (links_of nodes.old.items) n) }
     ensures len { vec_len nodes.new ≡ vec_len nodes.old }
 {
     let mut at = first;
@@ -207,7 +213,10 @@ pub fn move_children(nodes: &mut Vec<Node>, from: NodeId, to: NodeId)
     requires first { IfSome (link_at (links_of nodes.old.items) from).first (λ id. id < vec_len nodes.old) }
     requires tail { IfSome (link_at (links_of nodes.old.items) to).last (λ id. id < vec_len nodes.old) }
     ensures entries { entries_of nodes.new.items ≡ entries_of nodes.old.items }
-    ensures links { (n : ℕ) → link_at (links_of nodes.new.items) n ≡ moved_after from to (link_at (links_of nodes.old.items) to).last (link_at (links_of nodes.old.items) from).first (link_at (links_of nodes.old.items) from).last (walk_from nodes.old.items (link_at (links_of nodes.old.items) from).first) n (link_at (links_of nodes.old.items) n) }
+    ensures links { (n : ℕ) → link_at (links_of nodes.new.items) n ≡ moved_after from to
+        (link_at (links_of nodes.old.items) to).last (link_at (links_of nodes.old.items) from).first
+        (link_at (links_of nodes.old.items) from).last
+        (walk_from nodes.old.items (link_at (links_of nodes.old.items) from).first) n (link_at (links_of nodes.old.items) n) }
     ensures len { vec_len nodes.new ≡ vec_len nodes.old }
 {
     let Links { first, last, .. } = links(nodes, from);

@@ -5,7 +5,9 @@ ghost use Rattle.markup.specs.Named.{IsTree};
 ghost use Rattle.markup.specs.declared.fault.ParseFault.TheVariants.{Memory};
 ghost use Rattle.html_plain.specs.Grammar.{is_plain_forest, is_plain_start};
 ghost use Rattle.html_forest.specs.Views.{attributes, characters};
-ghost use Rattle.html_forest.specs.Judging.{AreChildrenTaken, GoesOn, IsAround, IsAscent, IsAfterComment, IsAfterDoctype, IsAfterText, IsElementTaken, IsTaken, around_of, opens_here, takes_comment_here, takes_here};
+ghost use Rattle.html_forest.specs.Judging.{AreChildrenTaken, GoesOn, IsAround, IsAscent, IsAfterComment, IsAfterDoctype};
+ghost use Rattle.html_forest.specs.Judging.{IsAfterText, IsElementTaken, IsTaken, around_of, opens_here, takes_comment_here};
+ghost use Rattle.html_forest.specs.Judging.{takes_here};
 
 use crate::children::Children;
 use crate::forest::Forest;
@@ -184,7 +186,10 @@ impl<'a> Judge<'a> {
         id: NodeId,
         behind: Option<Stand>,
     ) -> Result<(), ParseFault>
-        ensures waiting { OnOk result (self.new.waiting.items ≡ self.old.waiting.items ++ record { behind = behind; rest = self.old.rest } ∷ []) }
+        ensures waiting { OnOk result (self.new.waiting.items ≡ self.old.waiting.items ++ record {
+          behind = behind;
+          rest = self.old.rest;
+        } ∷ []) }
         ensures rest { OnOk result (self.new.rest ≡ children_of forest.now id) }
         ensures stand { OnOk result (self.new.stand ≡ self.old.stand) }
         ensures fault { IfErr result (λ fault. fault ≡ Memory) }
@@ -237,7 +242,8 @@ impl<'a> Judge<'a> {
         name: &QualName,
         attrs: AttributesRef<'_>,
     ) -> Result<bool, ParseFault>
-        ensures ok { IfOk result (λ goes_on. IsElementTaken forest.now id name.now (attributes attrs.entry) (self.old.stand, self.old.rest, self.old.waiting.items) (self.new.stand, self.new.rest, self.new.waiting.items) goes_on) }
+        ensures ok { IfOk result (λ goes_on. IsElementTaken forest.now id name.now (attributes attrs.entry)
+            (self.old.stand, self.old.rest, self.old.waiting.items) (self.new.stand, self.new.rest, self.new.waiting.items) goes_on) }
         ensures fault { IfErr result (λ fault. fault ≡ Memory) }
     {
         match self.stand.around(alloc, name, attrs)? {
@@ -252,7 +258,8 @@ impl<'a> Judge<'a> {
 
     /// What stands in a node comes in its place.
     fn take_children(&mut self, forest: &'a Forest, id: NodeId) -> Result<bool, ParseFault>
-        ensures ok { IfOk result (λ goes_on. AreChildrenTaken forest.now id (self.old.stand, self.old.rest, self.old.waiting.items) (self.new.stand, self.new.rest, self.new.waiting.items) goes_on) }
+        ensures ok { IfOk result (λ goes_on. AreChildrenTaken forest.now id
+            (self.old.stand, self.old.rest, self.old.waiting.items) (self.new.stand, self.new.rest, self.new.waiting.items) goes_on) }
         ensures fault { IfErr result (λ fault. fault ≡ Memory) }
     {
         self.descend(forest, id, None)?;
@@ -262,7 +269,8 @@ impl<'a> Judge<'a> {
     /// The next node comes; answers whether all that came may stand where it does.
     fn take(&mut self, forest: &'a Forest, alloc: Global, id: NodeId) -> Result<bool, ParseFault>
         requires tree { IsTree forest.now }
-        ensures ok { IfOk result (λ goes_on. IsTaken forest.now id (self.old.stand, self.old.rest, self.old.waiting.items) (self.new.stand, self.new.rest, self.new.waiting.items) goes_on) }
+        ensures ok { IfOk result (λ goes_on. IsTaken forest.now id
+            (self.old.stand, self.old.rest, self.old.waiting.items) (self.new.stand, self.new.rest, self.new.waiting.items) goes_on) }
         ensures fault { IfErr result (λ fault. fault ≡ Memory) }
     {
         match forest.node(id) {

@@ -228,7 +228,8 @@ impl Store {
         attrs: Attributes,
         flags: ElementFlags,
     ) -> Result<Entry, ParseFault>
-        ensures made { IfOk result (λ entry. IsMade self.now entry (Element name attrs flags.template flags.mathml_annotation_xml_integration_point)) }
+        ensures made { IfOk result
+            (λ entry. IsMade self.now entry (Element name attrs flags.template flags.mathml_annotation_xml_integration_point)) }
         ensures fault { IfErr result (λ fault. fault ≡ Memory) }
     {
         let element = boxed(self.allocator(), OwnElement { name, attrs })?;
@@ -249,7 +250,9 @@ impl Store {
         requires name { name < vec_len self.old.names }
         requires few { length attrs ≤ 16 }
         ensures grown { IsGrown self.old self.new }
-        ensures made { IfOk result (λ entry. IsMade self.new entry (Element (name_in self.old name) attrs flags.template flags.mathml_annotation_xml_integration_point)) }
+        ensures made { IfOk result
+            (λ entry. IsMade self.new entry
+            (Element (name_in self.old name) attrs flags.template flags.mathml_annotation_xml_integration_point)) }
         ensures fault { IfErr result (λ fault. fault ≡ Memory) }
     {
         let at = self.attributes.len();
@@ -288,7 +291,8 @@ impl Store {
         flags: ElementFlags,
     ) -> Result<Entry, ParseFault>
         ensures grown { IsGrown self.old self.new }
-        ensures made { IfOk result (λ entry. IsMade self.new entry (Element name attrs flags.template flags.mathml_annotation_xml_integration_point)) }
+        ensures made { IfOk result
+            (λ entry. IsMade self.new entry (Element name attrs flags.template flags.mathml_annotation_xml_integration_point)) }
         ensures fault { IfErr result (λ fault. fault ≡ Memory) }
     {
         if attrs.len() > FEW || self.names.len() > MOST {
@@ -320,7 +324,8 @@ impl Store {
         flags: ElementFlags,
     ) -> Result<Entry, ParseFault>
         ensures grown { IsGrown self.old self.new }
-        ensures made { IfOk result (λ entry. IsMade self.new entry (Element (html_name name) attrs flags.template flags.mathml_annotation_xml_integration_point)) }
+        ensures made { IfOk result
+            (λ entry. IsMade self.new entry (Element (html_name name) attrs flags.template flags.mathml_annotation_xml_integration_point)) }
         ensures fault { IfErr result (λ fault. fault ≡ Memory) }
     {
         if attrs.len() <= FEW {
@@ -341,7 +346,8 @@ impl Store {
         flags: ElementFlags,
     ) -> Result<Entry, ParseFault>
         ensures grown { IsGrown self.old self.new }
-        ensures made { IfOk result (λ entry. IsMade self.new entry (Element (html_name name) attrs flags.template flags.mathml_annotation_xml_integration_point)) }
+        ensures made { IfOk result
+            (λ entry. IsMade self.new entry (Element (html_name name) attrs flags.template flags.mathml_annotation_xml_integration_point)) }
         ensures fault { IfErr result (λ fault. fault ≡ Memory) }
     {
         let slot = names::html_slot(&name);

@@ -172,7 +172,8 @@ fn walk<S: Serializer>(
     requires is_forest { IsForest forest.now }
     requires contents { HasContents forest.now }
     requires count { node_count forest.now < 2 ^ 64 }
-    ensures walks { Walks S.step S.refuses (S.view serializer.old) (calls_of (trees_of forest.now (inner_of forest.now root))) result (S.view serializer.new) }
+    ensures walks { Walks S.step S.refuses (S.view serializer.old)
+        (calls_of (trees_of forest.now (inner_of forest.now root))) result (S.view serializer.new) }
     ensures same_references { S.references serializer.new ≡ S.references serializer.old }
 {
     let mut spot = Spot {
@@ -195,7 +196,8 @@ fn walk_node<S: Serializer>(
     requires is_forest { IsForest forest.now }
     requires contents { HasContents forest.now }
     requires count { node_count forest.now < 2 ^ 64 }
-    ensures walks { Walks S.step S.refuses (S.view serializer.old) (calls_of (trees_of forest.now (id ∷ []))) result (S.view serializer.new) }
+    ensures walks { Walks S.step S.refuses (S.view serializer.old) (calls_of (trees_of forest.now (id ∷ []))) result
+        (S.view serializer.new) }
     ensures same_references { S.references serializer.new ≡ S.references serializer.old }
 {
     if !meet(forest, id, serializer)? {

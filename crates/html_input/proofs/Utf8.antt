@@ -1,13 +1,17 @@
 -- Fronts of UTF-8 texts.
-use Rattle.std.proofs.Common.{◌≡◌, ℕ, ◌+◌, ◌-◌, ◌/◌, ◌%◌, ◌<◌, ◌≤◌, true, List, [], ◌∷◌, ◌++◌, length, take, drop, refl, ap, sym, ◌∙◌, subst, arith, Option, None, Some, ◌⊎◌, inl, inr, ⊎_elim, min, length-append, length-drop, append_assoc}
+use Rattle.std.proofs.Common.{◌≡◌, ℕ, ◌+◌, ◌-◌, ◌/◌, ◌%◌, ◌<◌, ◌≤◌, true, List, [], ◌∷◌, ◌++◌, length, take, drop, refl, ap}
+use Rattle.std.proofs.Common.{sym, ◌∙◌, subst, arith, Option, None, Some, ◌⊎◌, inl, inr, ⊎_elim, min, length-append}
+use Rattle.std.proofs.Common.{length-drop, append_assoc}
 use Rattle.std.specs.Prelude.{IsUtf8, encode_utf8, encode_utf8_all, if◌then◌else◌}
 use Rattle.std.specs.Char.{IsScalar}
 use Rattle.std.specs.Str.{IsValidUpTo}
 use Rattle.std.specs.Str.Lossy.{utf8_error_len, utf8_valid_len, error_len_of_some, second_byte_min, second_byte_max}
 use Rattle.std.proofs.Math.Seq.{take-add, take-append_seam, drop-append_seam}
-use Rattle.std.proofs.lemmas.List.{append-nil, drop-append-le, drop-take, drop_all, drop-drop, length-take, take_all, take-append-drop, take-append-le, take-take}
+use Rattle.std.proofs.lemmas.List.{append-nil, drop-append-le, drop-take, drop_all, drop-drop, length-take, take_all}
+use Rattle.std.proofs.lemmas.List.{take-append-drop, take-append-le, take-take}
 use Rattle.std.proofs.lemmas.Bool.{and_parts, cases_eq, cases_lt, le-ltb, lt-ltb, ne_eqb}
-use Rattle.std.proofs.lemmas.Str.{utf8_valid_len-IsUtf8, utf8_valid_len-IsValidUpTo, IsUtf8-nil, IsUtf8-append, IsUtf8-drop, IsUtf8-encode, len_utf8_bounds, length-encode, IsCharBoundary-from_take, encode_ascii}
+use Rattle.std.proofs.lemmas.Str.{utf8_valid_len-IsUtf8, utf8_valid_len-IsValidUpTo, IsUtf8-nil, IsUtf8-append, IsUtf8-drop}
+use Rattle.std.proofs.lemmas.Str.{IsUtf8-encode, len_utf8_bounds, length-encode, IsCharBoundary-from_take, encode_ascii}
 use Rattle.std.proofs.lemmas.Bool.Decides.{nat_tests}
 use Rattle.std.specs.Io.KnownBytes.{IsAtEnd, prepend_known}
 use lib.Utf8.{scalar, scalars, scalar_cases}
@@ -22,7 +26,8 @@ two_bytes : (x y : ℕ) → 194 ≤ x → x ≤ 244 → second_byte_min x ≤ y 
 two_bytes x y low high from to = grind (arith, nat_tests)
 
 -- bytes that end after the third
-three_bytes : (x y z : ℕ) → 194 ≤ x → x ≤ 244 → second_byte_min x ≤ y → y ≤ second_byte_max x → 128 ≤ z → z ≤ 191 → error_len_of_some (x ∷ y ∷ z ∷ []) ≡ None
+three_bytes : (x y z : ℕ) → 194 ≤ x → x ≤ 244 → second_byte_min x ≤ y → y ≤ second_byte_max x → 128 ≤ z → z ≤ 191
+    → error_len_of_some (x ∷ y ∷ z ∷ []) ≡ None
 three_bytes x y z low high from to z_from z_to = grind (arith, nat_tests)
 
 encode-two : (c : ℕ) → 128 ≤ c → c < 2048 → encode_utf8 c ≡ (192 + c / 64) ∷ (128 + c % 64) ∷ []
@@ -60,7 +65,8 @@ cut_three c n low high outside some cut =
       | inl one ↦ rw one (one_byte (224 + c / 4096) (omega arith) (omega arith))
       | inr more ↦
           let two : n ≡ 2 = omega arith in
-          rw two (two_bytes (224 + c / 4096) (128 + c / 64 % 64) (omega arith) (omega arith) (second_of_three-min c low high) (second_of_three-max c high outside))
+          rw two (two_bytes (224 + c / 4096) (128 + c / 64 % 64) (omega arith) (omega arith)
+          (second_of_three-min c low high) (second_of_three-max c high outside))
     ]
 
 cut_four : (c n : ℕ) → 65536 ≤ c → c < 1114112 → 0 < n → n < 4
@@ -69,10 +75,12 @@ cut_four c n low high some cut =
     elim (cases_eq n 1) [
       | inl one ↦ rw one (one_byte (240 + c / 262144) (omega arith) (omega arith))
       | inr more ↦ elim (cases_eq n 2) [
-        | inl two ↦ rw two (two_bytes (240 + c / 262144) (128 + c / 4096 % 64) (omega arith) (omega arith) (second_of_four-min c low) (second_of_four-max c high))
+        | inl two ↦ rw two (two_bytes (240 + c / 262144) (128 + c / 4096 % 64) (omega arith) (omega arith)
+            (second_of_four-min c low) (second_of_four-max c high))
         | inr most ↦
             let three : n ≡ 3 = omega arith in
-            rw three (three_bytes (240 + c / 262144) (128 + c / 4096 % 64) (128 + c / 64 % 64) (omega arith) (omega arith) (second_of_four-min c low) (second_of_four-max c high) (omega arith) (omega arith))
+            rw three (three_bytes (240 + c / 262144) (128 + c / 4096 % 64) (128 + c / 64 % 64) (omega arith)
+            (omega arith) (second_of_four-min c low) (second_of_four-max c high) (omega arith) (omega arith))
       ]
     ]
 
@@ -122,7 +130,12 @@ pub record BeginsWithChar (bs : List ℕ) : Type 0 where
 
 first_of : (cs bs : List ℕ) → scalars cs ≡ true → encode_utf8_all cs ≡ bs → 0 < length bs → BeginsWithChar bs
 first_of [] bs valid e some = absurd (omega (arith, ap length e))
-first_of (c ∷ cs) bs valid e some = record { char = c; rest = encode_utf8_all cs; valid = (and_parts (scalar c) (scalars cs) valid).0; split = sym e }
+first_of (c ∷ cs) bs valid e some = record {
+  char = c;
+  rest = encode_utf8_all cs;
+  valid = (and_parts (scalar c) (scalars cs) valid).0;
+  split = sym e;
+}
 
 -- a text that is not empty begins with a character
 first_char : (bs : List ℕ) → IsUtf8 bs → 0 < length bs → BeginsWithChar bs
@@ -140,7 +153,8 @@ no_some : {k : ℕ} → Some k ≡ None → ⊥
 no_some e = cc
 
 -- bytes that are at fault at their front, whatever follows them: no character begins there
-no_char : (ys more : List ℕ) (k c : ℕ) (rest : List ℕ) → utf8_error_len ys ≡ Some k → 0 < length ys → IsScalar c → ys ++ more ≡ encode_utf8 c ++ rest
+no_char : (ys more : List ℕ) (k c : ℕ) (rest : List ℕ) → utf8_error_len ys ≡ Some k → 0 < length ys → IsScalar c
+    → ys ++ more ≡ encode_utf8 c ++ rest
     → length (encode_utf8 c) ≤ length ys
 no_char ys more k c rest fault some valid split =
     elim (cases_lt (length ys) (length (encode_utf8 c))) [
@@ -154,7 +168,8 @@ no_char ys more k c rest fault some valid split =
       | inr long ↦ long
     ]
 
-still_short : (bs more : List ℕ) (v j k : ℕ) → IsValidUpTo bs v → utf8_error_len (drop v bs) ≡ Some k → 0 < j → IsUtf8 (take (v + j) (bs ++ more)) → ⊥
+still_short : (bs more : List ℕ) (v j k : ℕ) → IsValidUpTo bs v → utf8_error_len (drop v bs) ≡ Some k → 0 < j
+    → IsUtf8 (take (v + j) (bs ++ more)) → ⊥
 still_short bs more v j k up_to fault longer text =
     let short = up_to.short in
     let ys = drop v bs in
@@ -172,9 +187,11 @@ still_short bs more v j k up_to fault longer text =
     let n = length (encode_utf8 first.char) in
     let fits : n ≤ length ys = no_char ys more k first.char (first.rest ++ drop j (ys ++ more)) fault (omega arith) first.valid split in
     let own : take n ys ≡ encode_utf8 first.char =
-    sym (take-append-le n ys more fits) ∙ ap (take n) split ∙ take-append_seam (encode_utf8 first.char) (first.rest ++ drop j (ys ++ more)) in
+    sym (take-append-le n ys more fits) ∙ ap (take n) split ∙ take-append_seam (encode_utf8 first.char)
+    (first.rest ++ drop j (ys ++ more)) in
     let grown : IsUtf8 (take (v + n) bs) =
-    subst IsUtf8 (sym (take-add v n bs ∙ ap (λ t. take v bs ++ t) own)) (IsUtf8-append (take v bs) (encode_utf8 first.char) up_to.front (IsUtf8-encode first.char first.valid)) in
+    subst IsUtf8 (sym (take-add v n bs ∙ ap (λ t. take v bs ++ t) own))
+    (IsUtf8-append (take v bs) (encode_utf8 first.char) up_to.front (IsUtf8-encode first.char first.valid)) in
     up_to.longest (v + n) (omega (arith, len_utf8_bounds first.char, length-encode first.char)) grown
 
 -- what is at fault after a front that is text stays so, whatever follows
@@ -211,7 +228,8 @@ IsValidUpTo-behind bs n v within front up_to =
 -- bytes with no byte begin a text
 pub IsFront-nil : (bs : List ℕ) → bs ≡ [] → IsFront bs 0
 IsFront-nil bs none =
-    subst (λ (xs : List ℕ). IsFront xs 0) (sym none) (record { within = omega arith; text = IsUtf8-nil; begins = utf8_error_len-nil; longest = inl refl })
+    subst (λ (xs : List ℕ). IsFront xs 0) (sym none)
+    (record { within = omega arith; text = IsUtf8-nil; begins = utf8_error_len-nil; longest = inl refl })
 
 -- text after a front that is text
 pub IsFront-whole : (bs rest : List ℕ) (n : ℕ) → rest ≡ drop n bs → IsUtf8 (take n bs) → IsUtf8 rest → IsFront bs (length bs)
@@ -228,8 +246,10 @@ IsFront-whole bs rest n behind front text =
 -- what is known of the bytes after a front that is text is known of all
 behind-front : (bs rest : List ℕ) (n v : ℕ) → rest ≡ drop n bs → n ≤ length bs → IsUtf8 (take n bs) → IsValidUpTo rest v
     → IsValidUpTo bs (n + v) × (drop (n + v) bs ≡ drop v rest)
-behind-front bs rest n v behind within front up_to =
-    (IsValidUpTo-behind bs n v within front (subst (λ (xs : List ℕ). IsValidUpTo xs v) behind up_to), sym (ap (drop v) behind ∙ drop-drop v n bs))
+behind-front bs rest n v behind within front up_to = (
+  IsValidUpTo-behind bs n v within front (subst (λ (xs : List ℕ). IsValidUpTo xs v) behind up_to),
+  sym (ap (drop v) behind ∙ drop-drop v n bs),
+)
 
 -- bytes that end within a character, after a front that is text
 pub IsFront-cut : (bs rest : List ℕ) (n v : ℕ) → rest ≡ drop n bs → n ≤ length bs → IsUtf8 (take n bs) → IsValidUpTo rest v
@@ -251,27 +271,38 @@ pub BeginsText-front : (bs : List ℕ) (n : ℕ) → IsFront bs n → BeginsText
 BeginsText-front bs n front =
     let is : n ≡ utf8_valid_len bs =
     ⊎_elim
-    (λ all. all ∙ sym (utf8_valid_len-IsUtf8 bs (subst IsUtf8 (ap (λ i. take i bs) all ∙ take_all (length bs) bs (omega arith)) front.text)))
+    (λ all. all ∙ sym (utf8_valid_len-IsUtf8 bs
+    (subst IsUtf8 (ap (λ i. take i bs) all ∙ take_all (length bs) bs (omega arith)) front.text)))
     (λ up_to. sym (utf8_valid_len-IsValidUpTo bs n up_to)) front.longest in
     ap (λ i. utf8_error_len (drop i bs)) (sym is) ∙ front.begins
 
 -- what was read before and what is read now, where both are known
-pub moved-more : (old mid new : Option (List ℕ)) (done piece : List ℕ) → old ≡ prepend_known done mid → mid ≡ prepend_known piece new → old ≡ prepend_known (done ++ piece) new
+pub moved-more : (old mid new : Option (List ℕ)) (done piece : List ℕ) → old ≡ prepend_known done mid
+    → mid ≡ prepend_known piece new → old ≡ prepend_known (done ++ piece) new
 moved-more old mid None done piece so_far now = rw (so_far, now) refl
 moved-more old mid (Some left) done piece so_far now = rw (so_far, now) (ap Some (sym (append_assoc done piece left)))
 
-pub known_split : (old new : Option (List ℕ)) (front whole left : List ℕ) → old ≡ prepend_known front new → old ≡ Some whole → new ≡ Some left → whole ≡ front ++ left
+pub known_split : (old new : Option (List ℕ)) (front whole left : List ℕ) → old ≡ prepend_known front new
+    → old ≡ Some whole → new ≡ Some left → whole ≡ front ++ left
 known_split old new front whole left moved whole_is left_is =
     let all : Some whole ≡ Some (front ++ left) = sym whole_is ∙ moved ∙ ap (prepend_known front) left_is in
     cc
 
 -- a read that shows bytes at fault
-pub shows-fault : (old new : Option (List ℕ)) (earlier last : List ℕ) (at : ℕ) → old ≡ prepend_known (earlier ++ last) new → BeginsText earlier → length last ≤ 4096
+pub shows-fault : (old new : Option (List ℕ)) (earlier last : List ℕ) (at : ℕ) → old ≡ prepend_known
+    (earlier ++ last) new → BeginsText earlier → length last ≤ 4096
     → ((more : List ℕ) → IsValidUpTo ((earlier ++ last) ++ more) at)
     → (whole left : List ℕ) → old ≡ Some whole → new ≡ Some left → ShowsNotUtf8 whole left at
 shows-fault old new earlier last at moved soon piece fault whole left whole_is left_is =
     let split : whole ≡ (earlier ++ last) ++ left = known_split old new (earlier ++ last) whole left moved whole_is left_is in
-    record { earlier = earlier; last = last; moved = split; front = subst (λ (xs : List ℕ). IsValidUpTo xs at) (sym split) (fault left); soon = soon; piece = piece }
+    record {
+      earlier = earlier;
+      last = last;
+      moved = split;
+      front = subst (λ (xs : List ℕ). IsValidUpTo xs at) (sym split) (fault left);
+      soon = soon;
+      piece = piece;
+    }
 
 -- nothing was read yet
 pub moved-none : (known : Option (List ℕ)) (bs : List ℕ) → bs ≡ [] → known ≡ prepend_known bs known
@@ -279,7 +310,8 @@ moved-none None bs none = refl
 moved-none (Some xs) bs none = ap Some (ap (λ t. t ++ xs) (sym none))
 
 -- the end of the input, within a character
-pub shows-end : (old mid new : Option (List ℕ)) (bs : List ℕ) (n : ℕ) → old ≡ prepend_known bs mid → mid ≡ prepend_known [] new → IsAtEnd mid → IsFront bs n → n < length bs
+pub shows-end : (old mid new : Option (List ℕ)) (bs : List ℕ) (n : ℕ) → old ≡ prepend_known bs mid
+    → mid ≡ prepend_known [] new → IsAtEnd mid → IsFront bs n → n < length bs
     → (whole left : List ℕ) → old ≡ Some whole → new ≡ Some left → ShowsNotUtf8 whole left n
 shows-end old mid new bs n moved now end front cut whole left whole_is left_is =
     let up_to : IsValidUpTo bs n = ⊎_elim (λ all. absurd (omega arith)) (λ h. h) front.longest in
@@ -297,7 +329,8 @@ shows-end old mid new bs n moved now end front cut whole left whole_is left_is =
     }
 
 -- where a read failed, what was read before begins a text
-pub begun-shown : (old mid new : Option (List ℕ)) (bytes : List ℕ) → old ≡ prepend_known bytes mid → new ≡ mid → BeginsText bytes → (whole left : List ℕ) → old ≡ Some whole → new ≡ Some left → HasBegun whole left
+pub begun-shown : (old mid new : Option (List ℕ)) (bytes : List ℕ) → old ≡ prepend_known bytes mid → new ≡ mid
+    → BeginsText bytes → (whole left : List ℕ) → old ≡ Some whole → new ≡ Some left → HasBegun whole left
 begun-shown old mid new bytes moved same soon whole left whole_is left_is =
     record { read = bytes; moved = known_split old mid bytes whole left moved whole_is (sym same ∙ left_is); text = soon }
 
@@ -308,7 +341,9 @@ front-behind done bs n text front =
     let own : IsUtf8 (take (length done) (done ++ bs)) = subst IsUtf8 (sym (take-append_seam done bs)) text in
     let len = length-append done bs in
     ⊎_elim
-    (λ whole. subst (IsFront (done ++ bs)) (len ∙ ap (λ i. length done + i) (sym whole)) (IsFront-whole (done ++ bs) bs (length done) all own (subst IsUtf8 (ap (λ i. take i bs) whole ∙ take_all (length bs) bs (omega arith)) front.text)))
+    (λ whole. subst (IsFront (done ++ bs)) (len ∙ ap (λ i. length done + i) (sym whole))
+    (IsFront-whole (done ++ bs) bs (length done) all own
+    (subst IsUtf8 (ap (λ i. take i bs) whole ∙ take_all (length bs) bs (omega arith)) front.text)))
     (λ up_to. IsFront-cut (done ++ bs) bs (length done) n all (omega arith) own up_to front.begins) front.longest
 
 -- bytes at fault stay so after a text
@@ -318,7 +353,8 @@ fault-behind done bs at text fault more =
     let len = length-append done (bs ++ more) in
     let own : IsUtf8 (take (length done) whole) = subst IsUtf8 (sym (take-append_seam done (bs ++ more))) text in
     subst (λ (xs : List ℕ). IsValidUpTo xs (length done + at)) (sym (append_assoc done bs more))
-    (IsValidUpTo-behind whole (length done) at (omega arith) own (subst (λ (xs : List ℕ). IsValidUpTo xs at) (sym (drop-append_seam done (bs ++ more))) (fault more)))
+    (IsValidUpTo-behind whole (length done) at (omega arith) own
+    (subst (λ (xs : List ℕ). IsValidUpTo xs at) (sym (drop-append_seam done (bs ++ more))) (fault more)))
 
 -- the front of bytes at fault is shorter than they are
 pub fault-within : (bs : List ℕ) (at : ℕ) → StaysAtFault bs at → at < length bs
@@ -334,7 +370,8 @@ pub front-all : (bytes : List ℕ) (n len known : ℕ) → IsFront bytes n → l
 front-all bytes n len known front told same all = subst IsUtf8 (take_all n bytes (omega arith)) front.text
 
 -- bytes that are split after their longest front
-pub split-front : (bytes lent front text cut : List ℕ) (n : ℕ) → lent ≡ bytes → IsFront lent n → front ≡ take n bytes → text ≡ front → cut ≡ drop n bytes → IsSplit bytes text cut
+pub split-front : (bytes lent front text cut : List ℕ) (n : ℕ) → lent ≡ bytes → IsFront lent n
+    → front ≡ take n bytes → text ≡ front → cut ≡ drop n bytes → IsSplit bytes text cut
 split-front bytes lent front text cut n same longest kept as_text behind =
     let all : IsFront bytes n = subst (λ (bs : List ℕ). IsFront bs n) same longest in
     let size : length (take n bytes) ≡ n = omega (arith, length-take n bytes, all.within) in

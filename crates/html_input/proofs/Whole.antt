@@ -15,20 +15,25 @@ pub record IsAll (bytes whole : List ℕ) (left : Option (List ℕ)) : Type 0 wh
   pub same : bytes ≡ whole
   pub taken : left ≡ Some []
 
-pub all-read : (old new : Option (List ℕ)) (bytes whole : List ℕ) → old ≡ prepend_known bytes new → IsAtEnd new → old ≡ Some whole → IsAll bytes whole new
+pub all-read : (old new : Option (List ℕ)) (bytes whole : List ℕ) → old ≡ prepend_known bytes new → IsAtEnd new
+    → old ≡ Some whole → IsAll bytes whole new
 all-read old None bytes whole moved end told = let clash : None ≡ Some whole = sym moved ∙ told in cc
 all-read old (Some left) bytes whole moved end told =
     let all : Some (bytes ++ left) ≡ Some whole = sym moved ∙ told in
     let joined : bytes ++ left ≡ whole = cc in
     record { same = sym (append-nil bytes) ∙ ap (λ t. bytes ++ t) (sym end) ∙ joined; taken = ap Some end }
 
-bad-row : (fault : TableFault) (old new : Option (List ℕ)) (bytes : List ℕ) (rows : List ReferenceRow) → old ≡ prepend_known bytes new → IsAtEnd new → IsUtf8 bytes → rows_of bytes ≡ Ok rows → IsFirstFault rows fault → (whole : List ℕ) → old ≡ Some whole → HasBadRow whole fault
+bad-row : (fault : TableFault) (old new : Option (List ℕ)) (bytes : List ℕ) (rows : List ReferenceRow)
+    → old ≡ prepend_known bytes new → IsAtEnd new → IsUtf8 bytes → rows_of bytes ≡ Ok rows → IsFirstFault rows fault
+    → (whole : List ℕ) → old ≡ Some whole → HasBadRow whole fault
 bad-row fault old new bytes rows moved end text lines first whole told =
     let all = all-read old new bytes whole moved end told in
     record { text = subst IsUtf8 all.same text; rows = rows; lines = ap rows_of (sym all.same) ∙ lines; first = first }
 
 -- a file whose rows are a checked table
-pub good-file : (old new : Option (List ℕ)) (bytes : List ℕ) (rows table : List ReferenceRow) → old ≡ prepend_known bytes new → IsAtEnd new → IsUtf8 bytes → rows_of bytes ≡ Ok rows → table ≡ rows → IsCheckedTable rows → (whole : List ℕ) → old ≡ Some whole → IsTableFile whole new table
+pub good-file : (old new : Option (List ℕ)) (bytes : List ℕ) (rows table : List ReferenceRow)
+    → old ≡ prepend_known bytes new → IsAtEnd new → IsUtf8 bytes → rows_of bytes ≡ Ok rows → table ≡ rows
+    → IsCheckedTable rows → (whole : List ℕ) → old ≡ Some whole → IsTableFile whole new table
 good-file old new bytes rows table moved end text lines same checked whole told =
     let all = all-read old new bytes whole moved end told in
     record {
@@ -39,9 +44,14 @@ good-file old new bytes rows table moved end text lines same checked whole told 
     }
 
 -- a fault of the rows of a file
-pub row-fault : (fault : TableFault) (old new : Option (List ℕ)) (bytes : List ℕ) (rows : List ReferenceRow) → old ≡ prepend_known bytes new → IsAtEnd new → IsUtf8 bytes → rows_of bytes ≡ Ok rows → ((fault ≡ table.Memory → ⊥) → IsFirstFault rows fault)
+pub row-fault : (fault : TableFault) (old new : Option (List ℕ)) (bytes : List ℕ) (rows : List ReferenceRow)
+    → old ≡ prepend_known bytes new → IsAtEnd new → IsUtf8 bytes → rows_of bytes ≡ Ok rows
+    → ((fault ≡ table.Memory → ⊥) → IsFirstFault rows fault)
     → IsTableFault old new (row_fault_of fault)
-row-fault (table.BadName row) old new bytes rows moved end text lines first = (λ e. absurd cc, bad-row (table.BadName row) old new bytes rows moved end text lines (first (λ e. absurd cc)))
-row-fault (table.Duplicate row) old new bytes rows moved end text lines first = (λ e. absurd cc, bad-row (table.Duplicate row) old new bytes rows moved end text lines (first (λ e. absurd cc)))
-row-fault (table.BadValue row) old new bytes rows moved end text lines first = (λ e. absurd cc, bad-row (table.BadValue row) old new bytes rows moved end text lines (first (λ e. absurd cc)))
+row-fault (table.BadName row) old new bytes rows moved end text lines first =
+    (λ e. absurd cc, bad-row (table.BadName row) old new bytes rows moved end text lines (first (λ e. absurd cc)))
+row-fault (table.Duplicate row) old new bytes rows moved end text lines first =
+    (λ e. absurd cc, bad-row (table.Duplicate row) old new bytes rows moved end text lines (first (λ e. absurd cc)))
+row-fault (table.BadValue row) old new bytes rows moved end text lines first =
+    (λ e. absurd cc, bad-row (table.BadValue row) old new bytes rows moved end text lines (first (λ e. absurd cc)))
 row-fault table.Memory old new bytes rows moved end text lines first = tt

@@ -1,5 +1,6 @@
 -- A table of references in a file: a line for each row. All that separates its parts is ASCII, so bytes are spoken of.
-use Rattle.std.specs.Prelude.{ℕ, ◌+◌, ◌*◌, ◌==◌, ◌||◌, List, [], ◌∷◌, length, Option, Some, None, Result, Ok, Err, nat_lt, option_map, if◌then◌else◌}
+use Rattle.std.specs.Prelude.{ℕ, ◌+◌, ◌*◌, ◌==◌, ◌||◌, List, [], ◌∷◌, length, Option, Some, None, Result, Ok, Err, nat_lt}
+use Rattle.std.specs.Prelude.{option_map, if◌then◌else◌}
 use Rattle.std.specs.Char.{digit_value}
 use Rattle.std.specs.List.{after_first, before_first, position_or_len}
 use Rattle.std.specs.Str.{chars}
@@ -11,7 +12,8 @@ space = 0x20
 
 -- what stands before the first such byte, and what stands after it; nothing where there is none
 abbrev pub cut_at : ℕ → List ℕ → Option (List ℕ × List ℕ)
-cut_at mark bytes = if nat_lt (position_or_len (λ b. b == mark) bytes) (length bytes) then Some (before_first (λ b. b == mark) bytes, after_first (λ b. b == mark) bytes) else None
+cut_at mark bytes = if nat_lt (position_or_len (λ b. b == mark) bytes) (length bytes) then Some
+    (before_first (λ b. b == mark) bytes, after_first (λ b. b == mark) bytes) else None
 
 -- the number that hexadecimal digits stand for after those of a value
 abbrev pub value_after : ℕ → List ℕ → Option ℕ
@@ -37,7 +39,8 @@ values_of text = values_in text (cut_at space text)
 
 abbrev pub row_in : Option (List ℕ × List ℕ) → Option ReferenceRow
 row_in None = None
-row_in (Some parts) = if length parts.0 == 0 then None else option_map (λ values. record { name = chars parts.0; first = values.0; second = values.1 }) (values_of parts.1)
+row_in (Some parts) = if length parts.0 == 0 then None else option_map
+    (λ values. record { name = chars parts.0; first = values.0; second = values.1 }) (values_of parts.1)
 
 -- the row of a line: of a name and its values, with a space between; nothing of another line
 abbrev pub row_of : List ℕ → Option ReferenceRow

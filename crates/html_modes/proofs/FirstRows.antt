@@ -1,5 +1,6 @@
 -- The noted places are those of the first rows, and no row before them fits.
-use Rattle.std.proofs.Common.{◌≡◌, ◌∙◌, ℕ, zero, suc, ◌<◌, Bool, true, false, true≢false, List, [], ◌∷◌, length, drop, get_or, map, refl, sym, ap, zero-add, arith}
+use Rattle.std.proofs.Common.{◌≡◌, ◌∙◌, ℕ, zero, suc, ◌<◌, Bool, true, false, true≢false, List, [], ◌∷◌, length, drop, get_or}
+use Rattle.std.proofs.Common.{map, refl, sym, ap, zero-add, arith}
 use Rattle.std.specs.List.{list_all, range_with_len}
 use Rattle.std.proofs.lemmas.Bool.{and_parts, ltb-true}
 use Rattle.std.proofs.lemmas.List.{get_or-map, length-map}
@@ -15,7 +16,8 @@ use Rattle.html_rules.specs.Choice.{choose}
 use Rattle.html_rules.specs.Names.{Html}
 use Rattle.html_rules.specs.Rules.{first_fit, rows}
 use Rattle.html_rules.specs.State.{State}
-use Rattle.html_rules.specs.Table.{Row, Class, StartTags, EndTags, AnyStartTag, AnyEndTag, WhiteSpace, Character, Null, Comment, EndOfFile, AnythingElse}
+use Rattle.html_rules.specs.Table.{Row, Class, StartTags, EndTags, AnyStartTag, AnyEndTag, WhiteSpace, Character, Null, Comment}
+use Rattle.html_rules.specs.Table.{EndOfFile, AnythingElse}
 use Rattle.html_rules.specs.Tokens.{class_fits}
 use Rattle.html_rules.specs.declared.insertion_mode.InsertionMode.{InsertionMode}
 use Rattle.html_rules.specs.declared.insertion_mode.InsertionMode.TheVariants as mode
@@ -89,9 +91,12 @@ noted EndTag mode = noted-ends mode
 pub noted-length : (kind : TagKind) (mode : InsertionMode) → length (places kind mode) ≡ length family_sets
 noted-length kind mode = ap length (sym (noted kind mode)) ∙ length-map family_sets (λ sets. rows_before kind sets (rows mode))
 
-pub noted-at : (kind : TagKind) (mode : InsertionMode) (family sets : ℕ) → IsFamily family sets → get_or (places kind mode) family 0 ≡ rows_before kind sets (rows mode)
+pub noted-at : (kind : TagKind) (mode : InsertionMode) (family sets : ℕ) → IsFamily family sets
+    → get_or (places kind mode) family 0 ≡ rows_before kind sets (rows mode)
 noted-at kind mode family sets is =
-    ap (λ places. get_or places family 0) (sym (noted kind mode)) ∙ get_or-map (λ sets. rows_before kind sets (rows mode)) family_sets family 0 0 is.within ∙ ap (λ sets. rows_before kind sets (rows mode)) is.there
+    ap (λ places. get_or places family 0) (sym (noted kind mode))
+    ∙ get_or-map (λ sets. rows_before kind sets (rows mode)) family_sets family 0 0 is.within
+    ∙ ap (λ sets. rows_before kind sets (rows mode)) is.there
 
 -- each known name is of the family of its sets
 families-fit : map (λ family. get_or family_sets family 0) FAMILIES ≡ map html_row (range_with_len 0 626)
@@ -121,14 +126,17 @@ known-family place family l e =
     let inside = known-inside place l in
     record {
       within = ltb-true _ _ (rw e at (list_all-at (λ family. nat_lt family (length family_sets)) FAMILIES place 0 families-within inside));
-      there = ap (λ family. get_or family_sets family 0) (sym e) ∙ sym (get_or-map (λ family. get_or family_sets family 0) FAMILIES place 0 0 inside) ∙ ap (λ list. get_or list place 0) families-fit ∙ sets-at place (omega (arith, few));
+      there = ap (λ family. get_or family_sets family 0) (sym e)
+          ∙ sym (get_or-map (λ family. get_or family_sets family 0) FAMILIES place 0 0 inside)
+          ∙ ap (λ list. get_or list place 0) families-fit ∙ sets-at place (omega (arith, few));
     }
 
 pub unknown-family : IsFamily 0 0
 unknown-family = record { within = omega arith; there = refl }
 
 -- a class that has no such tag does not fit one
-class-unfit : (c : Class) (tag : Tag) (sets : ℕ) (kind : TagKind) → tag.kind ≡ kind → IsRowOf Html tag.name sets → has_tag kind sets c ≡ false → class_fits c (TagToken tag) ≡ false
+class-unfit : (c : Class) (tag : Tag) (sets : ℕ) (kind : TagKind) → tag.kind ≡ kind → IsRowOf Html tag.name sets
+    → has_tag kind sets c ≡ false → class_fits c (TagToken tag) ≡ false
 class-unfit (StartTags set) tag sets StartTag k is h = rw k (sym (is.each set) ∙ h)
 class-unfit (StartTags set) tag sets EndTag k is h = rw k refl
 class-unfit (EndTags set) tag sets StartTag k is h = rw k refl
@@ -146,14 +154,20 @@ class-unfit Comment tag sets kind k is h = refl
 class-unfit EndOfFile tag sets kind k is h = refl
 
 -- a row that has no such tag is passed over
-row-passed : (r : Row) (rows : List Row) (tag : Tag) (sets : ℕ) (s : State) → IsRowOf Html tag.name sets → first_fit (drop (rows_before tag.kind sets rows) rows) (TagToken tag) s ≡ first_fit rows (TagToken tag) s → (b : Bool) → has_tag tag.kind sets r.on ≡ b → first_fit (drop (choose b (λ _. 0) (λ _. suc (rows_before tag.kind sets rows))) (r ∷ rows)) (TagToken tag) s ≡ first_fit (r ∷ rows) (TagToken tag) s
+row-passed : (r : Row) (rows : List Row) (tag : Tag) (sets : ℕ) (s : State) → IsRowOf Html tag.name sets
+    → first_fit (drop (rows_before tag.kind sets rows) rows) (TagToken tag) s ≡ first_fit rows (TagToken tag) s
+    → (b : Bool) → has_tag tag.kind sets r.on ≡ b
+    → first_fit (drop (choose b (λ _. 0) (λ _. suc (rows_before tag.kind sets rows))) (r ∷ rows))
+    (TagToken tag) s ≡ first_fit (r ∷ rows) (TagToken tag) s
 row-passed r rows tag sets s is more true h = refl
 row-passed r rows tag sets s is more false h = more ∙ rw (class-unfit r.on tag sets tag.kind refl is h) refl
 
-pub before-passed : (rows : List Row) (tag : Tag) (sets : ℕ) (s : State) → IsRowOf Html tag.name sets → first_fit (drop (rows_before tag.kind sets rows) rows) (TagToken tag) s ≡ first_fit rows (TagToken tag) s
+pub before-passed : (rows : List Row) (tag : Tag) (sets : ℕ) (s : State) → IsRowOf Html tag.name sets
+    → first_fit (drop (rows_before tag.kind sets rows) rows) (TagToken tag) s ≡ first_fit rows (TagToken tag) s
 unfolding rows_before
 before-passed [] tag sets s is = refl
-before-passed (r ∷ rows) tag sets s is = row-passed r rows tag sets s is (before-passed rows tag sets s is) (has_tag tag.kind sets r.on) refl
+before-passed (r ∷ rows) tag sets s is = row-passed r rows tag sets s is (before-passed rows tag sets s is)
+    (has_tag tag.kind sets r.on) refl
 
 -- the class of a name has the sets by which the first rows are noted
 pub sets-known : (known : Option KnownName) (name : List ℕ) → IsKnownAs known name → IsRowOf Html name (sets_of known)

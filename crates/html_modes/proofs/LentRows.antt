@@ -11,10 +11,12 @@ use Rattle.html_modes.specs.declared.table.Row.{Row}
 
 lent : (xs : List Row) (place : ℕ) (found : Option (Bor Row)) → IsItemAt xs place found → row_lent found ≡ slice_get (rows_of xs) place
 lent xs place None h = sym (slice_get_past (rows_of xs) place (rw length-map h.3))
-lent xs place (Some row) h = sym (slice_get-map row_of xs place ∙ ap (option_map row_of) (slice_get_read xs (length xs) place row.now refl h.3.0 h.1))
+lent xs place (Some row) h =
+    sym (slice_get-map row_of xs place ∙ ap (option_map row_of) (slice_get_read xs (length xs) place row.now refl h.3.0 h.1))
 
 -- a row of a table that stands for the rules' rows
-pub got : (xs : List Row) (rows : List rules.Row) (place : ℕ) (found : Option (Bor Row)) → IsItemAt xs place found → rows_of xs ≡ rows → row_lent found ≡ slice_get rows place
+pub got : (xs : List Row) (rows : List rules.Row) (place : ℕ) (found : Option (Bor Row)) → IsItemAt xs place found
+    → rows_of xs ≡ rows → row_lent found ≡ slice_get rows place
 got xs rows place found h same = lent xs place found h ∙ ap (λ list. slice_get list place) same
 
 pub get-take : {X : Type 0} → (n : ℕ) (xs : List X) (i : ℕ) → i < n → slice_get (take n xs) i ≡ slice_get xs i

@@ -14,13 +14,15 @@ the : {A : Type 0} (a b : A) → Some a ≡ Some b → a ≡ b
 the a b h = cc
 
 -- the row at a place, then those after it
-pub at-place : (rows : List Row) (place : ℕ) (r : Row) (t : Token) (s : State) → slice_get rows place ≡ Some r → first_fit (drop place rows) t s ≡ choose (fits r t s) (λ _. r) (λ _. first_fit (drop (suc place) rows) t s)
+pub at-place : (rows : List Row) (place : ℕ) (r : Row) (t : Token) (s : State) → slice_get rows place ≡ Some r
+    → first_fit (drop place rows) t s ≡ choose (fits r t s) (λ _. r) (λ _. first_fit (drop (suc place) rows) t s)
 at-place [] place r t s h = absurd cc
 at-place (x ∷ rows) zero r t s h = rw (the x r h) refl
 at-place (x ∷ rows) (suc place) r t s h = at-place rows place r t s h
 
 -- no row is left
-pub past-all : (rows : List Row) (place : ℕ) (t : Token) (s : State) → slice_get rows place ≡ None → first_fit (drop place rows) t s ≡ row AnythingElse Nothing Done
+pub past-all : (rows : List Row) (place : ℕ) (t : Token) (s : State) → slice_get rows place ≡ None
+    → first_fit (drop place rows) t s ≡ row AnythingElse Nothing Done
 past-all [] zero t s h = refl
 past-all [] (suc place) t s h = refl
 past-all (x ∷ rows) zero t s h = absurd cc

@@ -1,5 +1,6 @@
 -- A text and its first character.
-use Rattle.std.proofs.Common.{◌≡◌, ◌∙◌, ℕ, zero, suc, ◌<◌, Bool, true, false, List, [], ◌∷◌, ◌++◌, length, take, drop, get_or, refl, sym, ap, arith, Some, None, inl, inr}
+use Rattle.std.proofs.Common.{◌≡◌, ◌∙◌, ℕ, zero, suc, ◌<◌, Bool, true, false, List, [], ◌∷◌, ◌++◌, length, take, drop, get_or}
+use Rattle.std.proofs.Common.{refl, sym, ap, arith, Some, None, inl, inr}
 use Rattle.std.specs.Prelude.{codes, encode_utf8, encode_utf8_all, nat_eq}
 use Rattle.std.specs.Str.{IsCharBoundary, IsUtf8, chars}
 use Rattle.std.specs.Char.{to_ascii_lowercase}
@@ -17,7 +18,9 @@ use Rattle.std.specs.Char.{len_utf8}
 use Rattle.std.proofs.Math.Seq.{drop-append_seam}
 use Rattle.std.proofs.lemmas.List.{length-append}
 use Rattle.html_names.specs.Given.{IsRest}
-use Rattle.std.proofs.lemmas.Str.{IsCharBoundary-after_ascii, IsCharBoundary-at_seam, IsUtf8-past_char, len_utf8_bounds, length-encode, byte_from_char, char_from_byte, chars-nil, chars_past_char, encode_ascii, encodes-chars}
+use Rattle.std.proofs.lemmas.Str.{IsCharBoundary-after_ascii, IsCharBoundary-at_seam, IsUtf8-past_char, len_utf8_bounds}
+use Rattle.std.proofs.lemmas.Str.{length-encode, byte_from_char, char_from_byte, chars-nil, chars_past_char, encode_ascii}
+use Rattle.std.proofs.lemmas.Str.{encodes-chars}
 
 self-eq : (n : ℕ) → nat_eq n n ≡ true
 self-eq n = grind (arith, nat_tests)
@@ -41,7 +44,11 @@ BeginsWith-ascii bs u l low = by (chars bs) (encodes-chars bs u) where
       let split : bs ≡ c ∷ encode_utf8_all cs = sym e ∙ ap (λ (x : List ℕ). x ++ encode_utf8_all cs) (encode_ascii c small) in
       let past = chars_past_char bs (encode_utf8_all cs) c u (sym e) in
       let rest : drop 1 bs ≡ encode_utf8_all cs = ap (drop 1) split in
-      record { characters = past ∙ (ap (λ x. x ∷ chars (encode_utf8_all cs)) same ∙ ap (λ x. get_or bs 0 0 ∷ chars x) (sym rest)); cut = IsCharBoundary-after_ascii bs 0 u l low }
+      record {
+        characters = past
+            ∙ (ap (λ x. x ∷ chars (encode_utf8_all cs)) same ∙ ap (λ x. get_or bs 0 0 ∷ chars x) (sym rest));
+        cut = IsCharBoundary-after_ascii bs 0 u l low;
+      }
 
 -- a text that begins with another byte begins with another character
 pub record BeginsOther (bs : List ℕ) (w : ℕ) : Type 0 where
@@ -64,21 +71,24 @@ begins-other bs u l w small h = by (chars bs) refl where
     first = c;
     rest = cs;
     characters = e;
-    other = other-eq c w (λ is. let low : c < 128 = omega arith in h (byte_from_char bs (encode_utf8_all cs) c (sym (encodes-chars bs u) ∙ ap encode_utf8_all e) low ∙ is));
+    other = other-eq c w (λ is. let low : c < 128 = omega arith in
+        h (byte_from_char bs (encode_utf8_all cs) c (sym (encodes-chars bs u) ∙ ap encode_utf8_all e) low ∙ is));
   }
 
 -- what stands after a character, by the first byte
 pub behind-none : (w : ℕ) (bs : List ℕ) → length bs ≡ 0 → after_character w (chars bs) ≡ None
 behind-none w bs h = rw (no-text bs h) refl
 
-pub behind-some : (w : ℕ) (bs : List ℕ) → IsUtf8 bs → 0 < length bs → w < 128 → get_or bs 0 0 ≡ w → after_character w (chars bs) ≡ Some (chars (drop 1 bs))
+pub behind-some : (w : ℕ) (bs : List ℕ) → IsUtf8 bs → 0 < length bs → w < 128 → get_or bs 0 0 ≡ w
+    → after_character w (chars bs) ≡ Some (chars (drop 1 bs))
 behind-some w bs u l small e =
     let low : get_or bs 0 0 < 128 = omega arith in
     let is = BeginsWith-ascii bs u l low in
     let same : nat_eq (get_or bs 0 0) w ≡ true = rw e (self-eq w) in
     rw (is.characters, same) refl
 
-pub behind-other : (w : ℕ) (bs : List ℕ) → IsUtf8 bs → 0 < length bs → w < 128 → (get_or bs 0 0 ≡ w → ⊥) → after_character w (chars bs) ≡ None
+pub behind-other : (w : ℕ) (bs : List ℕ) → IsUtf8 bs → 0 < length bs → w < 128 → (get_or bs 0 0 ≡ w → ⊥)
+    → after_character w (chars bs) ≡ None
 behind-other w bs u l small h =
     let is = begins-other bs u l w small h in
     rw (is.characters, is.other) refl
@@ -97,7 +107,8 @@ pub is-nonempty : (n : ℕ) (b : Bool) → b ≡ nat_eq n 0 → b ≡ false → 
 is-nonempty zero b e h = absurd (cc (self-eq 0))
 is-nonempty (suc n) b e h = omega arith
 
-pub value-some : (bs : List ℕ) → IsUtf8 bs → 0 < length bs → unquoted_value (chars bs) ≡ Some (take (run (stops ValueEnd) (chars bs)) (chars bs))
+pub value-some : (bs : List ℕ) → IsUtf8 bs → 0 < length bs → unquoted_value (chars bs) ≡ Some
+    (take (run (stops ValueEnd) (chars bs)) (chars bs))
 value-some bs u l = by (chars bs) refl where
   by : (cs : List ℕ) → chars bs ≡ cs → unquoted_value cs ≡ Some (take (run (stops ValueEnd) cs) cs)
   by [] e = absurd (omega (arith, ap length (sym (encodes-chars bs u) ∙ ap encode_utf8_all e)))
@@ -109,7 +120,11 @@ pub record BeginsWord (bs : List ℕ) (w : List ℕ) : Type 0 where
   pub rest : chars (drop (length w) bs) ≡ drop (length w) (chars bs)
 
 low-lowered : (c w : ℕ) → w < 128 → w ≡ to_ascii_lowercase c → c < 128
-low-lowered c w l e = elim (cases_lt c 128) [ inl low ↦ low | inr high ↦ let same : nat_eq w (to_ascii_lowercase c) ≡ true = rw (← e) (self-eq w) in absurd (cc (high-lowered c w high l)) ]
+low-lowered c w l e = elim (cases_lt c 128) [
+  | inl low ↦ low
+  | inr high ↦ let same : nat_eq w (to_ascii_lowercase c) ≡ true = rw (← e) (self-eq w) in
+      absurd (cc (high-lowered c w high l))
+]
 
 begins-word : (w cs : List ℕ) → is_plain w ≡ true → begins_any_case w cs ≡ true → length (encode_utf8_all (take (length w) cs)) ≡ length w
 begins-word [] cs h b = refl
@@ -118,7 +133,9 @@ begins-word (w ∷ ws) (c ∷ cs) h b =
     let parts = and_parts _ _ h in
     by (nat_eq w (to_ascii_lowercase c)) refl (ltb-true w 128 parts.0) (begins-word ws cs parts.1) b
   where
-    by : (same : Bool) → nat_eq w (to_ascii_lowercase c) ≡ same → w < 128 → (begins_any_case ws cs ≡ true → length (encode_utf8_all (take (length ws) cs)) ≡ length ws) → begins_by same (λ _. begins_any_case ws cs) ≡ true → length (encode_utf8_all (take (length (w ∷ ws)) (c ∷ cs))) ≡ length (w ∷ ws)
+    by : (same : Bool) → nat_eq w (to_ascii_lowercase c) ≡ same → w < 128
+        → (begins_any_case ws cs ≡ true → length (encode_utf8_all (take (length ws) cs)) ≡ length ws)
+        → begins_by same (λ _. begins_any_case ws cs) ≡ true → length (encode_utf8_all (take (length (w ∷ ws)) (c ∷ cs))) ≡ length (w ∷ ws)
     by true is small rest begun = rw (encode_ascii c (low-lowered c w small (eqb-true _ _ is))) (ap suc (rest begun))
     by false is small rest begun = absurd cc
 
@@ -144,17 +161,25 @@ unfolding encoding_of
 encoding-end = refl
 
 -- a text after its first character
-pub past-first : (bs rest : List ℕ) (c n : ℕ) → IsUtf8 bs → bs ≡ encode_utf8 c ++ rest → n ≡ len_utf8 c → IsCharBoundary bs n × (drop n bs ≡ rest) × IsRest bs rest
+pub past-first : (bs rest : List ℕ) (c n : ℕ) → IsUtf8 bs → bs ≡ encode_utf8 c ++ rest → n ≡ len_utf8 c
+    → IsCharBoundary bs n × (drop n bs ≡ rest) × IsRest bs rest
 past-first bs rest c n u e m =
     let size : n ≡ length (encode_utf8 c) = m ∙ sym (length-encode c) in
     let text : IsUtf8 rest = IsUtf8-past_char bs rest c u e in (
       rw size (IsCharBoundary-at_seam bs (encode_utf8 c) rest e text),
       ap (drop n) e ∙ rw size (drop-append_seam (encode_utf8 c) rest),
-      record { first = c; characters = chars_past_char bs rest c u e; text = text; shorter = omega (arith, ap length e, length-append (encode_utf8 c) rest, length-encode c, len_utf8_bounds c) },
+      record {
+        first = c;
+        characters = chars_past_char bs rest c u e;
+        text = text;
+        shorter = omega (arith, ap length e, length-append (encode_utf8 c) rest, length-encode c, len_utf8_bounds c);
+      },
     )
 
 pub further : (bs rest : List ℕ) → IsRest bs rest → after_charset (chars bs) ≡ None → encoding_of (chars bs) ≡ encoding_of (chars rest)
-further bs rest is h = let none : after_charset (is.first ∷ chars rest) ≡ None = rw is.characters at h in rw is.characters (encoding-further is.first (chars rest) none)
+further bs rest is h = let none : after_charset (is.first ∷ chars rest) ≡ None = rw is.characters at h in
+    rw is.characters (encoding-further is.first (chars rest) none)
 
 pub found : (bs rest value : List ℕ) → IsRest bs rest → after_charset (chars bs) ≡ Some value → encoding_of (chars bs) ≡ encoding_at value
-found bs rest value is h = let some : after_charset (is.first ∷ chars rest) ≡ Some value = rw is.characters at h in rw is.characters (encoding-found is.first (chars rest) value some)
+found bs rest value is h = let some : after_charset (is.first ∷ chars rest) ≡ Some value = rw is.characters at h in
+    rw is.characters (encoding-found is.first (chars rest) value some)

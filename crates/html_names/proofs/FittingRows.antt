@@ -32,7 +32,8 @@ rows_fit n members [] rows = true
 rows_fit n members (t ∷ texts) [] = false
 rows_fit n members (t ∷ texts) (row ∷ rows) = is_same (bit_at row n == 1) (is_among t members) && rows_fit n members texts rows
 
-rows_fit-at : (n : ℕ) (members texts : List (List ℕ)) (rows : List ℕ) → rows_fit n members texts rows ≡ true → (k : ℕ) → k < length texts → (bit_at (get_or rows k 0) n == 1) ≡ is_among (get_or texts k []) members
+rows_fit-at : (n : ℕ) (members texts : List (List ℕ)) (rows : List ℕ) → rows_fit n members texts rows ≡ true
+    → (k : ℕ) → k < length texts → (bit_at (get_or rows k 0) n == 1) ≡ is_among (get_or texts k []) members
 unfolding rows_fit
 rows_fit-at n members [] rows h k l = absurd (omega arith)
 rows_fit-at n members (t ∷ texts) [] h k l = absurd cc
@@ -354,7 +355,9 @@ unfolding names
 few = refl
 
 pub mathml-row : (k : ℕ) → k < length names → (s : TagSet) → has_set (mathml_row k) s ≡ is_among (get_or names k []) (mathml_names_of s)
-mathml-row k l s = let l' : k < 626 = omega (arith, few) in rw (← rows_at mathml_row k 626 l') (rows_fit-at (number_of s) (mathml_names_of s) names (map mathml_row (range_with_len 0 626)) (mathml-fits s) k l)
+mathml-row k l s = let l' : k < 626 = omega (arith, few) in rw (← rows_at mathml_row k 626 l')
+    (rows_fit-at (number_of s) (mathml_names_of s) names (map mathml_row (range_with_len 0 626)) (mathml-fits s) k l)
 
 pub svg-row : (k : ℕ) → k < length names → (s : TagSet) → has_set (svg_row k) s ≡ is_among (get_or names k []) (svg_names_of s)
-svg-row k l s = let l' : k < 626 = omega (arith, few) in rw (← rows_at svg_row k 626 l') (rows_fit-at (number_of s) (svg_names_of s) names (map svg_row (range_with_len 0 626)) (svg-fits s) k l)
+svg-row k l s = let l' : k < 626 = omega (arith, few) in rw (← rows_at svg_row k 626 l')
+    (rows_fit-at (number_of s) (svg_names_of s) names (map svg_row (range_with_len 0 626)) (svg-fits s) k l)

@@ -1,5 +1,6 @@
 -- How the name of an element is held.
-use Rattle.std.proofs.Common.{◌≡◌, ℕ, ◌<◌, false, List, [], length, get_or, refl, sym, ap, subst, Option, Some, None, Result, Ok, Err, inl, inr}
+use Rattle.std.proofs.Common.{◌≡◌, ℕ, ◌<◌, false, List, [], length, get_or, refl, sym, ap, subst, Option, Some, None, Result}
+use Rattle.std.proofs.Common.{Ok, Err, inl, inr}
 use Rattle.std.specs.Prelude.{IfOk, ◌⊎◌, nat_eq}
 use Rattle.std.specs.List.{list_any}
 use Rattle.std.specs.Str.{bytes_eq}
@@ -21,7 +22,8 @@ ok-map P Q (Ok x) f h = f x h
 ok-map P Q (Err e) f h = tt
 
 -- a name that is held whole
-rare-fits : (kind : ElementNamespace) (known : Option KnownName) (form : NameForm) (uri name : List ℕ) → IsKnownAs known name → (kind ≡ Other) ⊎ (known ≡ None) → IsRareForm form uri name → FitsForm kind form
+rare-fits : (kind : ElementNamespace) (known : Option KnownName) (form : NameForm) (uri name : List ℕ)
+    → IsKnownAs known name → (kind ≡ Other) ⊎ (known ≡ None) → IsRareForm form uri name → FitsForm kind form
 rare-fits kind known (Known k) uri name is which form = absurd form
 rare-fits Html known (Rare rare) uri name is (inl other) form = absurd cc
 rare-fits Html known (Rare rare) uri name is (inr none) form =
@@ -31,11 +33,14 @@ rare-fits MathMl known (Rare rare) uri name is which form = tt
 rare-fits Svg known (Rare rare) uri name is which form = tt
 rare-fits Other known (Rare rare) uri name is which form = tt
 
-rare-same : (kind : ElementNamespace) (form : NameForm) (uri name : List ℕ) → IsRareForm form uri name → named_by kind form ≡ record { namespace = namespace_of uri; name = name }
+rare-same : (kind : ElementNamespace) (form : NameForm) (uri name : List ℕ) → IsRareForm form uri name
+    → named_by kind form ≡ record { namespace = namespace_of uri; name = name }
 rare-same kind (Known k) uri name form = absurd form
 rare-same kind (Rare rare) uri name form = rw (form.0, form.1) refl
 
-pub rare-holds : (class : ElementClass) (form : NameForm) (uri name : List ℕ) → IsClassOf (namespace_of uri) name class → (class.namespace ≡ Other) ⊎ (class.known ≡ None) → IsRareForm form uri name → Holds class.namespace form (namespace_of uri) name
+pub rare-holds : (class : ElementClass) (form : NameForm) (uri name : List ℕ)
+    → IsClassOf (namespace_of uri) name class → (class.namespace ≡ Other) ⊎ (class.known ≡ None)
+    → IsRareForm form uri name → Holds class.namespace form (namespace_of uri) name
 rare-holds class form uri name is which held = record {
   same = rare-same class.namespace form uri name held;
   fits = rare-fits class.namespace class.known form uri name is.known which held;
@@ -48,7 +53,8 @@ space-back Namespace.Svg kind e h = ap space_of (sym e)
 space-back (Namespace.Other uri) kind e h = absurd (h (sym e))
 
 -- a known name of HTML, MathML or SVG
-pub known-holds : (class : ElementClass) (known : KnownName) (space : Namespace) (name : List ℕ) → IsClassOf space name class → class.known ≡ Some known → (class.namespace ≡ Other → ⊥) → Holds class.namespace (Known known) space name
+pub known-holds : (class : ElementClass) (known : KnownName) (space : Namespace) (name : List ℕ)
+    → IsClassOf space name class → class.known ≡ Some known → (class.namespace ≡ Other → ⊥) → Holds class.namespace (Known known) space name
 known-holds class known space name is some own =
     let at : IsNameAt known.place name = subst (λ (k : Option KnownName). IsKnownAs k name) some is.known in
     record {
@@ -57,8 +63,10 @@ known-holds class known space name is some own =
     }
 
 -- a known name of HTML, compared
-pub named-known : (place other : ℕ) (name : List ℕ) → place < length names → IsNameAt other name → nat_eq place other ≡ named_in Namespace.Html (get_or names place []) name
+pub named-known : (place other : ℕ) (name : List ℕ) → place < length names → IsNameAt other name
+    → nat_eq place other ≡ named_in Namespace.Html (get_or names place []) name
 named-known place other name l is = known-same place other (get_or names place []) name (record { within = l; there = refl }) is
 
-pub named-unknown : (place : ℕ) (name : List ℕ) → place < length names → list_any (bytes_eq name) names ≡ false → false ≡ named_in Namespace.Html (get_or names place []) name
+pub named-unknown : (place : ℕ) (name : List ℕ) → place < length names → list_any (bytes_eq name) names ≡ false
+    → false ≡ named_in Namespace.Html (get_or names place []) name
 named-unknown place name l none = sym (known-unknown place (get_or names place []) name (record { within = l; there = refl }) none)

@@ -58,7 +58,8 @@ known-unknown a n m is none = by (bytes_eq n m) refl where
   by : (b : Bool) → bytes_eq n m ≡ b → bytes_eq n m ≡ false
   by true e =
       let same : n ≡ m = (bytes_eq-Decides n m).0 e in
-      let found : list_any (bytes_eq m) names ≡ true = list_any_at (bytes_eq m) names a [] is.within ((bytes_eq-Decides _ _).1 (sym same ∙ sym is.there)) in
+      let found : list_any (bytes_eq m) names ≡ true = list_any_at (bytes_eq m) names a [] is.within
+      ((bytes_eq-Decides _ _).1 (sym same ∙ sym is.there)) in
       absurd cc
   by false e = e
 
@@ -67,6 +68,7 @@ unknown-known b n m none is = by (bytes_eq n m) refl where
   by : (c : Bool) → bytes_eq n m ≡ c → bytes_eq n m ≡ false
   by true e =
       let same : n ≡ m = (bytes_eq-Decides n m).0 e in
-      let found : list_any (bytes_eq n) names ≡ true = list_any_at (bytes_eq n) names b [] is.within ((bytes_eq-Decides _ _).1 (same ∙ sym is.there)) in
+      let found : list_any (bytes_eq n) names ≡ true = list_any_at (bytes_eq n) names b [] is.within
+      ((bytes_eq-Decides _ _).1 (same ∙ sym is.there)) in
       absurd cc
   by false e = e

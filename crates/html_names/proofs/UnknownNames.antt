@@ -317,16 +317,19 @@ known MathMl s = mathml-known s
 known Svg s = svg-known s
 known (Other uri) s = refl
 
-none_among : (name : List ℕ) (members texts : List (List ℕ)) → list_any (bytes_eq name) texts ≡ false → list_all (λ member. list_any (bytes_eq member) texts) members ≡ true → is_among name members ≡ false
+none_among : (name : List ℕ) (members texts : List (List ℕ)) → list_any (bytes_eq name) texts ≡ false
+    → list_all (λ member. list_any (bytes_eq member) texts) members ≡ true → is_among name members ≡ false
 none_among name [] texts h k = refl
 none_among name (m ∷ members) texts h k =
     let parts = and_parts _ _ k in
     by (bytes_eq name m) refl parts.0 (none_among name members texts h parts.1)
   where
-    by : (b : Bool) → bytes_eq name m ≡ b → list_any (bytes_eq m) texts ≡ true → is_among name members ≡ false → (bytes_eq name m || is_among name members) ≡ false
+    by : (b : Bool) → bytes_eq name m ≡ b → list_any (bytes_eq m) texts ≡ true → is_among name members ≡ false
+        → (bytes_eq name m || is_among name members) ≡ false
     by true e known rest = let same : name ≡ m = (bytes_eq-Decides name m).0 e in absurd (cc (ap (λ t. list_any (bytes_eq t) texts) same))
     by false e known rest = rw e rest
 
 -- a name that is not known is in no set
-pub unknown-among : (space : Namespace) (name : List ℕ) (s : TagSet) → list_any (bytes_eq name) names ≡ false → is_among name (names_in space s) ≡ false
+pub unknown-among : (space : Namespace) (name : List ℕ) (s : TagSet) → list_any (bytes_eq name) names ≡ false
+    → is_among name (names_in space s) ≡ false
 unknown-among space name s h = none_among name (names_in space s) names h (known space s)

@@ -4,7 +4,8 @@ use Rattle.markup.specs.KnownNames.{names}
 use Rattle.markup.specs.Namespaces.{name_of, prefix_of}
 use Rattle.markup.specs.declared.attributes.Attribute.{Attribute}
 use Rattle.markup.specs.declared.names.QualName.{QualName}
-use Rattle.html_rules.specs.Renames.{foreign_attribute_names, foreign_named, mathml_attribute_names, renamed, svg_attribute_names, svg_tag_names}
+use Rattle.html_rules.specs.Renames.{foreign_attribute_names, foreign_named, mathml_attribute_names, renamed}
+use Rattle.html_rules.specs.Renames.{svg_attribute_names, svg_tag_names}
 use Rattle.html_names.specs.declared.element_class.ElementNamespace.{ElementNamespace}
 use Rattle.html_names.specs.declared.element_class.ElementNamespace.TheVariants.{MathMl, Svg}
 use Rattle.html_names.specs.declared.renames.ForeignName.{ForeignName}
@@ -53,4 +54,5 @@ adjust_local Svg name = renamed svg_attribute_names name
 adjust_local _ name = name
 
 abbrev pub adjust_attribute : ElementNamespace → Attribute → Attribute
-adjust_attribute namespace attribute = record attribute { name = foreign_named foreign_attribute_names (record attribute.name { local = adjust_local namespace attribute.name.local }) }
+adjust_attribute namespace attribute = record attribute
+    { name = foreign_named foreign_attribute_names (record attribute.name { local = adjust_local namespace attribute.name.local }) }

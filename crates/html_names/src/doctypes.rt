@@ -4,7 +4,8 @@ ghost use Rattle.std.specs.List.{list_all, list_any};
 ghost use Rattle.std.specs.Str.{chars};
 ghost use Rattle.markup.specs.Plain.{is_plain};
 ghost use Rattle.html_tokens.specs.Characters.{begins_any_case};
-ghost use Rattle.html_rules.specs.Doctypes.{begins_with_one, doctype_error, is_allowed, is_given, is_quirky, lowered, quirks_of, quirks_of_identifiers, quirky_public_prefixes};
+ghost use Rattle.html_rules.specs.Doctypes.{begins_with_one, doctype_error, is_allowed, is_given, is_quirky, lowered};
+ghost use Rattle.html_rules.specs.Doctypes.{quirks_of, quirks_of_identifiers, quirky_public_prefixes};
 
 use crate::any_case;
 use html_tokens::Doctype;
@@ -192,7 +193,10 @@ fn is_error(doctype: &Doctype) -> bool
 
 /// Whether identifiers are, as a whole, those of a doctype that sets quirks mode.
 fn are_quirky(public_id: &Option<Text>, system_id: &Option<Text>) -> bool
-    ensures { result ≡ (is_given (lowered public_id.now) (codes "-//w3o//dtd w3 html strict 3.0//en//") || is_given (lowered public_id.now) (codes "-/w3c/dtd html 4.0 transitional/en") || is_given (lowered public_id.now) (codes "html") || is_given (lowered system_id.now) (codes "http://www.ibm.com/data/dtd/v11/ibmxhtml1-transitional.dtd")) }
+    ensures { result ≡ (is_given (lowered public_id.now) (codes "-//w3o//dtd w3 html strict 3.0//en//")
+        || is_given (lowered public_id.now) (codes "-/w3c/dtd html 4.0 transitional/en")
+        || is_given (lowered public_id.now) (codes "html") || is_given (lowered system_id.now)
+        (codes "http://www.ibm.com/data/dtd/v11/ibmxhtml1-transitional.dtd")) }
 {
     is_given_any_case(public_id, "-//w3o//dtd w3 html strict 3.0//en//")
         || is_given_any_case(public_id, "-/w3c/dtd html 4.0 transitional/en")

@@ -11,7 +11,8 @@ use Rattle.html_nodes.specs.declared.alike.SeenCall.{SeenCall}
 
 run-kept : (told : List SeenCall) (calls : List Call) → run kept told calls ≡ Ok (told ++ all_told calls)
 run-kept told [] = ap (λ (l : List SeenCall). Ok l) (sym (append-nil told))
-run-kept told (call ∷ calls) = run-kept (told ++ told_of call ∷ []) calls ∙ ap (λ (l : List SeenCall). Ok l) (append_assoc told (told_of call ∷ []) (all_told calls))
+run-kept told (call ∷ calls) = run-kept (told ++ told_of call ∷ []) calls ∙ ap (λ (l : List SeenCall). Ok l)
+    (append_assoc told (told_of call ∷ []) (all_told calls))
 
 value_of : Result (List SeenCall) SerializeFault → List SeenCall
 value_of (Ok told) = told
@@ -42,10 +43,12 @@ calls_of_told (t ∷ ts) = call_of t ∷ calls_of_told ts
 
 calls-back : (calls : List Call) → calls_of_told (all_told calls) ≡ calls
 calls-back [] = refl
-calls-back (call ∷ calls) = ap (λ c. c ∷ calls_of_told (all_told calls)) (call-back call) ∙ ap (λ (cs : List Call). call ∷ cs) (calls-back calls)
+calls-back (call ∷ calls) = ap (λ c. c ∷ calls_of_told (all_told calls)) (call-back call)
+    ∙ ap (λ (cs : List Call). call ∷ cs) (calls-back calls)
 
 -- the test of what is kept decides whether the calls are equal
-pub calls_by_value : (first second : List Call) (a b : List SeenCall) (alike : Bool) → a ≡ all_told first → b ≡ all_told second → alike ≡ pointwise same_told a b → Decides alike (first ≡ second)
+pub calls_by_value : (first second : List Call) (a b : List SeenCall) (alike : Bool) → a ≡ all_told first
+    → b ≡ all_told second → alike ≡ pointwise same_told a b → Decides alike (first ≡ second)
 calls_by_value first second a b alike is_first is_second test =
     let d = slice_eq-Decides told_by_value a b alike test in (
       λ e. sym (calls-back first) ∙ (ap calls_of_told (sym is_first ∙ (d.0 e ∙ is_second)) ∙ calls-back second),

@@ -40,7 +40,8 @@ kept calls call = Ok (calls ++ told_of call ∷ [])
 
 abbrev pub same_told : SeenCall → SeenCall → Bool
 same_told a b =
-    a.kind == b.kind && (same_name a.name b.name && (pointwise attribute_eq a.attributes b.attributes && (pointwise nat_eq a.text b.text && pointwise nat_eq a.more b.more)))
+    a.kind == b.kind && (same_name a.name b.name
+    && (pointwise attribute_eq a.attributes b.attributes && (pointwise nat_eq a.text b.text && pointwise nat_eq a.more b.more)))
 
 numbers_by_value : (a b : ℕ) → Decides (a == b) (a ≡ b)
 numbers_by_value a b = (eqb-true a b, eq-eqb a b)
@@ -48,7 +49,8 @@ numbers_by_value a b = (eqb-true a b, eq-eqb a b)
 pub told_by_value : (a b : SeenCall) → Decides (same_told a b) (a ≡ b)
 told_by_value a b =
     let texts = and-Decides _ _ (texts_by_value a.text b.text) (texts_by_value a.more b.more) in
-    let d = and-Decides _ _ (numbers_by_value a.kind b.kind) (and-Decides _ _ (names_by_value a.name b.name) (and-Decides _ _ (attribute_lists_by_value a.attributes b.attributes) texts)) in (
+    let d = and-Decides _ _ (numbers_by_value a.kind b.kind)
+    (and-Decides _ _ (names_by_value a.name b.name) (and-Decides _ _ (attribute_lists_by_value a.attributes b.attributes) texts)) in (
       λ e. let h = d.0 e in λ i. record { kind = h.0 i; name = h.1.0 i; attributes = h.1.1.0 i; text = h.1.1.1.0 i; more = h.1.1.1.1 i },
       λ e. d.1 (ap (λ t. t.kind) e, (ap (λ t. t.name) e, (ap (λ t. t.attributes) e, (ap (λ t. t.text) e, ap (λ t. t.more) e)))),
     )
@@ -56,6 +58,9 @@ told_by_value a b =
 pub told_equivalence : IsEquivalence same_told
 told_equivalence = record {
   refl = λ a. (told_by_value a a).1 refl;
-  symm = λ a b. one_answer (same_told a b) (same_told b a) (told_by_value a b) (λ h. sym ((told_by_value b a).0 h), λ e. (told_by_value b a).1 (sym e));
+  symm = λ a b. one_answer (same_told a b) (same_told b a) (told_by_value a b) (
+    λ h. sym ((told_by_value b a).0 h),
+    λ e. (told_by_value b a).1 (sym e),
+  );
   congr = λ a b c h. ap (λ k. same_told k c) ((told_by_value a b).0 h);
 }

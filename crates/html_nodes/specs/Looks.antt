@@ -1,5 +1,6 @@
 -- What is asked of a node: its name, its attributes, its classes and its text (DOM Standard, sections 4.4, 4.9 and 4.11).
-use Rattle.std.specs.Prelude.{ℕ, ◌==◌, ◌&&◌, Bool, true, false, cond, not, List, [], ◌∷◌, ◌++◌, length, Option, Some, None, is_some, codes, encode_utf8_all}
+use Rattle.std.specs.Prelude.{ℕ, ◌==◌, ◌&&◌, Bool, true, false, cond, not, List, [], ◌∷◌, ◌++◌, length, Option, Some, None}
+use Rattle.std.specs.Prelude.{is_some, codes, encode_utf8_all}
 use Rattle.std.specs.Borrow.{Bor}
 use Rattle.std.specs.Char.{is_ascii_whitespace}
 use Rattle.std.specs.List.{list_any, slice_split}
@@ -36,7 +37,8 @@ attributes_of _ = []
 abbrev pub value_in : List Attribute → List ℕ → Option (List ℕ)
 value_in [] local = None
 value_in (attribute ∷ others) local =
-    cond (bytes_eq attribute.name.ns (name_of NoNamespace) && is_spelled attribute.name.local local) (Some attribute.value) (value_in others local)
+    cond (bytes_eq attribute.name.ns (name_of NoNamespace) && is_spelled attribute.name.local local)
+    (Some attribute.value) (value_in others local)
 
 abbrev pub attribute_of : Forest → ℕ → List ℕ → Option (List ℕ)
 attribute_of f n local = value_in (attributes_of (data_of f n)) local
@@ -49,7 +51,8 @@ is_value (Some value) bytes = is_spelled value bytes
 -- whether there is a value, and one of the words that ASCII white space parts in it has that spelling; no word is empty
 abbrev pub has_word : Option (List ℕ) → List ℕ → Bool
 has_word None word = false
-has_word (Some value) word = not (length word == 0) && list_any (λ part. bytes_eq part word) (slice_split is_ascii_whitespace (encode_utf8_all value))
+has_word (Some value) word = not (length word == 0) && list_any (λ part. bytes_eq part word)
+    (slice_split is_ascii_whitespace (encode_utf8_all value))
 
 -- TEXT
 

@@ -189,7 +189,8 @@ pub fn are_told_alike(
     second: &Forest,
     second_top: NodeId,
 ) -> Result<bool, SerializeFault>
-    ensures { IfOk result (λ alike. Decides alike (calls_of (walked first.now first_top (ChildrenOnly None)) ≡ calls_of (walked second.now second_top (ChildrenOnly None)))) }
+    ensures { IfOk result (λ alike. Decides alike
+        (calls_of (walked first.now first_top (ChildrenOnly None)) ≡ calls_of (walked second.now second_top (ChildrenOnly None)))) }
 {
     let first = told_below(alloc, first, first_top)?;
     let second = told_below(alloc, second, second_top)?;

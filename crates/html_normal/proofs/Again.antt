@@ -30,4 +30,5 @@ state-in other (Err refusal) = other
 
 -- bytes have one document at most
 pub same-document : (table : List Row) (bytes : List ℕ) (f g : Forest) → IsDocument table bytes f → IsDocument table bytes g → f ≡ g
-same-document table bytes f g a b = a.tree ∙ (ap (λ (r : Result State Refusal). (state-in a.state r).forest) (sym a.read ∙ b.read) ∙ sym b.tree)
+same-document table bytes f g a b = a.tree
+    ∙ (ap (λ (r : Result State Refusal). (state-in a.state r).forest) (sym a.read ∙ b.read) ∙ sym b.tree)

@@ -23,7 +23,9 @@ module _ {K H : Type 0} (Sink : TreeGhosts K H Forest) (table : List Row) (exact
   Built opts setting attributes f text out = IsBuilt Sink (of_new_context table opts setting name attributes true f) text out
 
   -- how a fragment begins does not depend on how the parts of its beginning are named
-  built-same : (opts : TokenizerOpts) (setting : Setting) (attributes : List Attribute) (f : Forest) (text waits : List ℕ) (out : Forest) → opts ≡ opts_with exact → setting ≡ default_setting → attributes ≡ [] → f ≡ empty_forest → waits ≡ []
+  built-same : (opts : TokenizerOpts) (setting : Setting) (attributes : List Attribute) (f : Forest)
+      (text waits : List ℕ) (out : Forest) → opts ≡ opts_with exact → setting ≡ default_setting → attributes ≡ []
+      → f ≡ empty_forest → waits ≡ []
       → Built opts setting attributes f (text ++ waits) out → Built (opts_with exact) default_setting [] empty_forest text out
   built-same opts setting attributes f text waits out opts_is setting_is none_is forest_is empty built =
       subst (λ (g : Forest). Built (opts_with exact) default_setting [] g text out) forest_is
@@ -34,15 +36,23 @@ module _ {K H : Type 0} (Sink : TreeGhosts K H Forest) (table : List Row) (exact
       (subst (λ (cs : List ℕ). Built opts setting attributes f (text ++ cs) out) empty built)))))
 
   -- what was built of all that a reader had is its fragment
-  pub fragment-made : (opts : TokenizerOpts) (setting : Setting) (attributes : List Attribute) (f : Forest) (old new : Option (List ℕ)) (bytes waits : List ℕ) (out : Forest)
-      → ((sink : K) → Sink.finish_gives sink out → out ≡ Sink.forest sink) → opts ≡ opts_with exact → setting ≡ default_setting → attributes ≡ [] → f ≡ empty_forest → waits ≡ []
+  pub fragment-made : (opts : TokenizerOpts) (setting : Setting) (attributes : List Attribute) (f : Forest)
+      (old new : Option (List ℕ)) (bytes waits : List ℕ) (out : Forest)
+      → ((sink : K) → Sink.finish_gives sink out → out ≡ Sink.forest sink) → opts ≡ opts_with exact
+      → setting ≡ default_setting → attributes ≡ [] → f ≡ empty_forest → waits ≡ []
       → IsUtf8 bytes → old ≡ prepend_known bytes new → IsAtEnd new → Built opts setting attributes f (chars bytes ++ waits) out
       → (whole : List ℕ) → old ≡ Some whole → IsFragmentRead table name whole new (with_errors 0 out)
-  fragment-made opts setting attributes f old new bytes waits out gives opts_is setting_is none_is forest_is empty text moved end built whole told =
+  fragment-made opts setting attributes f old new bytes waits out gives opts_is setting_is none_is forest_is empty
+      text moved end built whole told =
       let every = all-read old new bytes whole moved end told in
       let made = built-same opts setting attributes f (chars bytes) waits out opts_is setting_is none_is forest_is empty built in
       let of_all = subst (λ (bs : List ℕ). Built (opts_with exact) default_setting [] empty_forest (chars bs) out) every.same made in
       record {
-        input = record { text = subst IsUtf8 every.same text; state = of_all.state; read = of_all.is; tree = ap (with_errors 0) (gives of_all.sink of_all.gives) ∙ of_all.same };
+        input = record {
+          text = subst IsUtf8 every.same text;
+          state = of_all.state;
+          read = of_all.is;
+          tree = ap (with_errors 0) (gives of_all.sink of_all.gives) ∙ of_all.same;
+        };
         taken = every.taken;
       }

@@ -21,7 +21,11 @@ default_opts = record { exact_errors = false; discard_bom = true; initial_state 
 
 -- how a tree in memory answers the rules: it has no shadow trees
 abbrev pub forest_answers : Answers
-forest_answers = record { integration_point = λ f n. integration_point_of (data_of f n); allows_shadow_roots = λ f n. true; attaches_shadow = λ f host template attributes. false }
+forest_answers = record {
+  integration_point = λ f n. integration_point_of (data_of f n);
+  allows_shadow_roots = λ f n. true;
+  attaches_shadow = λ f host template attributes. false;
+}
 
 -- scripts run, and the document is a page of its own
 abbrev pub default_setting : Setting
@@ -44,11 +48,13 @@ pub record IsDocument (table : List Row) (bytes : List ℕ) (f : Forest) : Type 
 
 -- how many faulty items a text has as a document
 abbrev pub faults_of : List Row → List ℕ → ℕ
-faults_of table text = owed step is_quiet asks_cdata ended table (stand_of default_opts) 0 (hushed (before_document default_setting empty_forest)) (normal_text true text)
+faults_of table text = owed step is_quiet asks_cdata ended table (stand_of default_opts) 0
+    (hushed (before_document default_setting empty_forest)) (normal_text true text)
 
 -- whether no item of a text has a fault and the rules find no error in a token
 abbrev pub is_quiet_document : List Row → List ℕ → Bool
-is_quiet_document table text = is_quiet_reading step is_quiet asks_cdata ended table (stand_of default_opts) 0 (hushed (before_document default_setting empty_forest)) (normal_text true text)
+is_quiet_document table text = is_quiet_reading step is_quiet asks_cdata ended table (stand_of default_opts) 0
+    (hushed (before_document default_setting empty_forest)) (normal_text true text)
 
 -- how many characters of a text are errors on their own: control characters and noncharacters, where these are told
 abbrev pub emitted_characters : Bool → List ℕ → ℕ

@@ -24,9 +24,12 @@ pub record IsWritten (exact : Bool) (bytes : List ℕ) (old new : Option (List �
 -- Normal bytes are read as a document with the trees that they are normal with, and written as they are, however they are read, and
 -- without an error.
 abbrev pub AreNormalBytesKept : Type 0
-AreNormalBytesKept = (table : List Row) (exact : Bool) (trees : Trees) (bytes : List ℕ) (left old new : Option (List ℕ)) (report : Report) → IsNormal table trees bytes → (given : IsNormalised table exact bytes left old new report)
+AreNormalBytesKept = (table : List Row) (exact : Bool) (trees : Trees) (bytes : List ℕ)
+    (left old new : Option (List ℕ)) (report : Report) → IsNormal table trees bytes
+    → (given : IsNormalised table exact bytes left old new report)
     → IsWritten exact bytes old new report × (document_trees given.document ≡ trees)
 
 -- What a plain forest is written as is normal with its trees, by whatever table that reads what escaping writes.
 abbrev pub ArePlainForestsNormal : Type 0
-ArePlainForestsNormal = (table : List Row) → ReadsEscapes table → (f : Forest) → is_plain_forest f ≡ true → IsNormal table (document_trees f) (document_bytes f)
+ArePlainForestsNormal = (table : List Row) → ReadsEscapes table → (f : Forest) → is_plain_forest f ≡ true
+    → IsNormal table (document_trees f) (document_bytes f)

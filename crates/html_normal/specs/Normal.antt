@@ -15,7 +15,8 @@ use Rattle.html_normal.specs.declared.fault.NormalFault.TheVariants.{NotUtf8, Re
 use Rattle.html_normal.specs.declared.report.Report.{Report}
 
 -- All of the input was read, this is its document, and so many errors were counted.
-pub record IsRead (table : List Row) (exact : Bool) (whole : List ℕ) (left : Option (List ℕ)) (document : Forest) (errors : ℕ) : Type 0 where
+pub record IsRead (table : List Row) (exact : Bool) (whole : List ℕ) (left : Option (List ℕ)) (document : Forest)
+    (errors : ℕ) : Type 0 where
   pub input : IsDocument table whole document
   pub taken : left ≡ Some []
   pub counts : CountsErrors table exact (chars whole) errors
@@ -31,7 +32,8 @@ pub record IsNormalised (table : List Row) (exact : Bool) (whole : List ℕ) (le
   pub quirks : report.quirks ≡ document.quirks
   pub errors : CountsErrors table exact (chars whole) report.errors
   -- read again, by whatever table that reads what escaping writes, a plain document's text is that document, and is written the same
-  pub again : report.plain ≡ true → (other : List Row) → ReadsEscapes other → IsNormal other (document_trees document) (document_bytes document)
+  pub again : report.plain ≡ true → (other : List Row) → ReadsEscapes other
+      → IsNormal other (document_trees document) (document_bytes document)
 
 -- A beginning of the document was written.
 pub record IsBegun (table : List Row) (whole : List ℕ) (old new : Option (List ℕ)) : Type 0 where
@@ -58,8 +60,10 @@ IsInputFault refused old new Refused = refused
 
 -- What a fault says of the bytes of the input that were left before and are left now, and of those written before and now.
 abbrev pub IsFailed : List Row → (left left' old new : Option (List ℕ)) → NormalFault → Type 0
-IsFailed table left left' old new (NotUtf8 at) = (new ≡ old) × ((whole rest : List ℕ) → left ≡ Some whole → left' ≡ Some rest → ShowsNotUtf8 whole rest at)
-IsFailed table left left' old new Read = (new ≡ old) × ((whole rest : List ℕ) → left ≡ Some whole → left' ≡ Some rest → HasBegun whole rest ⊎ IsTooLong whole rest)
+IsFailed table left left' old new (NotUtf8 at) =
+    (new ≡ old) × ((whole rest : List ℕ) → left ≡ Some whole → left' ≡ Some rest → ShowsNotUtf8 whole rest at)
+IsFailed table left left' old new Read =
+    (new ≡ old) × ((whole rest : List ℕ) → left ≡ Some whole → left' ≡ Some rest → HasBegun whole rest ⊎ IsTooLong whole rest)
 IsFailed table left left' old new Write = (whole : List ℕ) → left ≡ Some whole → IsBegun table whole old new
 IsFailed table left left' old new Memory = (new ≡ old) ⊎ ((whole : List ℕ) → left ≡ Some whole → IsBegun table whole old new)
 IsFailed table left left' old new Refused = ⊥
@@ -74,7 +78,8 @@ pub record HasTooMany (left left' : Option (List ℕ)) : Type 0 where
 
 -- How often a reader has failed, by how often it had: once more where it is told that reading failed, unless it tells too many bytes.
 abbrev pub CountsReads : {T : Type 0} → Result T NormalFault → (left left' : Option (List ℕ)) (failures failures' : Option ℕ) → Type 0
-CountsReads (Err Read) left left' failures failures' = (failures' ≡ count_after true failures) ⊎ ((failures' ≡ failures) × HasTooMany left left')
+CountsReads (Err Read) left left' failures failures' = (failures' ≡ count_after true failures)
+    ⊎ ((failures' ≡ failures) × HasTooMany left left')
 CountsReads result left left' failures failures' = failures' ≡ failures
 
 -- Whether the writer failed.

@@ -28,4 +28,5 @@ module _ {K H O : Type 0} (Sink : TreeGhosts K H O) where
 
   -- some text that begins as what was read is refused
   abbrev pub MayRefuse : Tokenizer (TreeBuilder K H O) → Type 0
-  MayRefuse k = (begin : Beginning State) (before : List ℕ) → HasRead (builder Sink) begin before k → IsRefusedAfter (builder Sink) begin before
+  MayRefuse k = (begin : Beginning State) (before : List ℕ) → HasRead (builder Sink) begin before k
+      → IsRefusedAfter (builder Sink) begin before

@@ -81,7 +81,8 @@ pub fn read_document<R: Source>(
     references: References,
     exact: Exact,
 ) -> Result<Forest, NormalFault>
-    ensures ok { IfOk result (λ forest. (whole : List ℕ) → R.left reader.old ≡ Some whole → IsRead references exact.tokenizer whole (R.left reader.new) (with_errors 0 forest) forest.errors) }
+    ensures ok { IfOk result (λ forest. (whole : List ℕ) → R.left reader.old ≡ Some whole
+        → IsRead references exact.tokenizer whole (R.left reader.new) (with_errors 0 forest) forest.errors) }
     ensures err { IfErr result (IsInputFault ⊥ (R.left reader.old) (R.left reader.new)) }
     ensures counted { CountsReads result (R.left reader.old) (R.left reader.new) (R.failures reader.old) (R.failures reader.new) }
     ensures same_references { R.references reader.new ≡ R.references reader.old }

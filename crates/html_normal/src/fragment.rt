@@ -23,7 +23,8 @@ pub fn read_fragment<R: Source>(
     exact: Exact,
     context: QualName,
 ) -> Result<Forest, NormalFault>
-    ensures ok { IfOk result (λ forest. (whole : List ℕ) → R.left reader.old ≡ Some whole → IsFragmentRead references context whole (R.left reader.new) (with_errors 0 forest)) }
+    ensures ok { IfOk result (λ forest. (whole : List ℕ) → R.left reader.old ≡ Some whole
+        → IsFragmentRead references context whole (R.left reader.new) (with_errors 0 forest)) }
     ensures err { IfErr result (IsInputFault ⊥ (R.left reader.old) (R.left reader.new)) }
     ensures counted { CountsReads result (R.left reader.old) (R.left reader.new) (R.failures reader.old) (R.failures reader.new) }
     ensures same_references { R.references reader.new ≡ R.references reader.old }

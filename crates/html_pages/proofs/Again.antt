@@ -34,12 +34,16 @@ told-same : (f : Forest) → told_of (with_errors 0 f) ≡ told_of f
 told-same f = ap calls_of (trees_of-same 0 f (inner_of f 0))
 
 -- what was read again is the document just where a serializer is told the same
-pub read-back : (table : List Row) (f again : Forest) (bytes : List ℕ) (is : Bool) → bytes ≡ document_bytes f → IsPage table false bytes again → Decides is ((told_of f ≡ told_of again) × (f.quirks ≡ again.quirks)) → Decides is (IsReadBack table f)
+pub read-back : (table : List Row) (f again : Forest) (bytes : List ℕ) (is : Bool) → bytes ≡ document_bytes f
+    → IsPage table false bytes again → Decides is ((told_of f ≡ told_of again) × (f.quirks ≡ again.quirks))
+    → Decides is (IsReadBack table f)
 read-back table f again bytes is written page d =
-    let input : IsDocument table (document_bytes f) (with_errors 0 again) = subst (λ (bs : List ℕ). IsDocument table bs (with_errors 0 again)) written page.document in (
+    let input : IsDocument table (document_bytes f) (with_errors 0 again) =
+    subst (λ (bs : List ℕ). IsDocument table bs (with_errors 0 again)) written page.document in (
       λ e. let h = d.0 e in record { document = with_errors 0 again; input = input; told = told-same again ∙ sym h.0; quirks = sym h.1 },
       λ p.
-          let same : p.document ≡ with_errors 0 again = one-document table (document_bytes f) p.document (with_errors 0 again) p.input input in
+          let same : p.document ≡ with_errors 0 again = one-document table (document_bytes f) p.document
+          (with_errors 0 again) p.input input in
           d.1 (sym p.told ∙ (ap told_of same ∙ told-same again), sym p.quirks ∙ ap (λ (g : Forest). g.quirks) same),
     )
 
@@ -55,11 +59,17 @@ bytes_known None = []
 bytes_known (Some bytes) = bytes
 
 -- what was written of the document, with default options, to who had nothing
-pub written-bytes : (f : Forest) (id : ℕ) (opts : SerializeOpts) (old new : WriterView) (bytes : List ℕ) → data_of f 0 ≡ Document → id ≡ 0 → opts ≡ record { scripting_enabled = true; traversal_scope = ChildrenOnly None; create_missing_parent = false }
+pub written-bytes : (f : Forest) (id : ℕ) (opts : SerializeOpts) (old new : WriterView) (bytes : List ℕ)
+    → data_of f 0 ≡ Document → id ≡ 0 → opts ≡ record {
+      scripting_enabled = true;
+      traversal_scope = ChildrenOnly None;
+      create_missing_parent = false;
+    }
     → old.written ≡ Some [] → new ≡ with_bytes old (given opts f id) → new.written ≡ Some bytes → bytes ≡ document_bytes f
 unfolding bytes_known
 written-bytes f id opts old new bytes top id_is opts_is none wrote told =
     let all : given opts f id ≡ document_bytes f =
     ap (λ (o : SerializeOpts). given o f id) opts_is
     ∙ (ap (λ n. bytes_in true (ChildrenOnly None) (walked f n (ChildrenOnly None))) id_is ∙ bytes-walked f top) in
-    ap bytes_known (sym told ∙ (ap (λ (t : WriterView). t.written) wrote ∙ ap (λ (o : Option (List ℕ)). append_known o (given opts f id)) none)) ∙ all
+    ap bytes_known (sym told ∙ (ap (λ (t : WriterView). t.written) wrote
+    ∙ ap (λ (o : Option (List ℕ)). append_known o (given opts f id)) none)) ∙ all

@@ -1,5 +1,6 @@
 -- What parsers that have begun make of whole texts.
-use Rattle.std.proofs.Common.{◌≡◌, ◌∙◌, ℕ, Bool, true, List, [], ◌++◌, Option, Some, None, Result, Ok, Err, refl, sym, ap, subst, append-nil, IsUtf8}
+use Rattle.std.proofs.Common.{◌≡◌, ◌∙◌, ℕ, Bool, true, List, [], ◌++◌, Option, Some, None, Result, Ok, Err, refl, sym, ap}
+use Rattle.std.proofs.Common.{subst, append-nil, IsUtf8}
 use Rattle.std.specs.Prelude.{IfErr, IfOk}
 use Rattle.std.specs.Str.{chars}
 use Rattle.markup.specs.Forest.{Forest, empty_forest}
@@ -43,15 +44,19 @@ memory-alone parse.TokenInText h = absurd h
 memory-alone parse.Ended h = absurd h
 memory-alone parse.Shape h = absurd h
 
-module _ {K H O : Type 0} (Sink : TreeGhosts K H O) (begin : Beginning State) (failed : Bool) (k : Tokenizer (TreeBuilder K H O)) (input : Queue) (begins : Begins Sink begin failed k input) (text : List ℕ) where
-  pub whole-built : (out : O) → Finishes Sink (stopped_by failed (refusal_of k)) k (input.characters ++ text) (Ok out) → IsBuilt Sink begin text out
+module _ {K H O : Type 0} (Sink : TreeGhosts K H O) (begin : Beginning State) (failed : Bool)
+    (k : Tokenizer (TreeBuilder K H O)) (input : Queue) (begins : Begins Sink begin failed k input) (text : List ℕ) where
+  pub whole-built : (out : O) → Finishes Sink (stopped_by failed (refusal_of k)) k (input.characters ++ text)
+      (Ok out) → IsBuilt Sink begin text out
   whole-built out gives =
       let free = subst (λ (o : Option ParseFault). Finishes Sink o k (input.characters ++ text) (Ok out)) begins.starts.begun gives in
       subst (λ (cs : List ℕ). IsBuilt Sink begin (cs ++ text) out) begins.starts.empty (free begin [] begins.starts.read)
 
-  pub whole-failed : (fault : ParseFault) → Finishes {O = O} Sink (stopped_by failed (refusal_of k)) k (input.characters ++ text) (Err fault) → fault_of fault ≡ Memory
+  pub whole-failed : (fault : ParseFault) → Finishes {O = O} Sink (stopped_by failed (refusal_of k)) k
+      (input.characters ++ text) (Err fault) → fault_of fault ≡ Memory
   whole-failed fault gives =
-      let free = subst (λ (o : Option ParseFault). Finishes {O = O} Sink o k (input.characters ++ text) (Err fault)) begins.starts.begun gives in
+      let free = subst (λ (o : Option ParseFault). Finishes {O = O} Sink o k (input.characters ++ text) (Err fault))
+      begins.starts.begun gives in
       memory-alone fault (finish-fault (builder Sink) fault None None begin [] k begins.starts.read begins.taken free)
 
 -- a sink that gives a forest in which it is, as one that gives that forest
@@ -65,8 +70,10 @@ forest_sink Sink = record {
   attaches_shadow = Sink.attaches_shadow;
 }
 
-module _ {K H O : Type 0} (Sink : TreeGhosts K H O) (forest_of : O → Forest) (is_its : (sink : K) (out : O) → Sink.finish_gives sink out → forest_of out ≡ Sink.forest sink) where
-  forest-built : (begin : Beginning State) (text : List ℕ) (out : O) → IsBuilt Sink begin text out → IsBuilt (forest_sink Sink) begin text (forest_of out)
+module _ {K H O : Type 0} (Sink : TreeGhosts K H O) (forest_of : O → Forest)
+    (is_its : (sink : K) (out : O) → Sink.finish_gives sink out → forest_of out ≡ Sink.forest sink) where
+  forest-built : (begin : Beginning State) (text : List ℕ) (out : O) → IsBuilt Sink begin text out
+      → IsBuilt (forest_sink Sink) begin text (forest_of out)
   forest-built begin text out built = record {
     sink = built.sink;
     gives = is_its built.sink out built.gives;
@@ -82,12 +89,17 @@ module _ {K H O : Type 0} (Sink : TreeGhosts K H O) (forest_of : O → Forest) (
       → IsBuilt Sink (of_document table opts setting f) (chars bytes) out → IsPage table exact bytes (forest_of out)
   page-made table exact opts setting f bytes out opts_is setting_is forest_is text built =
       let made = forest-built (of_document table opts setting f) (chars bytes) out built in
-      let all = subst (λ (cs : List ℕ). IsBuilt (forest_sink Sink) (of_document table opts setting f) cs (forest_of out)) (sym (append-nil (chars bytes))) made in
-      let read = document-made (forest_sink Sink) table exact opts setting f (Some bytes) (Some []) bytes [] (forest_of out) (λ sink is. is) opts_is setting_is forest_is refl text (ap (λ (bs : List ℕ). Some bs) (sym (append-nil bytes))) refl all bytes refl in
+      let all = subst (λ (cs : List ℕ). IsBuilt (forest_sink Sink) (of_document table opts setting f) cs
+      (forest_of out)) (sym (append-nil (chars bytes))) made in
+      let read = document-made (forest_sink Sink) table exact opts setting f (Some bytes) (Some []) bytes []
+      (forest_of out) (λ sink is. is) opts_is setting_is forest_is refl text
+      (ap (λ (bs : List ℕ). Some bs) (sym (append-nil bytes))) refl all bytes refl in
       record { document = read.input; counts = read.counts }
 
 -- what was built of a text in a new element is its fragment
-pub fragment-made : {K H : Type 0} (Sink : TreeGhosts K H Forest) → ((sink : K) (out : Forest) → Sink.finish_gives sink out → out ≡ Sink.forest sink) → (table : List Row) (opts : TokenizerOpts) (setting : Setting) (f : Forest) (name : QualName) (attrs : List Attribute) (text : List ℕ) (out : Forest)
+pub fragment-made : {K H : Type 0} (Sink : TreeGhosts K H Forest)
+    → ((sink : K) (out : Forest) → Sink.finish_gives sink out → out ≡ Sink.forest sink) → (table : List Row)
+    (opts : TokenizerOpts) (setting : Setting) (f : Forest) (name : QualName) (attrs : List Attribute) (text : List ℕ) (out : Forest)
     → opts ≡ default_opts → setting ≡ default_setting → f ≡ empty_forest → attrs ≡ []
     → IsBuilt Sink (of_new_context table opts setting name attrs true f) text out → IsFragment table name text out
 fragment-made Sink gives table opts setting f name attrs text out opts_is setting_is forest_is none built =

@@ -48,7 +48,8 @@ impl NotedForest {
 
 impl TreeSink for NotedForest {
     ghost use Rattle.std.specs.Prelude.{ℕ};
-    ghost use Rattle.markup.specs.Forest.{IsNode, IsParent, MayPut, data_of, integration_point_of, node_count, parent_of, place_before, place_near, put_child};
+    ghost use Rattle.markup.specs.Forest.{IsNode, IsParent, MayPut, data_of, integration_point_of, node_count, parent_of};
+    ghost use Rattle.markup.specs.Forest.{place_before, place_near, put_child};
     ghost use Rattle.markup.specs.Forest.Place.{Last};
     ghost use Rattle.html_forest.specs.declared.node.NodeId.{NodeId};
 
@@ -137,7 +138,8 @@ impl TreeSink for NotedForest {
     ) -> Result<(), ParseFault>
         requires sibling { IsSome (parent_of self.old.forest sibling.now) }
         requires child { MayPut (λ (id : ℕ). id) self.old.forest (place_before sibling.now (parent_of self.old.forest sibling.now)) child }
-        ensures ok { OnOk result (self.new.forest ≡ put_child (λ (id : ℕ). id) self.old.forest (place_before sibling.now (parent_of self.old.forest sibling.now)) child) }
+        ensures ok { OnOk result (self.new.forest ≡ put_child (λ (id : ℕ). id) self.old.forest
+            (place_before sibling.now (parent_of self.old.forest sibling.now)) child) }
         ensures err { OnErr result (self.new.forest ≡ self.old.forest) }
         ensures fault { IfErr result (λ fault. fault ≡ Memory) }
         ensures grows { node_count self.old.forest ≤ node_count self.new.forest }
@@ -153,8 +155,10 @@ impl TreeSink for NotedForest {
     ) -> Result<(), ParseFault>
         requires element { IsNode self.old.forest element.now }
         requires previous { IsParent self.old.forest previous.now }
-        requires child { MayPut (λ (id : ℕ). id) self.old.forest (place_near element.now previous.now (parent_of self.old.forest element.now)) child }
-        ensures ok { OnOk result (self.new.forest ≡ put_child (λ (id : ℕ). id) self.old.forest (place_near element.now previous.now (parent_of self.old.forest element.now)) child) }
+        requires child { MayPut (λ (id : ℕ). id) self.old.forest
+            (place_near element.now previous.now (parent_of self.old.forest element.now)) child }
+        ensures ok { OnOk result (self.new.forest ≡ put_child (λ (id : ℕ). id) self.old.forest
+            (place_near element.now previous.now (parent_of self.old.forest element.now)) child) }
         ensures err { OnErr result (self.new.forest ≡ self.old.forest) }
         ensures fault { IfErr result (λ fault. fault ≡ Memory) }
         ensures grows { node_count self.old.forest ≤ node_count self.new.forest }

@@ -16,7 +16,8 @@ use std::alloc::Global;
 
 // What is written of a document; nothing where that is no text.
 fn written(alloc: Global, forest: &Forest) -> Result<Option<String>, NormalFault>
-    ensures ok { IfOk result (λ made. MatchOption made (¬ IsUtf8 (document_bytes forest.now)) (λ text. string_bytes text ≡ document_bytes forest.now)) }
+    ensures ok { IfOk result (λ made. MatchOption made (¬ IsUtf8 (document_bytes forest.now))
+        (λ text. string_bytes text ≡ document_bytes forest.now)) }
     ensures fault { IfErr result (λ fault. fault ≡ Memory) }
 {
     forest.keeps();

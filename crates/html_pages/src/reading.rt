@@ -35,8 +35,10 @@ fn whole<Sink: TreeSink + Drop>(
     text: String,
 ) -> Result<Sink::Output, NormalFault>
     requires { IsReadyIf (builder Sink.TreeSink) (stopped_by parser.has_failed (refusal_of parser.tokenizer)) parser.tokenizer }
-    ensures ok { IfOk result (λ out. (begin : Beginning State) → Begins Sink.TreeSink begin parser.has_failed parser.tokenizer parser.input_buffer → IsBuilt Sink.TreeSink begin (chars (string_bytes text)) out) }
-    ensures fault { IfErr result (λ fault. (begin : Beginning State) → Begins Sink.TreeSink begin parser.has_failed parser.tokenizer parser.input_buffer → fault ≡ Memory) }
+    ensures ok { IfOk result (λ out. (begin : Beginning State) → Begins Sink.TreeSink begin parser.has_failed
+        parser.tokenizer parser.input_buffer → IsBuilt Sink.TreeSink begin (chars (string_bytes text)) out) }
+    ensures fault { IfErr result (λ fault. (begin : Beginning State) → Begins Sink.TreeSink begin parser.has_failed
+        parser.tokenizer parser.input_buffer → fault ≡ Memory) }
 {
     Ok(parser.one(text)?)
 }

@@ -31,9 +31,14 @@ use Rattle.html_parser.specs.Documents.{Begins, Starts, from_state, of_fragment,
 -- the state in which a fragment's text is read first is one of text
 pub state-text : (context : Open) (scripting : Bool) → is_text_state (tokenizer_state context scripting) ≡ true
 state-text context scripting =
-    by (is_in set.RcdataContext context) (is_in set.RawtextContext context) (is_in set.Script context) (is_in set.Noscript context) (is_in set.Plaintext context) scripting
+    by (is_in set.RcdataContext context) (is_in set.RawtextContext context) (is_in set.Script context)
+    (is_in set.Noscript context) (is_in set.Plaintext context) scripting
   where
-    by : (a b c d e f : Bool) → is_text_state (choose a (λ _. RawData Rcdata) (λ _. choose b (λ _. RawData Rawtext) (λ _. choose c (λ _. RawData ScriptData) (λ _. choose d (λ _. choose f (λ _. RawData Rawtext) (λ _. Data)) (λ _. choose e (λ _. Plaintext) (λ _. Data)))))) ≡ true
+    by : (a b c d e f : Bool)
+        → is_text_state (choose a (λ _. RawData Rcdata)
+        (λ _. choose b (λ _. RawData Rawtext)
+        (λ _. choose c (λ _. RawData ScriptData)
+        (λ _. choose d (λ _. choose f (λ _. RawData Rawtext) (λ _. Data)) (λ _. choose e (λ _. Plaintext) (λ _. Data)))))) ≡ true
     by true b c d e f = refl
     by false true c d e f = refl
     by false false true d e f = refl
@@ -43,8 +48,14 @@ state-text context scripting =
     by false false false false false f = refl
 
 -- the context is that of the state before the fragment
-pub begun-context : (setting : Setting) (context : Open) (form : Option ℕ) (f : Forest) (s : State) → s ≡ before_fragment setting context form f → s.context_elem ≡ Some context
-begun-context setting context form f s e = ap (λ (x : State). x.context_elem) e ∙ (root-larger (record (before_document setting f) { context_elem = Some context; form_elem = form; template_modes = modes_of_context context })).context
+pub begun-context : (setting : Setting) (context : Open) (form : Option ℕ) (f : Forest) (s : State)
+    → s ≡ before_fragment setting context form f → s.context_elem ≡ Some context
+begun-context setting context form f s e = ap (λ (x : State). x.context_elem) e
+    ∙ (root-larger (record (before_document setting f) {
+      context_elem = Some context;
+      form_elem = form;
+      template_modes = modes_of_context context;
+    })).context
 
 -- what is so of the context, if there is one
 pub of-context : (o : Option Open) (context : Open) (P : Open → Type 0) → o ≡ Some context → IfSome o P → P context
@@ -52,8 +63,11 @@ of-context o context P e h = let known : IfSome (Some context) P = subst (λ x. 
 
 module _ {K H O : Type 0} (Sink : TreeGhosts K H O) where
   -- it begins as the rules say, and no text is refused
-  pub fragment-begins : (table : List Row) (opts : TokenizerOpts) (setting : Setting) (n : ℕ) (form : Option ℕ) (scripting : Bool) (f g : Forest) (s : State) (state : TokenizerState) (has_failed : Bool) (k : Tokenizer (TreeBuilder K H O)) (input : Queue)
-      → IsEachTextTaken → g ≡ f → IsTree g → above_of f 0 ≡ None → IfSome form (λ n. element_name (data_of f n) ≡ Some (element_name_of Html (codes "form")))
+  pub fragment-begins : (table : List Row) (opts : TokenizerOpts) (setting : Setting) (n : ℕ) (form : Option ℕ)
+      (scripting : Bool) (f g : Forest) (s : State) (state : TokenizerState) (has_failed : Bool)
+      (k : Tokenizer (TreeBuilder K H O)) (input : Queue)
+      → IsEachTextTaken → g ≡ f → IsTree g → above_of f 0 ≡ None
+      → IfSome form (λ n. element_name (data_of f n) ≡ Some (element_name_of Html (codes "form")))
       → s ≡ before_fragment setting (context_in g n) form g → state ≡ tokenizer_state (context_in g n) scripting
       → Starts Sink (from_state table (record opts { initial_state = Some state }) s) has_failed k input
       → Begins Sink (of_fragment table opts setting (context_in f n) form scripting f) has_failed k input
@@ -62,30 +76,38 @@ module _ {K H O : Type 0} (Sink : TreeGhosts K H O) where
       let stated : state ≡ tokenizer_state (context_in f n) scripting = is_state ∙ ap (λ x. tokenizer_state (context_in x n) scripting) e in
       record {
         starts =
-            subst (λ x. Starts Sink (from_state table (record opts { initial_state = Some x }) (before_fragment setting (context_in f n) form f)) has_failed k input) stated
+            subst (λ x. Starts Sink (from_state table (record opts { initial_state = Some x })
+            (before_fragment setting (context_in f n) form f)) has_failed k input) stated
             (subst (λ x. Starts Sink (from_state table (record opts { initial_state = Some state }) x) has_failed k input) begun starts);
-        taken = λ text. taken.fragment table opts setting (context_in f n) form scripting f (subst IsTree e tree) top (named-own n (element_name (data_of f n))) named text;
+        taken = λ text. taken.fragment table opts setting (context_in f n) form scripting f (subst IsTree e tree)
+            top (named-own n (element_name (data_of f n))) named text;
       }
 
 -- a new context is the element that was asked for
-pub new-context : (f : Forest) (name : QualName) (attributes : List Attribute) (flags : ElementFlags) → IsForest f → element_name (data_of (create_element f name attributes flags) (node_count f)) ≡ Some name
+pub new-context : (f : Forest) (name : QualName) (attributes : List Attribute) (flags : ElementFlags) → IsForest f
+    → element_name (data_of (create_element f name attributes flags) (node_count f)) ≡ Some name
 new-context f name attributes flags is = ap element_name (IsMade-create_element f name attributes flags is).made
 
 -- nothing stands above the document after it
-pub new-top : (f : Forest) (name : QualName) (attributes : List Attribute) (flags : ElementFlags) → IsForest f → above_of f 0 ≡ None → above_of (create_element f name attributes flags) 0 ≡ None
+pub new-top : (f : Forest) (name : QualName) (attributes : List Attribute) (flags : ElementFlags) → IsForest f
+    → above_of f 0 ≡ None → above_of (create_element f name attributes flags) 0 ≡ None
 new-top f name attributes flags is top = (IsMade-create_element f name attributes flags is).grown.olds 0 is.document ∙ top
 
 abbrev pub flags_by : QualName → List Attribute → ElementFlags
 flags_by name attributes = flags_of (namespace_of name.ns) name.local attributes false
 
 -- a fragment in a new context begins as one in that element
-pub new-beginning : (table : List Row) (opts : TokenizerOpts) (setting : Setting) (name : QualName) (attributes : List Attribute) (scripting : Bool) (f g h : Forest) (n : ℕ)
+pub new-beginning : (table : List Row) (opts : TokenizerOpts) (setting : Setting) (name : QualName)
+    (attributes : List Attribute) (scripting : Bool) (f g h : Forest) (n : ℕ)
     → g ≡ f → IsForest g → n ≡ node_count g → h ≡ create_element g name attributes (flags_by name attributes)
     → of_fragment table opts setting (context_in h n) None scripting h ≡ of_new_context table opts setting name attributes scripting f
 new-beginning table opts setting name attributes scripting f g h n e forest is_n is =
     let named : element_name (data_of h n) ≡ Some name =
     ap (λ x. element_name (data_of x n)) is
-    ∙ (ap (λ k. element_name (data_of (create_element g name attributes (flags_by name attributes)) k)) is_n ∙ new-context g name attributes (flags_by name attributes) forest) in
-    let context : context_in h n ≡ named_open (node_count f) (Some name) = ap (named_open n) named ∙ ap (λ k. named_open k (Some name)) (is_n ∙ ap (λ x. node_count x) e) in
+    ∙ (ap (λ k. element_name (data_of (create_element g name attributes (flags_by name attributes)) k)) is_n
+    ∙ new-context g name attributes (flags_by name attributes) forest) in
+    let context : context_in h n ≡ named_open (node_count f) (Some name) = ap (named_open n) named
+    ∙ ap (λ k. named_open k (Some name)) (is_n ∙ ap (λ x. node_count x) e) in
     ap (λ x. of_fragment table opts setting x None scripting h) context
-    ∙ ap (λ x. of_fragment table opts setting (named_open (node_count f) (Some name)) None scripting x) (is ∙ ap (λ x. create_element x name attributes (flags_by name attributes)) e)
+    ∙ ap (λ x. of_fragment table opts setting (named_open (node_count f) (Some name)) None scripting x)
+    (is ∙ ap (λ x. create_element x name attributes (flags_by name attributes)) e)

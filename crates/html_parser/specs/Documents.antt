@@ -49,7 +49,8 @@ of_document table opts setting f = from_state table opts (before_document settin
 
 -- before the text of a fragment; `scripting` says how the context was scripted
 abbrev pub of_fragment : List Row → TokenizerOpts → Setting → Open → Option ℕ → Bool → Forest → Beginning State
-of_fragment table opts setting context form scripting f = from_state table (record opts { initial_state = Some (tokenizer_state context scripting) }) (before_fragment setting context form f)
+of_fragment table opts setting context form scripting f = from_state table
+    (record opts { initial_state = Some (tokenizer_state context scripting) }) (before_fragment setting context form f)
 
 -- What a sink of trees gives at its end, whose tree and quirks mode are those that a text leaves, and whose number of errors rose by
 -- what the text owes.
@@ -62,13 +63,16 @@ pub record IsBuilt {K H O : Type 0} (Sink : TreeGhosts K H O) (begin : Beginning
   pub rises : RisesTo (owed_by (builder Sink) begin text) begin.errors (Sink.forest sink).errors
 
 -- What waited was read, and a text, and its end: what was built is what the whole text makes.
-abbrev pub Finishes : {K H O : Type 0} → TreeGhosts K H O → Option ParseFault → Tokenizer (TreeBuilder K H O) → List ℕ → Result O ParseFault → Type 0
-Finishes Sink None k text (Ok output) = (begin : Beginning State) (before : List ℕ) → HasRead (builder Sink) begin before k → IsBuilt Sink begin (before ++ text) output
+abbrev pub Finishes : {K H O : Type 0} → TreeGhosts K H O → Option ParseFault → Tokenizer (TreeBuilder K H O)
+    → List ℕ → Result O ParseFault → Type 0
+Finishes Sink None k text (Ok output) = (begin : Beginning State) (before : List ℕ)
+    → HasRead (builder Sink) begin before k → IsBuilt Sink begin (before ++ text) output
 Finishes Sink None k text (Err fault) = FailsAfter (builder Sink) k fault
 Finishes Sink (Some fault) k text result = result ≡ Err fault
 
 -- A parser stands before all text: nothing was read, nothing waits, and nothing stands against it or its builder.
-pub record Starts {K H O : Type 0} (Sink : TreeGhosts K H O) (begin : Beginning State) (has_failed : Bool) (k : Tokenizer (TreeBuilder K H O)) (input : Queue) : Type 0 where
+pub record Starts {K H O : Type 0} (Sink : TreeGhosts K H O) (begin : Beginning State) (has_failed : Bool)
+    (k : Tokenizer (TreeBuilder K H O)) (input : Queue) : Type 0 where
   pub read : HasRead (builder Sink) begin [] k
   pub empty : input.characters ≡ []
   pub begun : stopped_by has_failed (refusal_of k) ≡ None
@@ -76,14 +80,20 @@ pub record Starts {K H O : Type 0} (Sink : TreeGhosts K H O) (begin : Beginning 
   pub ready : IsReadyIf (builder Sink) (stopped_by has_failed (refusal_of k)) k
 
 -- the same, and no text is refused
-pub record Begins {K H O : Type 0} (Sink : TreeGhosts K H O) (begin : Beginning State) (has_failed : Bool) (k : Tokenizer (TreeBuilder K H O)) (input : Queue) : Type 0 where
+pub record Begins {K H O : Type 0} (Sink : TreeGhosts K H O) (begin : Beginning State) (has_failed : Bool)
+    (k : Tokenizer (TreeBuilder K H O)) (input : Queue) : Type 0 where
   pub starts : Starts Sink begin has_failed k input
   pub taken : IsTaken (builder Sink) begin
 
 -- before the text of a fragment in a new element
 abbrev pub of_new_context : List Row → TokenizerOpts → Setting → QualName → List Attribute → Bool → Forest → Beginning State
 of_new_context table opts setting name attributes scripting f =
-    of_fragment table opts setting (record { number = node_count f; namespace = namespace_of name.ns; name = name.local }) None scripting (create_element f name attributes (flags_of (namespace_of name.ns) name.local attributes false))
+    of_fragment table opts setting (record {
+      number = node_count f;
+      namespace = namespace_of name.ns;
+      name = name.local;
+    }) None scripting
+    (create_element f name attributes (flags_of (namespace_of name.ns) name.local attributes false))
 
 -- An error was told: it is counted, and all else stands. What was read still was, after one error more, and what could be called still
 -- can.

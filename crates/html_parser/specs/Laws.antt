@@ -32,11 +32,14 @@ only_fault (Some fault) = fault
 module _ {K H O : Type 0} (Sink : TreeGhosts K H O) where
   -- where a document is begun so
   abbrev pub document_by : List Row → ParseOpts → Forest → Beginning State
-  document_by table opts f = of_document table opts.tokenizer (setting_of (answers_of Sink.integration_point Sink.allows_shadow_roots Sink.attaches_shadow) opts.tree_builder) f
+  document_by table opts f = of_document table opts.tokenizer
+      (setting_of (answers_of Sink.integration_point Sink.allows_shadow_roots Sink.attaches_shadow) opts.tree_builder) f
 
   -- where a fragment is begun so
   abbrev pub fragment_by : List Row → ParseOpts → Open → Option ℕ → Bool → Forest → Beginning State
-  fragment_by table opts context form scripting f = of_fragment table opts.tokenizer (setting_of (answers_of Sink.integration_point Sink.allows_shadow_roots Sink.attaches_shadow) opts.tree_builder) context form scripting f
+  fragment_by table opts context form scripting f = of_fragment table opts.tokenizer
+      (setting_of (answers_of Sink.integration_point Sink.allows_shadow_roots Sink.attaches_shadow)
+      opts.tree_builder) context form scripting f
 
   -- A parser that began so took these pieces, one after the other, and gave this at the end.
   pub record Parses (begin : Beginning State) (pieces : List (List ℕ)) (output : O) : Type 0 where
@@ -59,17 +62,23 @@ module _ {K H O : Type 0} (Sink : TreeGhosts K H O) where
 
   -- Of one text, in whatever pieces, parsers that began so build trees that are alike.
   abbrev pub BuildAlike : Beginning State → Beginning State → Type 0
-  BuildAlike begin other = (pieces pieces' : List (List ℕ)) (output output' : O) → joined pieces ≡ joined pieces' → Parses begin pieces output → Parses other pieces' output' → AreAlike output output'
+  BuildAlike begin other = (pieces pieces' : List (List ℕ)) (output output' : O) → joined pieces ≡ joined pieces'
+      → Parses begin pieces output → Parses other pieces' output' → AreAlike output output'
 
   -- Documents with one table, options and tree to begin with, and fragments in one context too.
   pub record AreCutAnywhere : Type 0 where
     pub document : (table : List Row) (opts : ParseOpts) (f : Forest) → BuildAlike (document_by table opts f) (document_by table opts f)
-    pub fragment : (table : List Row) (opts : ParseOpts) (context : Open) (form : Option ℕ) (scripting : Bool) (f : Forest) → BuildAlike (fragment_by table opts context form scripting f) (fragment_by table opts context form scripting f)
+    pub fragment : (table : List Row) (opts : ParseOpts) (context : Open) (form : Option ℕ) (scripting : Bool)
+        (f : Forest) → BuildAlike (fragment_by table opts context form scripting f) (fragment_by table opts context form scripting f)
 
   -- The same where errors are told exactly or not.
   pub record AreErrorsAside : Type 0 where
-    pub document : (table : List Row) (opts : ParseOpts) (tokenizer tree_builder : Bool) (f : Forest) → BuildAlike (document_by table opts f) (document_by table (with_exact_errors tokenizer tree_builder opts) f)
-    pub fragment : (table : List Row) (opts : ParseOpts) (tokenizer tree_builder : Bool) (context : Open) (form : Option ℕ) (scripting : Bool) (f : Forest) → BuildAlike (fragment_by table opts context form scripting f) (fragment_by table (with_exact_errors tokenizer tree_builder opts) context form scripting f)
+    pub document : (table : List Row) (opts : ParseOpts) (tokenizer tree_builder : Bool) (f : Forest)
+        → BuildAlike (document_by table opts f) (document_by table (with_exact_errors tokenizer tree_builder opts) f)
+    pub fragment : (table : List Row) (opts : ParseOpts) (tokenizer tree_builder : Bool) (context : Open)
+        (form : Option ℕ) (scripting : Bool) (f : Forest)
+        → BuildAlike (fragment_by table opts context form scripting f)
+        (fragment_by table (with_exact_errors tokenizer tree_builder opts) context form scripting f)
 
   -- What was read begins texts of which none is refused, and the builder has not failed.
   pub record HasReadTaken (k : Tokenizer (TreeBuilder K H O)) : Type 0 where
@@ -87,12 +96,17 @@ module _ {K H O : Type 0} (Sink : TreeGhosts K H O) where
   -- In such a state parsers begin, their calls keep it, and from it no text is refused: where nothing stands against a call it fails for
   -- want of memory alone. So `Failed` comes only after a fault, and `Ended` only after the end.
   pub record IsNoTextRefused : Type 0 where
-    pub begins : (begin : Beginning State) (has_failed : Bool) (k : Tokenizer (TreeBuilder K H O)) (input : Queue) → Begins Sink begin has_failed k input → TakesEach (stopped_by has_failed (refusal_of k)) k
-    pub process : (failed fails : Bool) (old new : Tokenizer (TreeBuilder K H O)) (from to : Queue) (text : List ℕ) (result : Result (Unit {0}) ParseFault)
+    pub begins : (begin : Beginning State) (has_failed : Bool) (k : Tokenizer (TreeBuilder K H O)) (input : Queue)
+        → Begins Sink begin has_failed k input → TakesEach (stopped_by has_failed (refusal_of k)) k
+    pub process : (failed fails : Bool) (old new : Tokenizer (TreeBuilder K H O)) (from to : Queue) (text : List ℕ)
+        (result : Result (Unit {0}) ParseFault)
         → TakesEach (stopped_by failed (refusal_of old)) old
         → TakesText (builder Sink) (stopped_by failed (refusal_of old)) (stopped_by fails (refusal_of new)) old new from to text result
         → IfSome (stopped_by failed (refusal_of old)) (λ _. fails ≡ failed)
-        → TakesEach (stopped_by fails (refusal_of new)) new × IfErr result (λ fault. fault ≡ only_fault (stopped_by failed (refusal_of old)))
-    pub error : (failed : Bool) (old new : Tokenizer (TreeBuilder K H O)) → TakesEach (stopped_by failed (refusal_of old)) old → TellsError Sink old new → TakesEach (stopped_by failed (refusal_of new)) new
+        → TakesEach (stopped_by fails (refusal_of new)) new
+        × IfErr result (λ fault. fault ≡ only_fault (stopped_by failed (refusal_of old)))
+    pub error : (failed : Bool) (old new : Tokenizer (TreeBuilder K H O))
+        → TakesEach (stopped_by failed (refusal_of old)) old → TellsError Sink old new → TakesEach (stopped_by failed (refusal_of new)) new
     pub finish : (failed : Bool) (k : Tokenizer (TreeBuilder K H O)) (text : List ℕ) (result : Result O ParseFault)
-        → TakesEach (stopped_by failed (refusal_of k)) k → Finishes Sink (stopped_by failed (refusal_of k)) k text result → IfErr result (λ fault. fault ≡ only_fault (stopped_by failed (refusal_of k)))
+        → TakesEach (stopped_by failed (refusal_of k)) k → Finishes Sink (stopped_by failed (refusal_of k)) k text
+        result → IfErr result (λ fault. fault ≡ only_fault (stopped_by failed (refusal_of k)))

@@ -57,11 +57,13 @@ stopped_by false refusal = refusal
 module _ {K H : Type 0} (Sink : Ghosts K H) where
   -- what a whole text leaves
   abbrev pub read_whole : Beginning Sink.State → List ℕ → Result Sink.State Refusal
-  read_whole begin text = reading Sink.step (λ fault s. s) Sink.asks_cdata Sink.ended begin.table begin.stand 0 begin.state (normal_text begin.discard_bom text)
+  read_whole begin text = reading Sink.step (λ fault s. s) Sink.asks_cdata Sink.ended begin.table begin.stand 0
+      begin.state (normal_text begin.discard_bom text)
 
   -- the same, with what is noted of the text
   abbrev pub note_whole : Beginning Sink.State → List ℕ → Result (Sink.State × Notes ℕ) (Refusal × ℕ)
-  note_whole begin text = noted_reading Sink.step Sink.is_quiet Sink.asks_cdata Sink.ended begin.table begin.stand 0 (begin.state, no_notes) (normal_text begin.discard_bom text)
+  note_whole begin text = noted_reading Sink.step Sink.is_quiet Sink.asks_cdata Sink.ended begin.table begin.stand 0
+      (begin.state, no_notes) (normal_text begin.discard_bom text)
 
   -- what a whole text owes of errors: one for each faulty item, and, where these are told, for each control character and
   -- noncharacter; none where it is quiet
@@ -126,12 +128,14 @@ module _ {K H : Type 0} (Sink : Ghosts K H) where
 
   -- All of a text was read, and its end: the sink is left as the whole text leaves it.
   abbrev pub EndsAll : Option ParseFault → Tokenizer K → List ℕ → Result K ParseFault → Type 0
-  EndsAll None k text (Ok sink) = (begin : Beginning Sink.State) (before : List ℕ) → HasRead begin before k → IsLeft begin (before ++ text) sink
+  EndsAll None k text (Ok sink) = (begin : Beginning Sink.State) (before : List ℕ) → HasRead begin before k
+      → IsLeft begin (before ++ text) sink
   EndsAll None k text (Err fault) = FailsAfter k fault
   EndsAll (Some fault) k text result = result ≡ Err fault
 
   -- What waited was read, and then a text, past every pause; or the tokenizer failed, or the text could not be kept.
-  abbrev pub TakesText : Option ParseFault → Option ParseFault → Tokenizer K → Tokenizer K → Queue → Queue → List ℕ → Result (Unit {0}) ParseFault → Type 0
+  abbrev pub TakesText : Option ParseFault → Option ParseFault → Tokenizer K → Tokenizer K → Queue → Queue → List ℕ
+      → Result (Unit {0}) ParseFault → Type 0
   TakesText None left old new from to text (Ok x) = ReadsOn old new (from.characters ++ text) × (to.characters ≡ []) × (left ≡ None)
   TakesText None left old new from to text (Err fault) = (left ≡ Some Failed) × FailsAfter old fault
   TakesText (Some fault) left old new from to text result = (result ≡ Err fault) × (new ≡ old) × (to ≡ from)

@@ -26,7 +26,9 @@ pub(crate) fn over<Sink: TreeSink>(
     requires text { IfSome opts.initial_state (λ st. is_text_state st ≡ true) }
     requires usable { Usable (hushed (built Sink.TreeSink builder.construction (Sink.forest builder.sink))) }
     requires works { builder.has_failed ≡ false }
-    ensures { Starts Sink.TreeSink (from_state table opts (built Sink.TreeSink builder.construction (Sink.forest builder.sink))) result.has_failed result.tokenizer result.input_buffer }
+    ensures { Starts Sink.TreeSink
+        (from_state table opts (built Sink.TreeSink builder.construction (Sink.forest builder.sink)))
+        result.has_failed result.tokenizer result.input_buffer }
 {
     Parser {
         tokenizer: begin(alloc, builder, opts, table),
@@ -44,7 +46,11 @@ pub fn parse_document<Sink: TreeSink>(
 ) -> Result<Parser<Sink>, ParseFault>
     requires text { IfSome opts.tokenizer.initial_state (λ st. is_text_state st ≡ true) }
     requires top { above_of (Sink.forest sink) 0 ≡ None }
-    ensures begins { IfOk result (λ parser. Begins Sink.TreeSink (of_document table opts.tokenizer (setting_of (answers_of Sink.integration_point Sink.allows_shadow_roots Sink.attaches_shadow) opts.tree_builder) (Sink.forest sink)) parser.has_failed parser.tokenizer parser.input_buffer) }
+    ensures begins { IfOk result
+        (λ parser. Begins Sink.TreeSink
+        (of_document table opts.tokenizer
+        (setting_of (answers_of Sink.integration_point Sink.allows_shadow_roots Sink.attaches_shadow)
+        opts.tree_builder) (Sink.forest sink)) parser.has_failed parser.tokenizer parser.input_buffer) }
     ensures ok { IsOk result }
 {
     each_text_has_a_document();

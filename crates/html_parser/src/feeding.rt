@@ -55,7 +55,9 @@ pub(crate) fn consume_text<Sink: TokenSink>(
     text: String,
 ) -> Result<(), ParseFault>
     requires ready { IsReadyIf Sink.TokenSink (stopped_by has_failed.old (refusal_of tokenizer.old)) tokenizer.old }
-    ensures gives { TakesText Sink.TokenSink (stopped_by has_failed.old (refusal_of tokenizer.old)) (stopped_by has_failed.new (refusal_of tokenizer.new)) tokenizer.old tokenizer.new input.old input.new (chars (string_bytes text)) result }
+    ensures gives { TakesText Sink.TokenSink (stopped_by has_failed.old (refusal_of tokenizer.old))
+        (stopped_by has_failed.new (refusal_of tokenizer.new)) tokenizer.old tokenizer.new input.old input.new
+        (chars (string_bytes text)) result }
     ensures ready { IsReadyIf Sink.TokenSink (stopped_by has_failed.new (refusal_of tokenizer.new)) tokenizer.new }
     ensures same_failed { IfSome (stopped_by has_failed.old (refusal_of tokenizer.old)) (λ _. has_failed.new ≡ has_failed.old) }
 {
@@ -76,7 +78,8 @@ fn feed_to_end<Sink: TokenSink>(
     input: &mut BufferQueue,
 ) -> Result<(), ParseFault>
     requires ready { IsReadyIf Sink.TokenSink (refusal_of tokenizer.old) tokenizer.old }
-    ensures gives { EndsAll Sink.TokenSink (refusal_of tokenizer.old) tokenizer.old input.old.characters (left_by Sink.TokenSink tokenizer.new.sink result) }
+    ensures gives { EndsAll Sink.TokenSink (refusal_of tokenizer.old) tokenizer.old input.old.characters
+        (left_by Sink.TokenSink tokenizer.new.sink result) }
 {
     feed_all(tokenizer, input)?;
     tokenizer.end()

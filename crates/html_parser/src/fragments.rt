@@ -16,9 +16,9 @@ use html_tree_builder::TreeBuilder;
 use markup::{Attributes, ParseFault, QualName, TreeSink};
 use std::alloc::Global;
 
-/// A parser of what stands in an element of the sink, the context, which may stand in a form; `scripting` says how the context was scripted.
-/// The sink's document stands under nothing; a root is put into it, and what is parsed stands in that root. The text state in which reading
-/// begins is the context's, whatever the options say.
+/// A parser of what stands in an element of the sink, the context, which may stand in a form; `scripting` says how the context was
+/// scripted. The sink's document stands under nothing; a root is put into it, and what is parsed stands in that root. The text state in
+/// which reading begins is the context's, whatever the options say.
 ///
 /// Errors: [`ParseFault::Memory`]; the sink is then dropped.
 pub fn parse_fragment_for_element<Sink: TreeSink + Drop>(
@@ -32,8 +32,14 @@ pub fn parse_fragment_for_element<Sink: TreeSink + Drop>(
 ) -> Result<Parser<Sink>, ParseFault>
     requires top { above_of (Sink.forest sink) 0 ≡ None }
     requires context { IsSome (element_name (data_of (Sink.forest sink) (Sink.node context))) }
-    requires form { IfSome (number_if Sink.node form) (λ n. element_name (data_of (Sink.forest sink) n) ≡ Some (element_name_of Html (codes "form"))) }
-    ensures begins { IfOk result (λ parser. Begins Sink.TreeSink (of_fragment table opts.tokenizer (setting_of (answers_of Sink.integration_point Sink.allows_shadow_roots Sink.attaches_shadow) opts.tree_builder) (context_in (Sink.forest sink) (Sink.node context)) (number_if Sink.node form) scripting (Sink.forest sink)) parser.has_failed parser.tokenizer parser.input_buffer) }
+    requires form { IfSome (number_if Sink.node form) (λ n. element_name (data_of (Sink.forest sink) n) ≡ Some
+        (element_name_of Html (codes "form"))) }
+    ensures begins { IfOk result
+        (λ parser. Begins Sink.TreeSink
+        (of_fragment table opts.tokenizer
+        (setting_of (answers_of Sink.integration_point Sink.allows_shadow_roots Sink.attaches_shadow)
+        opts.tree_builder) (context_in (Sink.forest sink) (Sink.node context)) (number_if Sink.node form)
+        scripting (Sink.forest sink)) parser.has_failed parser.tokenizer parser.input_buffer) }
     ensures fault { IfErr result (λ fault. fault ≡ Memory) }
 {
     each_text_has_a_document();
@@ -62,7 +68,12 @@ pub fn parse_fragment<Sink: TreeSink + Drop>(
     table: References,
 ) -> Result<Parser<Sink>, ParseFault>
     requires top { above_of (Sink.forest sink) 0 ≡ None }
-    ensures begins { IfOk result (λ parser. Begins Sink.TreeSink (of_new_context table opts.tokenizer (setting_of (answers_of Sink.integration_point Sink.allows_shadow_roots Sink.attaches_shadow) opts.tree_builder) context_name context_attrs scripting (Sink.forest sink)) parser.has_failed parser.tokenizer parser.input_buffer) }
+    ensures begins { IfOk result
+        (λ parser. Begins Sink.TreeSink
+        (of_new_context table opts.tokenizer
+        (setting_of (answers_of Sink.integration_point Sink.allows_shadow_roots Sink.attaches_shadow)
+        opts.tree_builder) context_name context_attrs scripting (Sink.forest sink)) parser.has_failed
+        parser.tokenizer parser.input_buffer) }
     ensures fault { IfErr result (λ fault. fault ≡ Memory) }
 {
     let mut sink = sink;

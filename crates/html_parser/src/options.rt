@@ -17,7 +17,8 @@ pub struct ParseOpts {
 }
 
 impl Default for ParseOpts {
-    ghost is_default = { λ opts. ⟦<TokenizerOpts as Default>⟧.is_default opts.tokenizer × ⟦<TreeBuilderOpts as Default>⟧.is_default opts.tree_builder };
+    ghost is_default = { λ opts. ⟦<TokenizerOpts as Default>⟧.is_default opts.tokenizer
+        × ⟦<TreeBuilderOpts as Default>⟧.is_default opts.tree_builder };
 
     fn default() -> ParseOpts {
         ParseOpts {

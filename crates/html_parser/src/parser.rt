@@ -31,10 +31,16 @@ impl<Sink: TreeSink> Parser<Sink> {
     /// Errors: [`ParseFault::Memory`]; from then on every call answers [`ParseFault::Failed`]. Once the end was told
     /// [`ParseFault::Ended`]. What has failed or ended stays as it is.
     pub fn process(&mut self, text: String) -> Result<(), ParseFault>
-        requires ready { IsReadyIf (builder Sink.TreeSink) (stopped_by self.old.has_failed (refusal_of self.old.tokenizer)) self.old.tokenizer }
-        ensures gives { TakesText (builder Sink.TreeSink) (stopped_by self.old.has_failed (refusal_of self.old.tokenizer)) (stopped_by self.new.has_failed (refusal_of self.new.tokenizer)) self.old.tokenizer self.new.tokenizer self.old.input_buffer self.new.input_buffer (chars (string_bytes text)) result }
-        ensures ready { IsReadyIf (builder Sink.TreeSink) (stopped_by self.new.has_failed (refusal_of self.new.tokenizer)) self.new.tokenizer }
-        ensures same_failed { IfSome (stopped_by self.old.has_failed (refusal_of self.old.tokenizer)) (λ _. self.new.has_failed ≡ self.old.has_failed) }
+        requires ready { IsReadyIf (builder Sink.TreeSink)
+            (stopped_by self.old.has_failed (refusal_of self.old.tokenizer)) self.old.tokenizer }
+        ensures gives { TakesText (builder Sink.TreeSink)
+            (stopped_by self.old.has_failed (refusal_of self.old.tokenizer))
+            (stopped_by self.new.has_failed (refusal_of self.new.tokenizer)) self.old.tokenizer self.new.tokenizer
+            self.old.input_buffer self.new.input_buffer (chars (string_bytes text)) result }
+        ensures ready { IsReadyIf (builder Sink.TreeSink)
+            (stopped_by self.new.has_failed (refusal_of self.new.tokenizer)) self.new.tokenizer }
+        ensures same_failed { IfSome (stopped_by self.old.has_failed (refusal_of self.old.tokenizer))
+            (λ _. self.new.has_failed ≡ self.old.has_failed) }
     {
         consume_text(
             &mut self.tokenizer,
@@ -59,7 +65,8 @@ impl<Sink: TreeSink> Parser<Sink> {
     where
         Sink: Drop,
         requires ready { IsReadyIf (builder Sink.TreeSink) (stopped_by self.has_failed (refusal_of self.tokenizer)) self.tokenizer }
-        ensures gives { Finishes Sink.TreeSink (stopped_by self.has_failed (refusal_of self.tokenizer)) self.tokenizer self.input_buffer.characters result }
+        ensures gives { Finishes Sink.TreeSink (stopped_by self.has_failed (refusal_of self.tokenizer))
+            self.tokenizer self.input_buffer.characters result }
     {
         let Parser {
             tokenizer,
@@ -80,7 +87,8 @@ impl<Sink: TreeSink> Parser<Sink> {
     where
         Sink: Drop,
         requires ready { IsReadyIf (builder Sink.TreeSink) (stopped_by self.has_failed (refusal_of self.tokenizer)) self.tokenizer }
-        ensures gives { Finishes Sink.TreeSink (stopped_by self.has_failed (refusal_of self.tokenizer)) self.tokenizer (self.input_buffer.characters ++ chars (string_bytes text)) result }
+        ensures gives { Finishes Sink.TreeSink (stopped_by self.has_failed (refusal_of self.tokenizer))
+            self.tokenizer (self.input_buffer.characters ++ chars (string_bytes text)) result }
     {
         let mut parser = self;
         parser.process(text)?;

@@ -10,17 +10,22 @@ use Rattle.html_parser.specs.Read.{stopped_by}
 
 module _ {K H O : Type 0} (Sink : TreeGhosts K H O) where
   -- a parser is ready where its tokenizer is
-  pub ready-stopped : (failed : Bool) (refusal : Option ParseFault) (k : Tokenizer (TreeBuilder K H O)) → IsReadyIf (builder Sink) refusal k → IsReadyIf (builder Sink) (stopped_by failed refusal) k
+  pub ready-stopped : (failed : Bool) (refusal : Option ParseFault) (k : Tokenizer (TreeBuilder K H O))
+      → IsReadyIf (builder Sink) refusal k → IsReadyIf (builder Sink) (stopped_by failed refusal) k
   ready-stopped true refusal k ready = tt
   ready-stopped false refusal k ready = ready
 
   -- so is the tokenizer of a parser against which nothing stands
-  pub ready-begun : (failed : Bool) (refusal : Option ParseFault) (k : Tokenizer (TreeBuilder K H O)) → stopped_by failed refusal ≡ None → IsReadyIf (builder Sink) (stopped_by failed refusal) k → IsReadyIf (builder Sink) refusal k
+  pub ready-begun : (failed : Bool) (refusal : Option ParseFault) (k : Tokenizer (TreeBuilder K H O))
+      → stopped_by failed refusal ≡ None → IsReadyIf (builder Sink) (stopped_by failed refusal) k → IsReadyIf (builder Sink) refusal k
   ready-begun true refusal k begun ready = absurd cc
   ready-begun false refusal k begun ready = ready
 
   -- an error that is told leaves a parser ready
-  pub ready-told : (failed fails : Bool) (old new : Tokenizer (TreeBuilder K H O)) → fails ≡ failed → TellsError Sink old new → IsReadyIf (builder Sink) (stopped_by failed (refusal_of old)) old → IsReadyIf (builder Sink) (stopped_by fails (refusal_of new)) new
+  pub ready-told : (failed fails : Bool) (old new : Tokenizer (TreeBuilder K H O)) → fails ≡ failed
+      → TellsError Sink old new → IsReadyIf (builder Sink) (stopped_by failed (refusal_of old)) old
+      → IsReadyIf (builder Sink) (stopped_by fails (refusal_of new)) new
   ready-told failed fails old new e told ready =
       subst (λ b. IsReadyIf (builder Sink) (stopped_by b (refusal_of new)) new) (sym e)
-      (subst (λ (k : Tokenizer (TreeBuilder K H O)). IsReadyIf (builder Sink) (stopped_by failed (refusal_of k)) new) (sym told.same) (told.ready (stopped_by failed (refusal_of old)) ready))
+      (subst (λ (k : Tokenizer (TreeBuilder K H O)). IsReadyIf (builder Sink) (stopped_by failed (refusal_of k))
+      new) (sym told.same) (told.ready (stopped_by failed (refusal_of old)) ready))

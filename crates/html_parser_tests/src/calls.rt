@@ -50,7 +50,8 @@ fn options_are_copied(rt: HostRuntime) -> Result<(), Fail> {
 fn new_form<Sink: TreeSink>(alloc: Global, sink: &mut Sink) -> Result<Sink::Handle, ParseFault>
     requires { above_of (Sink.forest sink.old) 0 ≡ None }
     ensures top { OnOk result (above_of (Sink.forest sink.new) 0 ≡ None) }
-    ensures named { IfOk result (λ form. element_name (data_of (Sink.forest sink.new) (Sink.node form)) ≡ Some (element_name_of Html (codes "form"))) }
+    ensures named { IfOk result (λ form. element_name (data_of (Sink.forest sink.new) (Sink.node form)) ≡ Some
+        (element_name_of Html (codes "form"))) }
 {
     let _ = sink.get_document();
     let local = LocalName::from_str(alloc, "form")?;

@@ -93,7 +93,8 @@ impl<const ATTACHES: bool> Listing<ATTACHES> {
 
 impl<const ATTACHES: bool> TreeSink for Listing<ATTACHES> {
     ghost use Rattle.std.specs.Prelude.{ℕ};
-    ghost use Rattle.markup.specs.Forest.{IsNode, IsParent, MayPut, data_of, integration_point_of, node_count, parent_of, place_before, place_near, put_child};
+    ghost use Rattle.markup.specs.Forest.{IsNode, IsParent, MayPut, data_of, integration_point_of, node_count, parent_of};
+    ghost use Rattle.markup.specs.Forest.{place_before, place_near, put_child};
     ghost use Rattle.markup.specs.Forest.Place.{Last};
 
     type Handle = NodeId;
@@ -174,7 +175,8 @@ impl<const ATTACHES: bool> TreeSink for Listing<ATTACHES> {
     ) -> Result<(), ParseFault>
         requires sibling { IsSome (parent_of self.old.tree sibling.now) }
         requires child { MayPut (λ (id : ℕ). id) self.old.tree (place_before sibling.now (parent_of self.old.tree sibling.now)) child }
-        ensures ok { OnOk result (self.new.tree ≡ put_child (λ (id : ℕ). id) self.old.tree (place_before sibling.now (parent_of self.old.tree sibling.now)) child) }
+        ensures ok { OnOk result (self.new.tree ≡ put_child (λ (id : ℕ). id) self.old.tree
+            (place_before sibling.now (parent_of self.old.tree sibling.now)) child) }
         ensures err { OnErr result (self.new.tree ≡ self.old.tree) }
         ensures fault { IfErr result (λ fault. fault ≡ Memory) }
         ensures grows { node_count self.old.tree ≤ node_count self.new.tree }
@@ -190,8 +192,10 @@ impl<const ATTACHES: bool> TreeSink for Listing<ATTACHES> {
     ) -> Result<(), ParseFault>
         requires element { IsNode self.old.tree element.now }
         requires previous { IsParent self.old.tree previous.now }
-        requires child { MayPut (λ (id : ℕ). id) self.old.tree (place_near element.now previous.now (parent_of self.old.tree element.now)) child }
-        ensures ok { OnOk result (self.new.tree ≡ put_child (λ (id : ℕ). id) self.old.tree (place_near element.now previous.now (parent_of self.old.tree element.now)) child) }
+        requires child { MayPut (λ (id : ℕ). id) self.old.tree
+            (place_near element.now previous.now (parent_of self.old.tree element.now)) child }
+        ensures ok { OnOk result (self.new.tree ≡ put_child (λ (id : ℕ). id) self.old.tree
+            (place_near element.now previous.now (parent_of self.old.tree element.now)) child) }
         ensures err { OnErr result (self.new.tree ≡ self.old.tree) }
         ensures fault { IfErr result (λ fault. fault ≡ Memory) }
         ensures grows { node_count self.old.tree ≤ node_count self.new.tree }

@@ -7,8 +7,10 @@ use Rattle.std.proofs.lemmas.Slice.Eq.{bytes_eq-Decides}
 use Rattle.markup.specs.Trees.{Trees, Nothing, Text, Comment, ProcessingInstruction, Doctype, Element}
 use Rattle.markup.specs.declared.attributes.Attribute.{Attribute}
 use Rattle.markup.specs.declared.names.QualName.{QualName}
-use Rattle.html_plain.specs.Elements.{place_after_element, place_after_text, element_of, holds, html_name, inside, spelled, takes_comments, text_kind}
-use Rattle.html_plain.specs.Grammar.{IsPlain, are_plain_attributes, is_empty, is_first, is_plain, is_plain_comment, is_plain_doctype, is_plain_start, is_plain_text, is_some_and, takes_text}
+use Rattle.html_plain.specs.Elements.{place_after_element, place_after_text, element_of, holds, html_name, inside, spelled}
+use Rattle.html_plain.specs.Elements.{takes_comments, text_kind}
+use Rattle.html_plain.specs.Grammar.{IsPlain, are_plain_attributes, is_empty, is_first, is_plain, is_plain_comment}
+use Rattle.html_plain.specs.Grammar.{is_plain_doctype, is_plain_start, is_plain_text, is_some_and, takes_text}
 use Rattle.html_plain.specs.declared.elements.PlainElement.{PlainElement}
 use Rattle.html_plain.specs.declared.place.PlainPlace.{PlainPlace}
 use Rattle.html_plain.specs.declared.place.PlainPlace.TheVariants as place
@@ -39,23 +41,29 @@ empty-is (c ∷ t) h = absurd cc
 
 -- COMPUTED, BY CASES
 
-element-cases : (pl : PlainPlace) (name : QualName) (attributes : List Attribute) (template : Bool) (kids rest : Trees) (o : Option PlainElement) → element_of name ≡ o
-    → ((k : PlainElement) → is_plain (inside pl k) false kids ≡ true → IsPlain (inside pl k) false kids) → (is_plain (place_after_element pl) false rest ≡ true → IsPlain (place_after_element pl) false rest)
-    → is_some_and o (λ k. is_plain_start pl attributes template k && (is_plain (inside pl k) false kids && is_plain (place_after_element pl) false rest)) ≡ true
+element-cases : (pl : PlainPlace) (name : QualName) (attributes : List Attribute) (template : Bool)
+    (kids rest : Trees) (o : Option PlainElement) → element_of name ≡ o
+    → ((k : PlainElement) → is_plain (inside pl k) false kids ≡ true → IsPlain (inside pl k) false kids)
+    → (is_plain (place_after_element pl) false rest ≡ true → IsPlain (place_after_element pl) false rest)
+    → is_some_and o (λ k. is_plain_start pl attributes template k
+    && (is_plain (inside pl k) false kids && is_plain (place_after_element pl) false rest)) ≡ true
     → IsPlain pl false (Element name attributes template kids rest)
 element-cases pl name attributes template kids rest None e f g h = absurd cc
 element-cases pl name attributes template kids rest (Some k) e f g h =
-    let p = and_parts (is_plain_start pl attributes template k) (is_plain (inside pl k) false kids && is_plain (place_after_element pl) false rest) h in
+    let p = and_parts (is_plain_start pl attributes template k)
+    (is_plain (inside pl k) false kids && is_plain (place_after_element pl) false rest) h in
     let q = and_parts (is_plain (inside pl k) false kids) (is_plain (place_after_element pl) false rest) p.1 in
     let r = and_parts (holds pl k) (not template && are_plain_attributes attributes) p.0 in
     let u = and_parts (not template) (are_plain_attributes attributes) r.1 in
     (k, (element-named name k e, not-true template u.0, r.0, u.1, f k q.0, g q.1))
 
-pub computed-cases : (pl : PlainPlace) (after_text : Bool) (trees : Trees) → is_plain pl after_text trees ≡ true → IsPlain pl after_text trees
+pub computed-cases : (pl : PlainPlace) (after_text : Bool) (trees : Trees) → is_plain pl after_text trees ≡ true
+    → IsPlain pl after_text trees
 unfolding is_plain
 computed-cases pl after_text Nothing h = h
 computed-cases pl after_text (Text text rest) h =
-    let p = and_parts (not after_text && (is_plain_text text && takes_text (text_kind pl) text)) (is_plain (place_after_text pl) true rest) h in
+    let p = and_parts (not after_text && (is_plain_text text && takes_text (text_kind pl) text))
+    (is_plain (place_after_text pl) true rest) h in
     let q = and_parts (not after_text) (is_plain_text text && takes_text (text_kind pl) text) p.0 in
     let r = and_parts (is_plain_text text) (takes_text (text_kind pl) text) q.1 in
     (not-true after_text q.0, r.0, r.1, computed-cases (place_after_text pl) true rest p.1)
@@ -68,27 +76,40 @@ computed-cases pl after_text (Doctype name public_id system_id rest) h =
     let p = and_parts (is_first pl && is_plain_doctype name public_id system_id) (is_plain place.BeforeRoot false rest) h in
     let q = and_parts (is_first pl) (is_plain_doctype name public_id system_id) p.0 in
     let r = and_parts (bytes_eq name (codes "html")) (is_empty public_id && is_empty system_id) q.1 in
-    let u = and_parts (is_empty public_id) (is_empty system_id) r.1 in
-    (first-is pl q.0, (bytes_eq-Decides name (codes "html")).0 r.0, empty-is public_id u.0, empty-is system_id u.1, computed-cases place.BeforeRoot false rest p.1)
+    let u = and_parts (is_empty public_id) (is_empty system_id) r.1 in (
+      first-is pl q.0,
+      (bytes_eq-Decides name (codes "html")).0 r.0,
+      empty-is public_id u.0,
+      empty-is system_id u.1,
+      computed-cases place.BeforeRoot false rest p.1,
+    )
 computed-cases pl after_text (Element name attributes template kids rest) h =
-    element-cases pl name attributes template kids rest (element_of name) refl (λ k i. computed-cases (inside pl k) false kids i) (λ i. computed-cases (place_after_element pl) false rest i) h
+    element-cases pl name attributes template kids rest (element_of name) refl
+    (λ k i. computed-cases (inside pl k) false kids i) (λ i. computed-cases (place_after_element pl) false rest i) h
 
 -- BY CASES, COMPUTED
 
-element-computed : (pl : PlainPlace) (name : QualName) (attributes : List Attribute) (template : Bool) (inner outer : PlainElement → Bool) (k : PlainElement) → name ≡ html_name (spelled k) → template ≡ false → holds pl k ≡ true → are_plain_attributes attributes ≡ true → inner k ≡ true → outer k ≡ true
+element-computed : (pl : PlainPlace) (name : QualName) (attributes : List Attribute) (template : Bool)
+    (inner outer : PlainElement → Bool) (k : PlainElement) → name ≡ html_name (spelled k) → template ≡ false
+    → holds pl k ≡ true → are_plain_attributes attributes ≡ true → inner k ≡ true → outer k ≡ true
     → is_some_and (element_of name) (λ k. is_plain_start pl attributes template k && (inner k && outer k)) ≡ true
 element-computed pl name attributes template inner outer k e t h a i o =
     ap (λ n. is_some_and (element_of n) (λ k. is_plain_start pl attributes template k && (inner k && outer k))) e
-    ∙ (ap (λ n. is_some_and n (λ k. is_plain_start pl attributes template k && (inner k && outer k))) (named-element k) ∙ (rw (t, h, a, i, o) refl))
+    ∙ (ap (λ n. is_some_and n (λ k. is_plain_start pl attributes template k && (inner k && outer k)))
+    (named-element k) ∙ (rw (t, h, a, i, o) refl))
 
-pub cases-computed : (pl : PlainPlace) (after_text : Bool) (trees : Trees) → IsPlain pl after_text trees → is_plain pl after_text trees ≡ true
+pub cases-computed : (pl : PlainPlace) (after_text : Bool) (trees : Trees) → IsPlain pl after_text trees
+    → is_plain pl after_text trees ≡ true
 unfolding is_plain
 cases-computed pl after_text Nothing h = h
 cases-computed pl after_text (Text text rest) h = rw (h.0, h.1, h.2) (cases-computed (place_after_text pl) true rest h.3)
 cases-computed pl after_text (Comment text rest) h = rw (h.0, h.1) (cases-computed pl false rest h.2)
 cases-computed pl after_text (ProcessingInstruction target text rest) h = absurd h
-cases-computed pl after_text (Doctype name public_id system_id rest) h = rw (h.0, h.1, h.2, h.3) (cases-computed place.BeforeRoot false rest h.4)
+cases-computed pl after_text (Doctype name public_id system_id rest) h = rw (h.0, h.1, h.2, h.3)
+    (cases-computed place.BeforeRoot false rest h.4)
 cases-computed pl after_text (Element name attributes template kids rest) h =
     let k = h.0 in
     let w = h.1 in
-    element-computed pl name attributes template (λ k. is_plain (inside pl k) false kids) (λ k. is_plain (place_after_element pl) false rest) k w.0 w.1 w.2 w.3 (cases-computed (inside pl k) false kids w.4) (cases-computed (place_after_element pl) false rest w.5)
+    element-computed pl name attributes template (λ k. is_plain (inside pl k) false kids)
+    (λ k. is_plain (place_after_element pl) false rest) k w.0 w.1 w.2 w.3
+    (cases-computed (inside pl k) false kids w.4) (cases-computed (place_after_element pl) false rest w.5)

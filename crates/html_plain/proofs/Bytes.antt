@@ -1,6 +1,7 @@
 -- Texts whose characters are told plain by their bytes.
 use lib.Utf8.{scalar, scalars, encode, encodes}
-use Rattle.std.proofs.Common.{◌≡◌, ◌<◌, ◌+◌, ◌-◌, ℕ, Bool, true, false, ◌&&◌, not, List, [], ◌∷◌, Option, Some, None, length, slice_index, arith, subst, refl, sym, ap, ◌∙◌, inl, inr}
+use Rattle.std.proofs.Common.{◌≡◌, ◌<◌, ◌+◌, ◌-◌, ℕ, Bool, true, false, ◌&&◌, not, List, [], ◌∷◌, Option, Some, None, length}
+use Rattle.std.proofs.Common.{slice_index, arith, subst, refl, sym, ap, ◌∙◌, inl, inr}
 use Rattle.std.specs.List.{list_all}
 use Rattle.std.specs.Option.{is_some}
 use Rattle.std.specs.Str.{IsUtf8, chars}
@@ -33,13 +34,15 @@ byte_of : (c : ℕ) (cs : List ℕ) → is_odd c ≡ true → Passes is_odd (enc
 byte_of c cs odd = rw (encode_ascii c (odd_is_low c odd)) odd
 
 -- where no byte is one of the two, each character is plain
-none-plain : (cs : List ℕ) → scalars cs ≡ true → ((k : ℕ) → k < length (encodes cs) → ¬ Passes is_odd (encodes cs) k) → list_all is_plain_character cs ≡ true
+none-plain : (cs : List ℕ) → scalars cs ≡ true
+    → ((k : ℕ) → k < length (encodes cs) → ¬ Passes is_odd (encodes cs) k) → list_all is_plain_character cs ≡ true
 none-plain [] whole lack = refl
 none-plain (c ∷ cs) whole lack =
     let parts = and_parts (scalar c) (scalars cs) whole in
     let size = length-append (encode c) (encodes cs) in
     let rest : (k : ℕ) → k < length (encodes cs) → ¬ Passes is_odd (encodes cs) k =
-    λ k within odd. lack (length (encode c) + k) (omega (arith, within, size)) (subst (λ (b : ℕ). is_odd b ≡ true) (sym (get_or-append-add (encode c) (encodes cs) k 0)) odd) in
+    λ k within odd. lack (length (encode c) + k) (omega (arith, within, size))
+    (subst (λ (b : ℕ). is_odd b ≡ true) (sym (get_or-append-add (encode c) (encodes cs) k 0)) odd) in
     let first : is_odd c ≡ false = elim (cases_Bool (is_odd c)) [
       | inl odd ↦ absurd (lack 0 (omega (arith, size, length-encode c, (len_utf8_bounds c).0)) (byte_of c cs odd))
       | inr other ↦ other
@@ -71,12 +74,16 @@ presence true is = is
 presence false is = refl
 
 -- a search for the two bytes finds none exactly where all characters are plain
-pub search-plain : (bs : List ℕ) (found : Option ℕ) (none : Bool) → IsUtf8 bs → IsFirstByte is_odd bs found → is_some found ≡ not none → none ≡ list_all is_plain_character (chars bs)
+pub search-plain : (bs : List ℕ) (found : Option ℕ) (none : Bool) → IsUtf8 bs → IsFirstByte is_odd bs found
+    → is_some found ≡ not none → none ≡ list_all is_plain_character (chars bs)
 search-plain bs None none text search is =
     let same = encodes-chars bs text in
-    let plain = none-plain (chars bs) (scalars-chars bs text) (λ k within odd. search k (omega arith) (subst (λ (xs : List ℕ). k < length xs) same within) (subst (λ (xs : List ℕ). Passes is_odd xs k) same odd)) in
+    let plain = none-plain (chars bs) (scalars-chars bs text)
+    (λ k within odd. search k (omega arith) (subst (λ (xs : List ℕ). k < length xs) same within)
+    (subst (λ (xs : List ℕ). Passes is_odd xs k) same odd)) in
     absence none is ∙ sym plain
 search-plain bs (Some k) none text search is =
     let same = sym (encodes-chars bs text) in
-    let odd = byte-not_plain (chars bs) k (subst (λ (xs : List ℕ). k < length xs) same search.0.high) (subst (λ (xs : List ℕ). Passes is_odd xs k) same search.1) in
+    let odd = byte-not_plain (chars bs) k (subst (λ (xs : List ℕ). k < length xs) same search.0.high)
+    (subst (λ (xs : List ℕ). Passes is_odd xs k) same search.1) in
     presence none is ∙ sym odd

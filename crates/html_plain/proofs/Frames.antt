@@ -11,7 +11,8 @@ use Rattle.html_plain.specs.Grammar.{IsPlain, are_plain_attributes, is_plain_tex
 use Rattle.html_plain.specs.declared.elements.PlainElement.{PlainElement}
 use Rattle.html_plain.specs.declared.elements.PlainElement.TheVariants.{Html, Head, Body}
 use Rattle.html_plain.specs.declared.place.PlainPlace.{PlainPlace}
-use Rattle.html_plain.specs.declared.place.PlainPlace.TheVariants.{BeforeRoot, AfterRoot, BeforeHead, AfterHead, BeforeBody, AfterBody, InFlow, InHead}
+use Rattle.html_plain.specs.declared.place.PlainPlace.TheVariants.{BeforeRoot, AfterRoot, BeforeHead, AfterHead, BeforeBody}
+use Rattle.html_plain.specs.declared.place.PlainPlace.TheVariants.{AfterBody, InFlow, InHead}
 
 html-only : (k : PlainElement) → holds BeforeRoot k ≡ true → k ≡ Html
 html-only Html h = refl
@@ -30,14 +31,17 @@ body-after_head Body h = refl
 body-after_head k h = absurd cc
 
 -- what is known of an element where only one may stand
-record IsOne (pl : PlainPlace) (j : PlainElement) (name : QualName) (attributes : List Attribute) (template : Bool) (kids rest : Trees) : Type 0 where
+record IsOne (pl : PlainPlace) (j : PlainElement) (name : QualName) (attributes : List Attribute) (template : Bool)
+    (kids rest : Trees) : Type 0 where
   called : name ≡ html_name (spelled j)
   ordinary : template ≡ false
   tagged : are_plain_attributes attributes ≡ true
   within : IsPlain (inside pl j) false kids
   behind : IsPlain (place_after_element pl) false rest
 
-one : (pl : PlainPlace) (j : PlainElement) → ((k : PlainElement) → holds pl k ≡ true → k ≡ j) → (b : Bool) (name : QualName) (attributes : List Attribute) (template : Bool) (kids rest : Trees) → IsPlain pl b (Element name attributes template kids rest) → IsOne pl j name attributes template kids rest
+one : (pl : PlainPlace) (j : PlainElement) → ((k : PlainElement) → holds pl k ≡ true → k ≡ j)
+    → (b : Bool) (name : QualName) (attributes : List Attribute) (template : Bool) (kids rest : Trees)
+    → IsPlain pl b (Element name attributes template kids rest) → IsOne pl j name attributes template kids rest
 one pl j only b name attributes template kids rest h =
     let k = h.0 in
     let w = h.1 in
@@ -74,8 +78,16 @@ record IsBody (trees : Trees) : Type 0 where
   plain : are_plain_attributes attributes ≡ true
   flows : IsPlain InFlow false flow
 
-body-of : (name : QualName) (attributes : List Attribute) (template : Bool) (kids rest : Trees) → name ≡ html_name (codes "body") → template ≡ false → rest ≡ Nothing → are_plain_attributes attributes ≡ true → IsPlain InFlow false kids → IsBody (Element name attributes template kids rest)
-body-of name attributes template kids rest e t r a k = record { attributes = attributes; flow = kids; is = rw (e, t, r) refl; plain = a; flows = k }
+body-of : (name : QualName) (attributes : List Attribute) (template : Bool) (kids rest : Trees)
+    → name ≡ html_name (codes "body") → template ≡ false → rest ≡ Nothing → are_plain_attributes attributes ≡ true
+    → IsPlain InFlow false kids → IsBody (Element name attributes template kids rest)
+body-of name attributes template kids rest e t r a k = record {
+  attributes = attributes;
+  flow = kids;
+  is = rw (e, t, r) refl;
+  plain = a;
+  flows = k;
+}
 
 body-comes : (b : Bool) (trees : Trees) → IsPlain BeforeBody b trees → IsBody trees
 body-comes b Nothing h = absurd (let no = h in cc)
@@ -99,9 +111,18 @@ record IsAfterHead (trees : Trees) : Type 0 where
   flows : IsPlain InFlow false flow
 
 after_head-of : (space : List ℕ) (trees : Trees) → list_all is_white space ≡ true → IsBody trees → IsAfterHead (text_before space trees)
-after_head-of space trees w b = record { space = space; body = b.attributes; flow = b.flow; is = ap (text_before space) b.is; white = w; plain = b.plain; flows = b.flows }
+after_head-of space trees w b = record {
+  space = space;
+  body = b.attributes;
+  flow = b.flow;
+  is = ap (text_before space) b.is;
+  white = w;
+  plain = b.plain;
+  flows = b.flows;
+}
 
-spaced : (text : List ℕ) (rest : Trees) → is_plain_text text ≡ true → list_all is_white text ≡ true → IsBody rest → IsAfterHead (Text text rest)
+spaced : (text : List ℕ) (rest : Trees) → is_plain_text text ≡ true → list_all is_white text ≡ true → IsBody rest
+    → IsAfterHead (Text text rest)
 spaced [] rest p w b = absurd cc
 spaced (c ∷ cs) rest p w b = after_head-of (c ∷ cs) rest w b
 
@@ -113,7 +134,8 @@ after_head b (ProcessingInstruction target text rest) h = absurd h
 after_head b (Doctype name public_id system_id rest) h = absurd (let no = h.0 in cc)
 after_head b (Element name attributes template kids rest) h =
     let is = one AfterHead Body body-after_head b name attributes template kids rest h in
-    after_head-of [] (Element name attributes template kids rest) refl (body-of name attributes template kids rest is.called is.ordinary (nothing-after_body false rest is.behind) is.tagged is.within)
+    after_head-of [] (Element name attributes template kids rest) refl
+    (body-of name attributes template kids rest is.called is.ordinary (nothing-after_body false rest is.behind) is.tagged is.within)
 
 -- THE ROOT AND THE DOCTYPE
 
@@ -126,8 +148,18 @@ record IsRootFilled (trees : Trees) : Type 0 where
   is : trees ≡ Element (html_name (codes "head")) head false heads rest
   behind : IsAfterHead rest
 
-head-of : (name : QualName) (attributes : List Attribute) (template : Bool) (kids rest : Trees) → name ≡ html_name (codes "head") → template ≡ false → are_plain_attributes attributes ≡ true → IsPlain InHead false kids → IsAfterHead rest → IsRootFilled (Element name attributes template kids rest)
-head-of name attributes template kids rest e t a k r = record { head = attributes; heads = kids; plain = a; holds = k; rest = rest; is = rw (e, t) refl; behind = r }
+head-of : (name : QualName) (attributes : List Attribute) (template : Bool) (kids rest : Trees)
+    → name ≡ html_name (codes "head") → template ≡ false → are_plain_attributes attributes ≡ true
+    → IsPlain InHead false kids → IsAfterHead rest → IsRootFilled (Element name attributes template kids rest)
+head-of name attributes template kids rest e t a k r = record {
+  head = attributes;
+  heads = kids;
+  plain = a;
+  holds = k;
+  rest = rest;
+  is = rw (e, t) refl;
+  behind = r;
+}
 
 root-filled : (b : Bool) (trees : Trees) → IsPlain BeforeHead b trees → IsRootFilled trees
 root-filled b Nothing h = absurd (let no = h in cc)
@@ -146,8 +178,16 @@ record IsRoot (trees : Trees) : Type 0 where
   is : trees ≡ Element (html_name (codes "html")) root false kids Nothing
   filled : IsRootFilled kids
 
-root-of : (name : QualName) (attributes : List Attribute) (template : Bool) (kids rest : Trees) → name ≡ html_name (codes "html") → template ≡ false → rest ≡ Nothing → are_plain_attributes attributes ≡ true → IsRootFilled kids → IsRoot (Element name attributes template kids rest)
-root-of name attributes template kids rest e t r a k = record { root = attributes; kids = kids; plain = a; is = rw (e, t, r) refl; filled = k }
+root-of : (name : QualName) (attributes : List Attribute) (template : Bool) (kids rest : Trees)
+    → name ≡ html_name (codes "html") → template ≡ false → rest ≡ Nothing → are_plain_attributes attributes ≡ true
+    → IsRootFilled kids → IsRoot (Element name attributes template kids rest)
+root-of name attributes template kids rest e t r a k = record {
+  root = attributes;
+  kids = kids;
+  plain = a;
+  is = rw (e, t, r) refl;
+  filled = k;
+}
 
 root-comes : (b : Bool) (trees : Trees) → IsPlain BeforeRoot b trees → IsRoot trees
 root-comes b Nothing h = absurd (let no = h in cc)
@@ -157,9 +197,11 @@ root-comes b (ProcessingInstruction target text rest) h = absurd h
 root-comes b (Doctype name public_id system_id rest) h = absurd (let no = h.0 in cc)
 root-comes b (Element name attributes template kids rest) h =
     let is = one BeforeRoot Html html-only b name attributes template kids rest h in
-    root-of name attributes template kids rest is.called is.ordinary (nothing-after_root false rest is.behind) is.tagged (root-filled false kids is.within)
+    root-of name attributes template kids rest is.called is.ordinary (nothing-after_root false rest is.behind)
+    is.tagged (root-filled false kids is.within)
 
-doctype-same : (name public_id system_id : List ℕ) (rest other : Trees) → name ≡ codes "html" → public_id ≡ [] → system_id ≡ [] → rest ≡ other → Doctype name public_id system_id rest ≡ Doctype (codes "html") [] [] other
+doctype-same : (name public_id system_id : List ℕ) (rest other : Trees) → name ≡ codes "html" → public_id ≡ []
+    → system_id ≡ [] → rest ≡ other → Doctype name public_id system_id rest ≡ Doctype (codes "html") [] [] other
 doctype-same name public_id system_id rest other e p s r = rw (e, p, s, r) refl
 
 pub documents-framed : AreDocumentsFramed
@@ -172,11 +214,20 @@ documents-framed (Doctype name public_id system_id rest) h =
     let root = root-comes false rest h.4 in
     let filled = root.filled in
     let behind = filled.behind in
-    let kids : root.kids ≡ Element (html_name (codes "head")) filled.head false filled.heads (text_before behind.space (Element (html_name (codes "body")) behind.body false behind.flow Nothing)) =
+    let kids : root.kids ≡ Element (html_name (codes "head")) filled.head false filled.heads
+    (text_before behind.space (Element (html_name (codes "body")) behind.body false behind.flow Nothing)) =
     filled.is ∙ ap (λ rest. Element (html_name (codes "head")) filled.head false filled.heads rest) behind.is in (
       record { root = root.root; head = filled.head; body = behind.body; heads = filled.heads; space = behind.space; flow = behind.flow },
       (
-        doctype-same name public_id system_id rest _ h.1 h.2 h.3 (root.is ∙ ap (λ kids. Element (html_name (codes "html")) root.root false kids Nothing) kids),
-        record { root = root.plain; head = filled.plain; body = behind.plain; heads = filled.holds; space = behind.white; flow = behind.flows },
+        doctype-same name public_id system_id rest _ h.1 h.2 h.3
+            (root.is ∙ ap (λ kids. Element (html_name (codes "html")) root.root false kids Nothing) kids),
+        record {
+          root = root.plain;
+          head = filled.plain;
+          body = behind.plain;
+          heads = filled.holds;
+          space = behind.white;
+          flow = behind.flows;
+        },
       ),
     )

@@ -18,7 +18,9 @@ use Rattle.html_plain.specs.declared.elements.Format.TheVariants.{Bold, Italic, 
 use Rattle.html_plain.specs.declared.elements.Level.TheVariants.{One, Two, Three, Four, Five, Six}
 use Rattle.html_plain.specs.declared.elements.ListKind.TheVariants.{Unordered, Ordered}
 use Rattle.html_plain.specs.declared.elements.PlainElement.{PlainElement}
-use Rattle.html_plain.specs.declared.elements.PlainElement.TheVariants.{Html, Head, Title, Body, Paragraph, Heading, Division, List as ListElement, Item, Table, TableBody, Row, Cell, Break, Formatted, Link}
+use Rattle.html_plain.specs.declared.elements.PlainElement.TheVariants.{Html, Head, Title, Body, Paragraph, Heading, Division}
+use Rattle.html_plain.specs.declared.elements.PlainElement.TheVariants.{List as ListElement, Item, Table, TableBody, Row, Cell}
+use Rattle.html_plain.specs.declared.elements.PlainElement.TheVariants.{Break, Formatted, Link}
 
 -- the element of its own name
 pub spelled-found : (k : PlainElement) → local_element (spelled k) ≡ Some k
@@ -50,7 +52,9 @@ spelled-found (Formatted Emphasis) = refl
 spelled-found (Formatted Code) = refl
 spelled-found Link = refl
 
-first-by : (j : PlainElement) (ks : List PlainElement) (name : List ℕ) (k : PlainElement) (b : Bool) → bytes_eq name (spelled j) ≡ b → (first_spelled ks name ≡ Some k → name ≡ spelled k) → cond b (Some j) (first_spelled ks name) ≡ Some k → name ≡ spelled k
+first-by : (j : PlainElement) (ks : List PlainElement) (name : List ℕ) (k : PlainElement) (b : Bool)
+    → bytes_eq name (spelled j) ≡ b → (first_spelled ks name ≡ Some k → name ≡ spelled k)
+    → cond b (Some j) (first_spelled ks name) ≡ Some k → name ≡ spelled k
 first-by j ks name k true e f h = let same : j ≡ k = cc in (bytes_eq-Decides name (spelled j)).0 e ∙ ap spelled same
 first-by j ks name k false e f h = f h
 
@@ -71,13 +75,17 @@ no-prefix (Some x) h = absurd cc
 abbrev made : Option (List ℕ) → List ℕ → List ℕ → QualName
 made prefix ns local = record { prefix = prefix; ns = ns; local = local }
 
-made-html : (prefix : Option (List ℕ)) (ns local : List ℕ) (k : PlainElement) → prefix ≡ None → ns ≡ html_namespace → local ≡ spelled k → made prefix ns local ≡ html_name (spelled k)
+made-html : (prefix : Option (List ℕ)) (ns local : List ℕ) (k : PlainElement) → prefix ≡ None → ns ≡ html_namespace
+    → local ≡ spelled k → made prefix ns local ≡ html_name (spelled k)
 made-html prefix ns local k h i j = rw (h, i, j) refl
 
-element-by : (name : QualName) (k : PlainElement) (b : Bool) → (is_none name.prefix && bytes_eq name.ns html_namespace) ≡ b → cond b (local_element name.local) None ≡ Some k → name ≡ html_name (spelled k)
+element-by : (name : QualName) (k : PlainElement) (b : Bool)
+    → (is_none name.prefix && bytes_eq name.ns html_namespace) ≡ b → cond b (local_element name.local) None ≡ Some k
+    → name ≡ html_name (spelled k)
 element-by name k true e h =
     let p = and_parts (is_none name.prefix) (bytes_eq name.ns html_namespace) e in
-    made-html name.prefix name.ns name.local k (no-prefix name.prefix p.0) ((bytes_eq-Decides name.ns html_namespace).0 p.1) (found-spelled name.local k h)
+    made-html name.prefix name.ns name.local k (no-prefix name.prefix p.0)
+    ((bytes_eq-Decides name.ns html_namespace).0 p.1) (found-spelled name.local k h)
 element-by name k false e h = absurd cc
 
 -- the same of a name with its prefix and its namespace
@@ -88,11 +96,13 @@ pub named-element : (k : PlainElement) → element_of (html_name (spelled k)) �
 unfolding html_namespace
 named-element k = spelled-found k
 
-listed-by : (test : PlainElement → Bool) (j k : PlainElement) (o : Option PlainElement) (b : Bool) → test j ≡ true → (o ≡ Some k → test k ≡ true) → cond b (Some j) o ≡ Some k → test k ≡ true
+listed-by : (test : PlainElement → Bool) (j k : PlainElement) (o : Option PlainElement) (b : Bool) → test j ≡ true
+    → (o ≡ Some k → test k ≡ true) → cond b (Some j) o ≡ Some k → test k ≡ true
 listed-by test j k o true h f e = let same : j ≡ k = cc in subst (λ x. test x ≡ true) same h
 listed-by test j k o false h f e = f e
 
-first-listed : (test : PlainElement → Bool) (ks : List PlainElement) (name : List ℕ) (k : PlainElement) → list_all test ks ≡ true → first_spelled ks name ≡ Some k → test k ≡ true
+first-listed : (test : PlainElement → Bool) (ks : List PlainElement) (name : List ℕ) (k : PlainElement)
+    → list_all test ks ≡ true → first_spelled ks name ≡ Some k → test k ≡ true
 first-listed test [] name k h e = absurd cc
 first-listed test (j ∷ ks) name k h e =
     let parts = and_parts (test j) (list_all test ks) h in
@@ -110,7 +120,8 @@ spelled-known k = each-element (λ k. list_any (bytes_eq (spelled k)) names) ref
 
 unknown-by : (name : List ℕ) (o : Option PlainElement) → local_element name ≡ o → list_any (bytes_eq name) names ≡ false → o ≡ None
 unknown-by name None e h = refl
-unknown-by name (Some k) e h = absurd (true≢false (sym (spelled-known k) ∙ (ap (λ n. list_any (bytes_eq n) names) (sym (found-spelled name k e)) ∙ h)))
+unknown-by name (Some k) e h =
+    absurd (true≢false (sym (spelled-known k) ∙ (ap (λ n. list_any (bytes_eq n) names) (sym (found-spelled name k e)) ∙ h)))
 
 -- what is no known name is that of no element
 pub unknown : (name : List ℕ) → list_any (bytes_eq name) names ≡ false → local_element name ≡ None

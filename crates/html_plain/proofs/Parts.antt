@@ -1,5 +1,6 @@
 -- Names without a namespace, and distinct names.
-use Rattle.std.proofs.Common.{◌≡◌, ◌∙◌, ℕ, Bool, true, false, cond, List, [], ◌∷◌, ◌++◌, refl, sym, ap, true≢false, append_assoc, suc, ◌+◌, ◌<◌, length, take, drop, get_or, arith}
+use Rattle.std.proofs.Common.{◌≡◌, ◌∙◌, ℕ, Bool, true, false, cond, List, [], ◌∷◌, ◌++◌, refl, sym, ap, true≢false}
+use Rattle.std.proofs.Common.{append_assoc, suc, ◌+◌, ◌<◌, length, take, drop, get_or, arith}
 use Rattle.std.proofs.Math.Seq.{take-suc, drop-cons}
 use Rattle.std.proofs.lemmas.List.{take-append-drop}
 use Rattle.std.specs.Prelude.{◌||◌, ◌&&◌, not, Option, Some, None, is_some, is_none}
@@ -40,18 +41,23 @@ cond-or true false = refl
 cond-or false true = refl
 cond-or false false = refl
 
-among-more : (name : List ℕ) (attributes : List Attribute) (a : Attribute) → has_local_name name (attributes ++ a ∷ []) ≡ (has_local_name name attributes || bytes_eq name a.name.local)
+among-more : (name : List ℕ) (attributes : List Attribute) (a : Attribute) → has_local_name name
+    (attributes ++ a ∷ []) ≡ (has_local_name name attributes || bytes_eq name a.name.local)
 among-more name attributes a =
-    list_any-append (λ x. bytes_eq name x.name.local) attributes (a ∷ []) ∙ ap (λ b. has_local_name name attributes || b) (or-false (bytes_eq name a.name.local))
+    list_any-append (λ x. bytes_eq name x.name.local) attributes (a ∷ [])
+    ∙ ap (λ b. has_local_name name attributes || b) (or-false (bytes_eq name a.name.local))
 
 -- a set with the name of one more
-pub HasNames-more : (old new : tree.BTreeSet (List ℕ)) (key : List ℕ) (attributes : List Attribute) (a : Attribute) → key ≡ a.name.local → HasNames old attributes
-    → ((other : List ℕ) → has_name new other ≡ cond (is_at (slice_cmp nat_cmp key) other) true (has_name old other)) → HasNames new (attributes ++ a ∷ [])
+pub HasNames-more : (old new : tree.BTreeSet (List ℕ)) (key : List ℕ) (attributes : List Attribute) (a : Attribute)
+    → key ≡ a.name.local → HasNames old attributes
+    → ((other : List ℕ) → has_name new other ≡ cond (is_at (slice_cmp nat_cmp key) other) true (has_name old other))
+    → HasNames new (attributes ++ a ∷ [])
 HasNames-more old new key attributes a e h more = record {
   each = λ name.
       more name ∙ (cond-or (is_at (slice_cmp nat_cmp key) name) (has_name old name)
       ∙ (ap (λ b. b || is_at (slice_cmp nat_cmp key) name) (h.each name)
-      ∙ (ap (λ b. has_local_name name attributes || b) (sym (texts_ties key name) ∙ (nat_list_eq_equiv.symm key name ∙ ap (bytes_eq name) e))
+      ∙ (ap (λ b. has_local_name name attributes || b)
+      (sym (texts_ties key name) ∙ (nat_list_eq_equiv.symm key name ∙ ap (bytes_eq name) e))
       ∙ sym (among-more name attributes a))));
 }
 
@@ -62,16 +68,22 @@ distinct_by false true false g = refl
 distinct_by false false d g = refl
 
 -- attributes with one more are distinct where those before are, and the one's name is none of theirs
-pub distinct-more : (attributes : List Attribute) (a : Attribute) → are_distinct (attributes ++ a ∷ []) ≡ (are_distinct attributes && not (has_local_name a.name.local attributes))
+pub distinct-more : (attributes : List Attribute) (a : Attribute) → are_distinct (attributes ++ a ∷ []) ≡
+    (are_distinct attributes && not (has_local_name a.name.local attributes))
 distinct-more [] a = refl
 distinct-more (x ∷ attributes) a =
     ap (λ b. not b && are_distinct (attributes ++ a ∷ [])) (among-more x.name.local attributes a)
     ∙ (ap (λ b. not (has_local_name x.name.local attributes || bytes_eq x.name.local a.name.local) && b) (distinct-more attributes a)
-    ∙ (distinct_by (has_local_name x.name.local attributes) (bytes_eq x.name.local a.name.local) (are_distinct attributes) (has_local_name a.name.local attributes)
-    ∙ ap (λ b. (not (has_local_name x.name.local attributes) && are_distinct attributes) && not (b || has_local_name a.name.local attributes)) (nat_list_eq_equiv.symm x.name.local a.name.local)))
+    ∙ (distinct_by (has_local_name x.name.local attributes) (bytes_eq x.name.local a.name.local)
+    (are_distinct attributes) (has_local_name a.name.local attributes)
+    ∙ ap (λ b. (not (has_local_name x.name.local attributes) && are_distinct attributes)
+    && not (b || has_local_name a.name.local attributes)) (nat_list_eq_equiv.symm x.name.local a.name.local)))
 
-among-front : (name : List ℕ) (front rest : List Attribute) → has_local_name name (front ++ rest) ≡ false → has_local_name name front ≡ false
-among-front name front rest h = (or_parts (has_local_name name front) (has_local_name name rest) (sym (list_any-append (λ x. bytes_eq name x.name.local) front rest) ∙ h)).0
+among-front : (name : List ℕ) (front rest : List Attribute) → has_local_name name (front ++ rest) ≡ false
+    → has_local_name name front ≡ false
+among-front name front rest h =
+    (or_parts (has_local_name name front) (has_local_name name rest)
+    (sym (list_any-append (λ x. bytes_eq name x.name.local) front rest) ∙ h)).0
 
 -- of distinct attributes those in front are distinct
 pub distinct-front : (front rest : List Attribute) → are_distinct (front ++ rest) ≡ true → are_distinct front ≡ true
@@ -85,12 +97,15 @@ true-or-false true h = absurd (h refl)
 true-or-false false h = refl
 
 -- attributes are not distinct where one's name is among those before it
-pub repeated : (front : List Attribute) (a : Attribute) (rest : List Attribute) → has_local_name a.name.local front ≡ true → are_distinct (front ++ a ∷ rest) ≡ false
+pub repeated : (front : List Attribute) (a : Attribute) (rest : List Attribute)
+    → has_local_name a.name.local front ≡ true → are_distinct (front ++ a ∷ rest) ≡ false
 repeated front a rest h =
     true-or-false (are_distinct (front ++ a ∷ rest)) (λ distinct.
     let whole : are_distinct ((front ++ a ∷ []) ++ rest) ≡ true = ap are_distinct (append_assoc front (a ∷ []) rest) ∙ distinct in
-    let more : (are_distinct front && not (has_local_name a.name.local front)) ≡ true = sym (distinct-more front a) ∙ distinct-front (front ++ a ∷ []) rest whole in
-    true≢false (sym h ∙ not-true (has_local_name a.name.local front) (and_parts (are_distinct front) (not (has_local_name a.name.local front)) more).1))
+    let more : (are_distinct front && not (has_local_name a.name.local front)) ≡ true = sym (distinct-more front a)
+    ∙ distinct-front (front ++ a ∷ []) rest whole in
+    true≢false (sym h ∙ not-true (has_local_name a.name.local front)
+    (and_parts (are_distinct front) (not (has_local_name a.name.local front)) more).1))
 
 -- a test after that of a prefix which is not there
 pub prefixed : {A : Type 0} (o : Option A) (b d n : Bool) → is_some o ≡ not n → n ≡ true → b ≡ d → b ≡ (is_none o && d)
@@ -108,18 +123,23 @@ old-by b true e h = refl
 old-by b false e h = absurd cc
 
 -- a name that was new to a set of names is none of those
-pub new-name : (names : tree.BTreeSet (List ℕ)) (key : List ℕ) (front : List Attribute) (a : Attribute) (b : Bool) → key ≡ a.name.local → HasNames names front → b ≡ not (tree.contains (slice_cmp nat_cmp) names key) → b ≡ true → has_local_name a.name.local front ≡ false
+pub new-name : (names : tree.BTreeSet (List ℕ)) (key : List ℕ) (front : List Attribute) (a : Attribute) (b : Bool)
+    → key ≡ a.name.local → HasNames names front → b ≡ not (tree.contains (slice_cmp nat_cmp) names key) → b ≡ true
+    → has_local_name a.name.local front ≡ false
 new-name names key front a b e h added is = sym (h.each a.name.local) ∙ (ap (has_name names) (sym e) ∙ new-by b _ added is)
 
 -- and one that was not is
-pub old-name : (names : tree.BTreeSet (List ℕ)) (key : List ℕ) (front : List Attribute) (a : Attribute) (b : Bool) → key ≡ a.name.local → HasNames names front → b ≡ not (tree.contains (slice_cmp nat_cmp) names key) → b ≡ false → has_local_name a.name.local front ≡ true
+pub old-name : (names : tree.BTreeSet (List ℕ)) (key : List ℕ) (front : List Attribute) (a : Attribute) (b : Bool)
+    → key ≡ a.name.local → HasNames names front → b ≡ not (tree.contains (slice_cmp nat_cmp) names key) → b ≡ false
+    → has_local_name a.name.local front ≡ true
 old-name names key front a b e h added is = sym (h.each a.name.local) ∙ (ap (has_name names) (sym e) ∙ old-by b _ added is)
 
 -- attributes, cut at one of them
 pub split-at : (l : List Attribute) (i : ℕ) (x : Attribute) → i < length l → get_or l i x ≡ x → l ≡ take i l ++ x ∷ drop (i + 1) l
 split-at l i x lt e =
     let next : i + 1 ≡ suc i = omega arith in
-    sym (take-append-drop i l) ∙ ap (λ t. take i l ++ t) (drop-cons l i x lt ∙ (ap (λ y. y ∷ drop (suc i) l) e ∙ ap (λ n. x ∷ drop n l) (sym next)))
+    sym (take-append-drop i l) ∙ ap (λ t. take i l ++ t)
+    (drop-cons l i x lt ∙ (ap (λ y. y ∷ drop (suc i) l) e ∙ ap (λ n. x ∷ drop n l) (sym next)))
 
 pub take-at : (l : List Attribute) (i : ℕ) (x : Attribute) → i < length l → get_or l i x ≡ x → take (i + 1) l ≡ take i l ++ x ∷ []
 take-at l i x lt e =

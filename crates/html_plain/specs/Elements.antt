@@ -13,11 +13,15 @@ use Rattle.html_plain.specs.declared.elements.Level.TheVariants.{One, Two, Three
 use Rattle.html_plain.specs.declared.elements.ListKind.{ListKind}
 use Rattle.html_plain.specs.declared.elements.ListKind.TheVariants.{Unordered, Ordered}
 use Rattle.html_plain.specs.declared.elements.PlainElement.{PlainElement}
-use Rattle.html_plain.specs.declared.elements.PlainElement.TheVariants.{Html, Head, Title, Body, Paragraph, Heading, Division, List as ListElement, Item, Table, TableBody, Row, Cell, Break, Formatted, Link}
+use Rattle.html_plain.specs.declared.elements.PlainElement.TheVariants.{Html, Head, Title, Body, Paragraph, Heading, Division}
+use Rattle.html_plain.specs.declared.elements.PlainElement.TheVariants.{List as ListElement, Item, Table, TableBody, Row, Cell}
+use Rattle.html_plain.specs.declared.elements.PlainElement.TheVariants.{Break, Formatted, Link}
 use Rattle.html_plain.specs.declared.place.PlainPlace.{PlainPlace}
 use Rattle.html_plain.specs.declared.place.TextKind.{TextKind}
 use Rattle.html_plain.specs.declared.place.TextKind.TheVariants.{NoText, WhiteSpace, AnyText}
-use Rattle.html_plain.specs.declared.place.PlainPlace.TheVariants.{BeforeDoctype, BeforeRoot, AfterRoot, BeforeHead, AfterHead, BeforeBody, AfterBody, InHead, AfterTitle, InTitle, InFlow, InLine, InList, InTable, InTableBody, InRow, InBreak}
+use Rattle.html_plain.specs.declared.place.PlainPlace.TheVariants.{BeforeDoctype, BeforeRoot, AfterRoot, BeforeHead, AfterHead}
+use Rattle.html_plain.specs.declared.place.PlainPlace.TheVariants.{BeforeBody, AfterBody, InHead, AfterTitle, InTitle, InFlow}
+use Rattle.html_plain.specs.declared.place.PlainPlace.TheVariants.{InLine, InList, InTable, InTableBody, InRow, InBreak}
 
 -- NAMES
 
@@ -63,7 +67,8 @@ spelled Link = codes "a"
 
 abbrev pub elements : List PlainElement
 elements =
-    Html ∷ Head ∷ Title ∷ Body ∷ Paragraph ∷ Heading One ∷ Heading Two ∷ Heading Three ∷ Heading Four ∷ Heading Five ∷ Heading Six ∷ Division
+    Html ∷ Head ∷ Title ∷ Body ∷ Paragraph ∷ Heading One ∷ Heading Two ∷ Heading Three ∷ Heading Four ∷
+    Heading Five ∷ Heading Six ∷ Division
     ∷ ListElement Unordered ∷ ListElement Ordered ∷ Item ∷ Table ∷ TableBody ∷ Row ∷ Cell Data ∷ Cell Header ∷ Break
     ∷ Formatted Bold ∷ Formatted Italic ∷ Formatted Emphasis ∷ Formatted Code ∷ Link ∷ []
 

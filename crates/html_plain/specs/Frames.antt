@@ -25,7 +25,8 @@ abbrev pub framed : Frame → Trees
 framed f =
     Doctype (codes "html") [] []
     (Element (html_name (codes "html")) f.root false
-    (Element (html_name (codes "head")) f.head false f.heads (text_before f.space (Element (html_name (codes "body")) f.body false f.flow Nothing)))
+    (Element (html_name (codes "head")) f.head false f.heads
+    (text_before f.space (Element (html_name (codes "body")) f.body false f.flow Nothing)))
     Nothing)
 
 -- the parts of a frame are plain

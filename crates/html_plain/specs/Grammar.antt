@@ -9,7 +9,8 @@ use Rattle.markup.specs.Forest.{Forest, children_of}
 use Rattle.markup.specs.Trees.{Trees, Nothing, Text, Comment, ProcessingInstruction, Doctype, Element, trees_of}
 use Rattle.markup.specs.declared.attributes.Attribute.{Attribute}
 use Rattle.markup.specs.declared.names.QualName.{QualName}
-use Rattle.html_plain.specs.Elements.{place_after_element, place_after_text, element_of, holds, html_name, inside, may_end, spelled, takes_comments, text_kind}
+use Rattle.html_plain.specs.Elements.{place_after_element, place_after_text, element_of, holds, html_name, inside, may_end}
+use Rattle.html_plain.specs.Elements.{spelled, takes_comments, text_kind}
 use Rattle.html_plain.specs.declared.place.TextKind.{TextKind}
 use Rattle.html_plain.specs.declared.place.TextKind.TheVariants.{NoText, WhiteSpace, AnyText}
 use Rattle.html_plain.specs.declared.elements.PlainElement.{PlainElement}
@@ -77,13 +78,16 @@ is_first _ = false
 -- trees in a place, of which the first is no text if a text stands before them
 abbrev pub IsPlain : PlainPlace → Bool → Trees → Type 0
 IsPlain place after_text Nothing = may_end place ≡ true
-IsPlain place after_text (Text text rest) = (after_text ≡ false) × (is_plain_text text ≡ true) × (takes_text (text_kind place) text ≡ true) × IsPlain (place_after_text place) true rest
+IsPlain place after_text (Text text rest) = (after_text ≡ false) × (is_plain_text text ≡ true)
+    × (takes_text (text_kind place) text ≡ true) × IsPlain (place_after_text place) true rest
 IsPlain place after_text (Comment text rest) = (takes_comments place ≡ true) × (is_plain_comment text ≡ true) × IsPlain place false rest
 IsPlain place after_text (ProcessingInstruction target text rest) = ⊥
-IsPlain place after_text (Doctype name public_id system_id rest) = (place ≡ BeforeDoctype) × (name ≡ codes "html") × (public_id ≡ []) × (system_id ≡ []) × IsPlain BeforeRoot false rest
+IsPlain place after_text (Doctype name public_id system_id rest) = (place ≡ BeforeDoctype) × (name ≡ codes "html")
+    × (public_id ≡ []) × (system_id ≡ []) × IsPlain BeforeRoot false rest
 IsPlain place after_text (Element name attributes template kids rest) =
     (k : PlainElement)
-    × ((name ≡ html_name (spelled k)) × (template ≡ false) × (holds place k ≡ true) × (are_plain_attributes attributes ≡ true) × IsPlain (inside place k) false kids × IsPlain (place_after_element place) false rest)
+    × ((name ≡ html_name (spelled k)) × (template ≡ false) × (holds place k ≡ true)
+    × (are_plain_attributes attributes ≡ true) × IsPlain (inside place k) false kids × IsPlain (place_after_element place) false rest)
 
 -- a plain document, by what stands in it
 abbrev pub IsPlainDocument : Trees → Type 0
@@ -102,12 +106,15 @@ is_plain_start place attributes template k = holds place k && (not template && a
 
 unfoldable pub is_plain : PlainPlace → Bool → Trees → Bool
 is_plain place after_text Nothing = may_end place
-is_plain place after_text (Text text rest) = (not after_text && (is_plain_text text && takes_text (text_kind place) text)) && is_plain (place_after_text place) true rest
+is_plain place after_text (Text text rest) =
+    (not after_text && (is_plain_text text && takes_text (text_kind place) text)) && is_plain (place_after_text place) true rest
 is_plain place after_text (Comment text rest) = (takes_comments place && is_plain_comment text) && is_plain place false rest
 is_plain place after_text (ProcessingInstruction target text rest) = false
-is_plain place after_text (Doctype name public_id system_id rest) = (is_first place && is_plain_doctype name public_id system_id) && is_plain BeforeRoot false rest
+is_plain place after_text (Doctype name public_id system_id rest) =
+    (is_first place && is_plain_doctype name public_id system_id) && is_plain BeforeRoot false rest
 is_plain place after_text (Element name attributes template kids rest) =
-    is_some_and (element_of name) (λ k. is_plain_start place attributes template k && (is_plain (inside place k) false kids && is_plain (place_after_element place) false rest))
+    is_some_and (element_of name) (λ k. is_plain_start place attributes template k
+    && (is_plain (inside place k) false kids && is_plain (place_after_element place) false rest))
 
 abbrev pub is_plain_document : Trees → Bool
 is_plain_document trees = is_plain BeforeDoctype false trees

@@ -11,7 +11,8 @@ use Rattle.html_plain.specs.declared.place.PlainPlace.{PlainPlace}
 
 -- the grammar by cases, and as it is computed, have the same trees
 abbrev pub IsGrammarComputed : Type 0
-IsGrammarComputed = (place : PlainPlace) (after_text : Bool) (trees : Trees) → (is_plain place after_text trees ≡ true) ↔ IsPlain place after_text trees
+IsGrammarComputed = (place : PlainPlace) (after_text : Bool) (trees : Trees)
+    → (is_plain place after_text trees ≡ true) ↔ IsPlain place after_text trees
 
 -- what is written of trees, whether scripts run or not
 abbrev pub text_of : Bool → Trees → List ℕ
@@ -24,10 +25,15 @@ is_void _ = false
 
 -- what is written of each form of the grammar, with what follows it
 pub record AreFormsWritten : Type 0 where
-  pub doctype : (scripting : Bool) (rest : Trees) → text_of scripting (Doctype (codes "html") [] [] rest) ≡ written_doctype (codes "html") ++ text_of scripting rest
+  pub doctype : (scripting : Bool) (rest : Trees) → text_of scripting (Doctype (codes "html") [] [] rest) ≡
+      written_doctype (codes "html") ++ text_of scripting rest
   pub text : (scripting : Bool) (text : List ℕ) (rest : Trees) → text_of scripting (Text text rest) ≡ escape text ++ text_of scripting rest
-  pub comment : (scripting : Bool) (text : List ℕ) (rest : Trees) → text_of scripting (Comment text rest) ≡ written_comment text ++ text_of scripting rest
-  pub break : (scripting : Bool) (attributes : List Attribute) (rest : Trees) → text_of scripting (Element (html_name (spelled Break)) attributes false Nothing rest) ≡ start_tag (spelled Break) attributes ++ text_of scripting rest
+  pub comment : (scripting : Bool) (text : List ℕ) (rest : Trees)
+      → text_of scripting (Comment text rest) ≡ written_comment text ++ text_of scripting rest
+  pub break : (scripting : Bool) (attributes : List Attribute) (rest : Trees)
+      → text_of scripting (Element (html_name (spelled Break)) attributes false Nothing rest) ≡ start_tag
+      (spelled Break) attributes ++ text_of scripting rest
   -- all other elements
   pub element : (k : PlainElement) → is_void k ≡ false → (scripting : Bool) (attributes : List Attribute) (kids rest : Trees)
-      → text_of scripting (Element (html_name (spelled k)) attributes false kids rest) ≡ start_tag (spelled k) attributes ++ (text_of scripting kids ++ (end_tag (spelled k) ++ text_of scripting rest))
+      → text_of scripting (Element (html_name (spelled k)) attributes false kids rest) ≡ start_tag
+      (spelled k) attributes ++ (text_of scripting kids ++ (end_tag (spelled k) ++ text_of scripting rest))

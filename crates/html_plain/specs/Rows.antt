@@ -95,10 +95,12 @@ odd_bodies =
     -- nodes of other kinds
     ∷ ProcessingInstruction (codes "x") (codes "y") Nothing ∷ Doctype (codes "html") [] [] Nothing
     -- comments: a hyphen, "<", ">", U+0000, U+000D, a surrogate, and where no flow stands
-    ∷ noted "a-b" ∷ noted "<" ∷ noted "a>" ∷ Comment (0 ∷ []) Nothing ∷ Comment (codes "a" ++ 13 ∷ []) Nothing ∷ Comment (0xDFFF ∷ []) Nothing
+    ∷ noted "a-b" ∷ noted "<" ∷ noted "a>" ∷ Comment (0 ∷ []) Nothing ∷ Comment (codes "a" ++ 13 ∷ []) Nothing ∷
+    Comment (0xDFFF ∷ []) Nothing
     ∷ one "div" (Comment [] (say "a" (Comment [] (say "b" (text "c")))))
     ∷ one "p" (noted "c") ∷ one "h1" (noted "c") ∷ one "b" (noted "c") ∷ one "a" (noted "c") ∷ one "br" (noted "c")
-    ∷ one "ul" (noted "c") ∷ one "ol" (noted "c") ∷ one "table" (noted "c") ∷ one "table" (one "tbody" (noted "c")) ∷ one "table" (one "tbody" (one "tr" (noted "c")))
+    ∷ one "ul" (noted "c") ∷ one "ol" (noted "c") ∷ one "table" (noted "c") ∷
+    one "table" (one "tbody" (noted "c")) ∷ one "table" (one "tbody" (one "tr" (noted "c")))
     -- other elements, and names of other namespaces and with a prefix
     ∷ bare "span" ∷ bare "P" ∷ bare "h7" ∷ bare ""
     ∷ Element (record { prefix = None; ns = name_of Svg; local = codes "a" }) [] false Nothing Nothing
@@ -114,14 +116,16 @@ odd_bodies =
     ∷ one "br" (text "x") ∷ one "br" (bare "b")
     -- parts of lists and tables elsewhere, and other elements and texts in these
     ∷ bare "li" ∷ one "div" (bare "li") ∷ one "ul" (bare "p") ∷ one "ul" (bare "ul") ∷ one "ul" (text "x") ∷ one "ol" (text "x")
-    ∷ bare "tbody" ∷ bare "tr" ∷ bare "td" ∷ one "table" (bare "tr") ∷ one "table" (bare "td") ∷ one "table" (bare "p") ∷ one "table" (text "x")
+    ∷ bare "tbody" ∷ bare "tr" ∷ bare "td" ∷ one "table" (bare "tr") ∷ one "table" (bare "td") ∷
+    one "table" (bare "p") ∷ one "table" (text "x")
     ∷ one "table" (one "tbody" (bare "td")) ∷ one "table" (one "tbody" (text "x"))
     ∷ one "table" (one "tbody" (one "tr" (bare "p"))) ∷ one "table" (one "tbody" (one "tr" (text "x")))
     ∷ one "ul" (Text (0xA0 ∷ []) Nothing) ∷ one "ul" (Text (11 ∷ []) Nothing) ∷ one "ul" (say " " (text " "))
     -- parts of the document
     ∷ bare "html" ∷ bare "head" ∷ bare "title" ∷ bare "body"
     -- attributes: names, two of one name, prefix, namespace, values
-    ∷ with_attributes (at "Class" [] ∷ []) ∷ with_attributes (at "" [] ∷ []) ∷ with_attributes (at "a_b" [] ∷ []) ∷ with_attributes (at "xml:lang" [] ∷ [])
+    ∷ with_attributes (at "Class" [] ∷ []) ∷ with_attributes (at "" [] ∷ []) ∷ with_attributes (at "a_b" [] ∷ []) ∷
+    with_attributes (at "xml:lang" [] ∷ [])
     ∷ with_attributes (at "a" (codes "1") ∷ at "b" [] ∷ at "a" (codes "2") ∷ [])
     ∷ with_attributes (record { name = record { prefix = Some (codes "x"); ns = []; local = codes "a" }; value = [] } ∷ [])
     ∷ with_attributes (record { name = record { prefix = None; ns = name_of XLink; local = codes "href" }; value = [] } ∷ [])
@@ -137,7 +141,10 @@ plain_pages =
     ∷ headed (one "title" (text "a<b>")) (one "body" (text "x"))
     ∷ headed (say " " (of "title" (text " ") (Text (10 ∷ []) Nothing))) (bare "body")
     ∷ headed (text " ") (bare "body")
-    ∷ Doctype (codes "html") [] [] (Element (html_name (codes "html")) (at "lang" (codes "en") ∷ []) false (Element (html_name (codes "head")) (at "a" [] ∷ []) false (Element (html_name (codes "title")) (at "a" [] ∷ []) false Nothing Nothing) (Element (html_name (codes "body")) (at "a" [] ∷ []) false Nothing Nothing)) Nothing)
+    ∷ Doctype (codes "html") [] [] (Element (html_name (codes "html")) (at "lang" (codes "en") ∷ []) false
+    (Element (html_name (codes "head")) (at "a" [] ∷ []) false
+    (Element (html_name (codes "title")) (at "a" [] ∷ []) false Nothing Nothing)
+    (Element (html_name (codes "body")) (at "a" [] ∷ []) false Nothing Nothing)) Nothing)
     ∷ []
 
 abbrev html : Trees
@@ -148,7 +155,8 @@ abbrev odd_pages : List Trees
 odd_pages =
     -- the doctype
     Nothing ∷ html ∷ Doctype (codes "html") [] [] Nothing ∷ Doctype (codes "HTML") [] [] html ∷ Doctype [] [] [] html
-    ∷ Doctype (codes "html") (codes "x") [] html ∷ Doctype (codes "html") [] (codes "about:legacy-compat") html ∷ Doctype (codes "html") [] [] (Doctype (codes "html") [] [] html)
+    ∷ Doctype (codes "html") (codes "x") [] html ∷ Doctype (codes "html") [] (codes "about:legacy-compat") html ∷
+    Doctype (codes "html") [] [] (Doctype (codes "html") [] [] html)
     -- beside the root
     ∷ Doctype (codes "html") [] [] (Text (10 ∷ []) html)
     ∷ Comment [] (Doctype (codes "html") [] [] html)
@@ -185,7 +193,9 @@ odd_pages =
     ∷ []
 
 abbrev pub ArePlainRows : Type 0
-ArePlainRows = (map (λ body. is_plain_document (page body)) plain_bodies ≡ map (λ body. true) plain_bodies) × (map is_plain_document plain_pages ≡ map (λ trees. true) plain_pages)
+ArePlainRows = (map (λ body. is_plain_document (page body)) plain_bodies ≡ map (λ body. true) plain_bodies)
+    × (map is_plain_document plain_pages ≡ map (λ trees. true) plain_pages)
 
 abbrev pub AreOddRows : Type 0
-AreOddRows = (map (λ body. is_plain_document (page body)) odd_bodies ≡ map (λ body. false) odd_bodies) × (map is_plain_document odd_pages ≡ map (λ trees. false) odd_pages)
+AreOddRows = (map (λ body. is_plain_document (page body)) odd_bodies ≡ map (λ body. false) odd_bodies)
+    × (map is_plain_document odd_pages ≡ map (λ trees. false) odd_pages)

@@ -2,7 +2,8 @@
 ghost use Rattle.std.specs.Prelude.{◌≡◌, IfErr, IfOk};
 ghost use Rattle.std.specs.List.{list_all};
 ghost use Rattle.std.specs.Str.{chars};
-ghost use Rattle.html_plain.specs.Grammar.{are_distinct, are_plain_attributes, has_local_name, is_name_character, is_plain_attribute, is_plain_name, is_unprefixed};
+ghost use Rattle.html_plain.specs.Grammar.{are_distinct, are_plain_attributes, has_local_name, is_name_character};
+ghost use Rattle.html_plain.specs.Grammar.{is_plain_attribute, is_plain_name, is_unprefixed};
 ghost use Rattle.markup.specs.declared.fault.ParseFault.TheVariants.{Memory};
 
 use crate::texts::has_plain_characters;

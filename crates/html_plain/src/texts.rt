@@ -2,7 +2,8 @@
 ghost use Rattle.std.specs.Prelude.{◌≡◌, ◌==◌, codes, length};
 ghost use Rattle.std.specs.Str.{bytes_eq, chars};
 ghost use Rattle.std.specs.List.{list_all};
-ghost use Rattle.html_plain.specs.Grammar.{is_comment_character, is_plain_character, is_plain_comment, is_plain_doctype, is_plain_text, is_white, takes_text};
+ghost use Rattle.html_plain.specs.Grammar.{is_comment_character, is_plain_character, is_plain_comment, is_plain_doctype};
+ghost use Rattle.html_plain.specs.Grammar.{is_plain_text, is_white, takes_text};
 
 use crate::place::TextKind;
 use memchr::memchr2;

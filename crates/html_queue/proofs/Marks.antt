@@ -1,5 +1,6 @@
 -- Which of sixteen bytes are marked, and that no other is in a set.
-use Rattle.std.proofs.Common.{◌≡◌, ℕ, ◌-◌, ◌*◌, ◌%◌, ◌^◌, ◌<◌, ◌≤◌, Bool, true, false, ◌||◌, List, [], ◌∷◌, cond, eqb, ltb, length, map, replicate, refl, sym, ap, ◌∙◌, arith, w8, w64, bit_and}
+use Rattle.std.proofs.Common.{◌≡◌, ℕ, ◌-◌, ◌*◌, ◌%◌, ◌^◌, ◌<◌, ◌≤◌, Bool, true, false, ◌||◌, List, [], ◌∷◌, cond, eqb, ltb}
+use Rattle.std.proofs.Common.{length, map, replicate, refl, sym, ap, ◌∙◌, arith, w8, w64, bit_and}
 use Rattle.std.specs.Int.{bit_at, bit_not}
 use Rattle.std.specs.Simd.Lanes.{zip2, sel_l, mask_l, top}
 use Rattle.std.proofs.lemmas.Bool.{and_parts, eqb-true, ltb-true, or_parts, eqb-false, ltb-false, true_from_ne_false}
@@ -47,7 +48,8 @@ marked first second x = marked_first second x (eqb x first)
 
 -- the mask of the lanes that are below 14, where those of two bytes are made 0
 pub mask_marked : (n first second : ℕ) (xs : List ℕ) → length xs ≡ n → n ≤ 64
-    → mask_l (map (top 7) (zip2 (λ a b. cond (ltb a b) 255 0) (clear n second (clear n first xs)) (replicate n 14))) % 2 ^ 64 ≡ mask_l (map (is_marked first second) xs)
+    → mask_l (map (top 7) (zip2 (λ a b. cond (ltb a b) 255 0) (clear n second (clear n first xs)) (replicate n 14)))
+    % 2 ^ 64 ≡ mask_l (map (is_marked first second) xs)
 mask_marked n first second xs long small =
     let once = clear_lanes n first xs long in
     let long-once : length (map (cleared first) xs) ≡ n = length-map xs (cleared first) ∙ long in
@@ -71,7 +73,11 @@ none_unmarked bits first second c l m empty there =
     let apart = or_parts _ _ not in
     let others = or_parts _ _ apart.1 in
     let above : 14 ≤ c = ltb-false c 14 apart.0 in
-    let kept : bit_at (bit_and bits (2 ^ 64 - 2 ^ 14)) c ≡ 1 = omega (arith, bit_at_and bits (2 ^ 64 - 2 ^ 14) c, bit_at_mask_inside 14 64 c above low) in
+    let kept : bit_at (bit_and bits (2 ^ 64 - 2 ^ 14)) c ≡ 1 = omega (
+      arith,
+      bit_at_and bits (2 ^ 64 - 2 ^ 14) c,
+      bit_at_mask_inside 14 64 c above low,
+    ) in
     let once = bit_at_clear_other w64 (bit_and bits (2 ^ 64 - 2 ^ 14)) first l c low (eqb-false c first others.0) in
     let twice = bit_at_clear_other w64 _ second m c low (eqb-false c second others.1) in
     let zero : bit_at 0 c ≡ 1 = sym (ap (λ n. bit_at n c) empty) ∙ twice ∙ once ∙ kept in

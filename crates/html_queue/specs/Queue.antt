@@ -1,4 +1,5 @@
-use Rattle.std.specs.Prelude.{◌≡◌, ℕ, ◌+◌, ◌<◌, ◌≤◌, true, false, Option, Some, None, List, [], ◌∷◌, ◌++◌, length, drop, slice_get, All, IfSome}
+use Rattle.std.specs.Prelude.{◌≡◌, ℕ, ◌+◌, ◌<◌, ◌≤◌, true, false, Option, Some, None, List, [], ◌∷◌, ◌++◌, length, drop}
+use Rattle.std.specs.Prelude.{slice_get, All, IfSome}
 use Rattle.html_queue.specs.Set.{has}
 use Rattle.html_queue.specs.declared.set.SetResult.{SetResult}
 use Rattle.html_queue.specs.declared.set.SetResult.TheVariants.{FromSet, NotFromSet}

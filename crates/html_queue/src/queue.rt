@@ -1,4 +1,5 @@
-ghost use Rattle.std.specs.Prelude.{◌≡◌, ◌+◌, ◌++◌, [], ◌∷◌, length, IfOk, OnOk, OnErr, IsOkUnless, MatchOption, slice_get, ◌==◌, ◌≢◌, ℕ, Bool, true, Some, encode_utf8_all, take};
+ghost use Rattle.std.specs.Prelude.{◌≡◌, ◌+◌, ◌++◌, [], ◌∷◌, length, IfOk, OnOk, OnErr, IsOkUnless, MatchOption, slice_get};
+ghost use Rattle.std.specs.Prelude.{◌==◌, ◌≢◌, ℕ, Bool, true, Some, encode_utf8_all, take};
 ghost use Rattle.std.specs.Str.{chars, IsAscii, IsCharBoundary};
 ghost use Rattle.std.specs.String.{string_bytes};
 ghost use Rattle.markup.specs.declared.fault.ParseFault.TheVariants.{Memory};

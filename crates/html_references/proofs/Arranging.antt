@@ -1,5 +1,6 @@
 -- Rows in the order of their names and places, and the first of them whose name an earlier one has.
-use Rattle.std.proofs.Common.{◌≡◌, ◌∙◌, ℕ, ◌+◌, ◌-◌, ◌<◌, ◌≤◌, true, false, List, [], ◌∷◌, ◌++◌, length, get_or, map, None, refl, sym, ap, subst, arith, ⊎_elim, inl, inr}
+use Rattle.std.proofs.Common.{◌≡◌, ◌∙◌, ℕ, ◌+◌, ◌-◌, ◌<◌, ◌≤◌, true, false, List, [], ◌∷◌, ◌++◌, length, get_or, map, None}
+use Rattle.std.proofs.Common.{refl, sym, ap, subst, arith, ⊎_elim, inl, inr}
 use Rattle.std.specs.Prelude.{◌⊎◌, All, Contains}
 use Rattle.std.specs.Cmp.{IsTotalOrder, then_total, on_total, nat_cmp_total}
 use Rattle.std.specs.Cmp.Lexicographic.{slice_cmp}
@@ -13,7 +14,8 @@ use Rattle.std.proofs.lemmas.Bool.Decides.{nat_tests}
 use Rattle.std.proofs.lemmas.Cmp.{nat_list_cmp_total}
 use Rattle.std.proofs.lemmas.List.{get_or-map, get_or_append_left, get_or_default, get_or_push, length_push, length-map}
 use Rattle.std.proofs.lemmas.List.Edits.{Swapped, length-swap, swapped_from_swap}
-use Rattle.std.proofs.lemmas.List.Sorted.{All-permutation, Contains-permutation, IsPermutation-keeps, length_permutation, ranks_by, sorted_far}
+use Rattle.std.proofs.lemmas.List.Sorted.{All-permutation, Contains-permutation, IsPermutation-keeps, length_permutation}
+use Rattle.std.proofs.lemmas.List.Sorted.{ranks_by, sorted_far}
 use Rattle.html_references.specs.Order.{IsArranged, IsBefore, IsFirstRepeat, IsOrder, IsRepeat, is_good, name_at, ordered_name}
 use Rattle.html_references.specs.References.{is_reference_name}
 use Rattle.html_references.proofs.Orders.{IsBefore-greater, IsBefore-trans, name_at-get_or, same_from_equal}
@@ -34,7 +36,8 @@ between-same a b c (inl h) (inr e) same = same ∙ sym e
 
 module _ (rows : List ReferenceRow) (order : List ℕ) (arranged : IsArranged rows order) where
   -- a name is that of one further on, or stands before it
-  upto : (low high : ℕ) → low ≤ high → high < length order → IsBefore (ordered_name rows order low) (ordered_name rows order high) ⊎ (ordered_name rows order low ≡ ordered_name rows order high)
+  upto : (low high : ℕ) → low ≤ high → high < length order → IsBefore (ordered_name rows order low)
+      (ordered_name rows order high) ⊎ (ordered_name rows order low ≡ ordered_name rows order high)
   upto low high l m =
       ⊎_elim
       (λ (b : low < high). ⊎_elim (λ h. inl h) (λ e. inr (e.0)) (arranged.ranked low high b m))
@@ -42,26 +45,34 @@ module _ (rows : List ReferenceRow) (order : List ℕ) (arranged : IsArranged ro
       (cases_lt low high)
 
   -- where no name stands twice after one another, they rise
-  rising-repeatless : ((index : ℕ) → IsRepeat rows order index → ⊥) → (low high : ℕ) → low < high → high < length order → IsBefore (ordered_name rows order low) (ordered_name rows order high)
+  rising-repeatless : ((index : ℕ) → IsRepeat rows order index → ⊥) → (low high : ℕ) → low < high
+      → high < length order → IsBefore (ordered_name rows order low) (ordered_name rows order high)
   rising-repeatless none low high l m =
       ⊎_elim (λ h. h)
-      (λ e. absurd (none low (omega arith, between-same _ _ _ (upto low (low + 1) (omega arith) (omega arith)) (upto (low + 1) high (omega arith) m) e.0)))
+      (λ e. absurd (none low (
+        omega arith,
+        between-same _ _ _ (upto low (low + 1) (omega arith) (omega arith))
+            (upto (low + 1) high (omega arith) m) e.0,
+      )))
       (arranged.ranked low high l m)
 
   -- the first of two places with the same name stands before the other
-  ranked-same : (a b i j : ℕ) → a < b → i < length order → j < length order → get_or order i 0 ≡ a → get_or order j 0 ≡ b → name_at rows a ≡ name_at rows b → i < j
+  ranked-same : (a b i j : ℕ) → a < b → i < length order → j < length order → get_or order i 0 ≡ a
+      → get_or order j 0 ≡ b → name_at rows a ≡ name_at rows b → i < j
   ranked-same a b i j l m n p q same =
       ⊎_elim
       (λ (e : i ≡ j). absurd (let f : a ≡ b = sym p ∙ (ap (λ k. get_or order k 0) e ∙ q) in omega arith))
       (λ s. ⊎_elim (λ h. h)
       (λ (h : j < i). ⊎_elim
-      (λ before. absurd (IsBefore-same (ordered_name rows order j) (ordered_name rows order i) (ap (name_at rows) q ∙ (sym same ∙ ap (name_at rows) (sym p))) before))
+      (λ before. absurd (IsBefore-same (ordered_name rows order j) (ordered_name rows order i)
+      (ap (name_at rows) q ∙ (sym same ∙ ap (name_at rows) (sym p))) before))
       (λ e. absurd (let f : get_or order j 0 < get_or order i 0 = e.1 in omega arith))
       (arranged.ranked j i h m)) s)
       (cases_order i j)
 
   -- names are distinct where none stands twice after one another
-  pub distinct-repeatless : ((index : ℕ) → IsRepeat rows order index → ⊥) → (a b : ℕ) → a < b → b < length rows → name_at rows a ≡ name_at rows b → ⊥
+  pub distinct-repeatless : ((index : ℕ) → IsRepeat rows order index → ⊥) → (a b : ℕ) → a < b → b < length rows
+      → name_at rows a ≡ name_at rows b → ⊥
   distinct-repeatless none a b l m same =
       let p = arranged.whole a (omega arith) in
       let q = arranged.whole b m in
@@ -69,7 +80,8 @@ module _ (rows : List ReferenceRow) (order : List ℕ) (arranged : IsArranged ro
       IsBefore-same _ _ (ap (name_at rows) p.2 ∙ (same ∙ ap (name_at rows) (sym q.2))) rises
 
   -- names before the first place that repeats one are distinct
-  pub distinct-before : (place : ℕ) → ((index : ℕ) → IsRepeat rows order index → place ≤ get_or order (index + 1) 0) → (a b : ℕ) → a < b → b < place → b < length rows → name_at rows a ≡ name_at rows b → ⊥
+  pub distinct-before : (place : ℕ) → ((index : ℕ) → IsRepeat rows order index → place ≤ get_or order (index + 1) 0)
+      → (a b : ℕ) → a < b → b < place → b < length rows → name_at rows a ≡ name_at rows b → ⊥
   distinct-before place least a b l m n same =
       let p = arranged.whole a (omega arith) in
       let q = arranged.whole b n in
@@ -84,7 +96,8 @@ module _ (rows : List ReferenceRow) (order : List ℕ) (arranged : IsArranged ro
       omega arith
 
   -- the place that repeats a name has it from an earlier one
-  pub earlier-same : (index : ℕ) → IsRepeat rows order index → (get_or order index 0 < get_or order (index + 1) 0) × (ordered_name rows order index ≡ ordered_name rows order (index + 1))
+  pub earlier-same : (index : ℕ) → IsRepeat rows order index → (get_or order index 0 < get_or order (index + 1) 0)
+      × (ordered_name rows order index ≡ ordered_name rows order (index + 1))
   earlier-same index h =
       ⊎_elim
       (λ before. absurd (IsBefore-same _ _ h.1 before))
@@ -96,12 +109,15 @@ some_row : ReferenceRow
 some_row = record { name = []; first = 0; second = None }
 
 -- the name at a place of good rows is good
-pub good_name : (rows : List ReferenceRow) (place : ℕ) → All (λ row. is_good row ≡ true) rows → place < length rows → is_reference_name (name_at rows place) ≡ true
+pub good_name : (rows : List ReferenceRow) (place : ℕ) → All (λ row. is_good row ≡ true) rows → place < length rows
+    → is_reference_name (name_at rows place) ≡ true
 good_name rows place good l =
-    ap is_reference_name (name_at-get_or rows place some_row l) ∙ (and_parts (is_reference_name (get_or rows place some_row).name) _ (good place some_row l)).0
+    ap is_reference_name (name_at-get_or rows place some_row l)
+    ∙ (and_parts (is_reference_name (get_or rows place some_row).name) _ (good place some_row l)).0
 
 -- good rows of distinct names are ordered
-pub order-arranged : (rows : List ReferenceRow) (order : List ℕ) → All (λ row. is_good row ≡ true) rows → IsArranged rows order → IsFirstRepeat rows order None → IsOrder rows order
+pub order-arranged : (rows : List ReferenceRow) (order : List ℕ) → All (λ row. is_good row ≡ true) rows
+    → IsArranged rows order → IsFirstRepeat rows order None → IsOrder rows order
 order-arranged rows order good arranged none = record {
   ordered = record {
     within = arranged.within;
@@ -121,7 +137,8 @@ module _ {X : Type 0} (name_of : X → List ℕ) (place_of : X → ℕ) where
   pub AreNamed-nil : (rows : List ReferenceRow) → AreNamed name_of place_of rows 0 []
   AreNamed-nil rows = record { count = refl; places = λ k d l. absurd (omega arith); names = λ k d l. absurd (omega arith) }
 
-  pub AreNamed-push : (rows : List ReferenceRow) (n : ℕ) (xs : List X) (x : X) → AreNamed name_of place_of rows n xs → place_of x ≡ n → name_of x ≡ name_at rows n → AreNamed name_of place_of rows (n + 1) (xs ++ x ∷ [])
+  pub AreNamed-push : (rows : List ReferenceRow) (n : ℕ) (xs : List X) (x : X) → AreNamed name_of place_of rows n xs
+      → place_of x ≡ n → name_of x ≡ name_at rows n → AreNamed name_of place_of rows (n + 1) (xs ++ x ∷ [])
   AreNamed-push rows n xs x h p q = record {
     count = length_push xs x ∙ ap (λ k. k + 1) h.count;
     places = λ k d l. ⊎_elim
@@ -175,7 +192,8 @@ module _ {X : Type 0} (name_of : X → List ℕ) (place_of : X → ℕ) where
       let n : length (swap xs a b) ≡ length xs = length-swap xs a b in
       let s = source xs a b i d l m (omega arith) in
       let t = source xs a b j d l m (omega arith) in
-      same_source a b i j s.from t.from s.way t.way (h s.from t.from d s.inside t.inside (ap place_of (sym s.same) ∙ (e ∙ ap place_of t.same)))
+      same_source a b i j s.from t.from s.way t.way
+      (h s.from t.from d s.inside t.inside (ap place_of (sym s.same) ∙ (e ∙ ap place_of t.same)))
 
   apart-permutation : (xs ys : List X) → IsPermutation xs ys → AreApart xs → AreApart ys
   apart-permutation xs ys p h = IsPermutation-keeps xs AreApart h (λ l i j a b k. apart-swap l i j a b k) ys p
@@ -196,7 +214,8 @@ module _ {X : Type 0} (name_of : X → List ℕ) (place_of : X → ℕ) where
   greater_place m n h ne = grind (arith, nat_tests)
 
   -- of two values of which the second is not less, and which have not the same place, the first stands before the second
-  ranked-compared : (x y : X) (o : Ordering) → slice_cmp nat_cmp (name_of y) (name_of x) ≡ o → is_lt (ordering_then o (nat_cmp (place_of y) (place_of x))) ≡ false → (place_of y ≡ place_of x → ⊥)
+  ranked-compared : (x y : X) (o : Ordering) → slice_cmp nat_cmp (name_of y) (name_of x) ≡ o
+      → is_lt (ordering_then o (nat_cmp (place_of y) (place_of x))) ≡ false → (place_of y ≡ place_of x → ⊥)
       → IsBefore (name_of x) (name_of y) ⊎ ((name_of x ≡ name_of y) × (place_of x < place_of y))
   ranked-compared x y Less e h ne = absurd (true≢false h)
   ranked-compared x y Equal e h ne = inr (sym (same_from_equal (name_of y) (name_of x) e), greater_place (place_of y) (place_of x) h ne)
@@ -218,7 +237,8 @@ module _ {X : Type 0} (name_of : X → List ℕ) (place_of : X → ℕ) where
       record { inside = omega arith; name = h.names k d (omega arith) ∙ ap (name_at rows) (sym p) }
 
   -- the places of rows whose names and places were sorted
-  pub IsArranged-sorted : (rows : List ReferenceRow) (xs ys : List X) → AreNamed name_of place_of rows (length rows) xs → IsPermutation xs ys → IsSorted compares ys → IsArranged rows (map place_of ys)
+  pub IsArranged-sorted : (rows : List ReferenceRow) (xs ys : List X) → AreNamed name_of place_of rows
+      (length rows) xs → IsPermutation xs ys → IsSorted compares ys → IsArranged rows (map place_of ys)
   IsArranged-sorted rows xs ys h p sorted =
       let c : length xs ≡ length rows = h.count in
       let n : length ys ≡ length xs = length_permutation xs ys p in
@@ -234,14 +254,17 @@ module _ {X : Type 0} (name_of : X → List ℕ) (place_of : X → ℕ) where
             rw (at index d inside) ((known index d inside).inside);
         whole = λ place l.
             let d = some_value xs (omega arith) in
-            let found : Contains ys (get_or xs place d) = Contains-permutation xs ys (get_or xs place d) p (place, omega arith, get_or_default xs place (get_or xs place d) d (omega arith)) in
+            let found : Contains ys (get_or xs place d) = Contains-permutation xs ys (get_or xs place d) p
+            (place, omega arith, get_or_default xs place (get_or xs place d) d (omega arith)) in
             (found.0, omega (arith, found.1), at found.0 (get_or xs place d) found.1 ∙ (ap place_of found.2 ∙ h.places place d l));
         ranked = λ low high l k.
             let inside : high < length ys = omega arith in
             let before : low < length ys = omega arith in
             let d = some_value ys (omega arith) in
-            let far : is_lt (compares (get_or ys high d) (get_or ys low d)) ≡ false = sorted_far (λ x y. is_lt (compares x y)) (ranks_by compares_total (λ x. x)) ys sorted low high d (omega arith) inside in
-            let ne : place_of (get_or ys high d) ≡ place_of (get_or ys low d) → ⊥ = λ e. (let q : high ≡ low = apart high low d inside before e in omega arith) in
+            let far : is_lt (compares (get_or ys high d) (get_or ys low d)) ≡ false =
+            sorted_far (λ x y. is_lt (compares x y)) (ranks_by compares_total (λ x. x)) ys sorted low high d (omega arith) inside in
+            let ne : place_of (get_or ys high d) ≡ place_of (get_or ys low d) → ⊥ =
+            λ e. (let q : high ≡ low = apart high low d inside before e in omega arith) in
             ⊎_elim
             (λ b. inl (rw (name low d before, name high d inside) b))
             (λ e. inr (name low d before ∙ (e.0 ∙ sym (name high d inside)), rw (at low d before, at high d inside) (e.1)))

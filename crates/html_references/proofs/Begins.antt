@@ -20,5 +20,6 @@ fitting-by true row = refl
 fitting-by false row = refl
 
 -- the row, where the text begins with its name
-pub fitting-is : (text : List ℕ) (row : ReferenceRow) → fitting (begins row.name text) row ≡ cond (starts_with nat_eq text row.name) (Some row) None
+pub fitting-is : (text : List ℕ) (row : ReferenceRow) → fitting (begins row.name text) row ≡ cond
+    (starts_with nat_eq text row.name) (Some row) None
 fitting-is text row = fitting-by (begins row.name text) row ∙ ap (λ b. cond b (Some row) None) (begins-is row.name text)

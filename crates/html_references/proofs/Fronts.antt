@@ -27,14 +27,16 @@ and-false true e = e
 and-false false e = refl
 
 -- a name that does not begin with what is held and one character more begins a longer text where it begins what is held
-starts_with-stop : (held : List ℕ) (c : ℕ) (t name : List ℕ) → starts_with nat_eq name (held ++ c ∷ []) ≡ false → starts_with nat_eq (held ++ c ∷ t) name ≡ starts_with nat_eq held name
+starts_with-stop : (held : List ℕ) (c : ℕ) (t name : List ℕ) → starts_with nat_eq name (held ++ c ∷ []) ≡ false
+    → starts_with nat_eq (held ++ c ∷ t) name ≡ starts_with nat_eq held name
 starts_with-stop held c t [] g = refl
 starts_with-stop [] c t (n ∷ ns) g = rw (nat_eq-sym n c, and-false (nat_eq c n) g) refl
 starts_with-stop (h ∷ hs) c t (n ∷ ns) g =
     under_first (nat_eq n h) _ _ _ (rw (nat_eq-sym n h) g) (starts_with-stop hs c t ns)
 
 -- where no name begins with what is held and one character more, what follows does not change the longest name
-pub longest-stop : (rows : List ReferenceRow) (held : List ℕ) (c : ℕ) (t : List ℕ) → is_front rows (held ++ c ∷ []) ≡ false → longest rows (held ++ c ∷ t) ≡ longest rows held
+pub longest-stop : (rows : List ReferenceRow) (held : List ℕ) (c : ℕ) (t : List ℕ)
+    → is_front rows (held ++ c ∷ []) ≡ false → longest rows (held ++ c ∷ t) ≡ longest rows held
 longest-stop [] held c t g = refl
 longest-stop (row ∷ rows) held c t g =
     let p = or_parts (starts_with nat_eq row.name (held ++ c ∷ [])) (is_front rows (held ++ c ∷ [])) g in
@@ -95,21 +97,26 @@ named-place (row ∷ rows) zero l = or-true _ _ (bytes_eq-itself row.name)
 named-place (row ∷ rows) (suc place) l = or-last _ _ (named-place rows place (omega arith))
 
 -- the name of a row is a front
-pub front-named : (rows : List ReferenceRow) (place : ℕ) (text : List ℕ) → place < length rows → name_at rows place ≡ text → is_front rows text ≡ true
-front-named rows place text l e = front-or rows text ∙ or-true (is_named rows text) (goes_on rows text) (ap (is_named rows) (sym e) ∙ named-place rows place l)
+pub front-named : (rows : List ReferenceRow) (place : ℕ) (text : List ℕ) → place < length rows
+    → name_at rows place ≡ text → is_front rows text ≡ true
+front-named rows place text l e = front-or rows text ∙ or-true (is_named rows text) (goes_on rows text)
+    (ap (is_named rows) (sym e) ∙ named-place rows place l)
 
 -- a name of the order is a front
-pub front-found : (rows : List ReferenceRow) (order text : List ℕ) (index : ℕ) → IsOrder rows order → index < length order → ordered_name rows order index ≡ text → true ≡ is_front rows text
+pub front-found : (rows : List ReferenceRow) (order text : List ℕ) (index : ℕ) → IsOrder rows order
+    → index < length order → ordered_name rows order index ≡ text → true ≡ is_front rows text
 front-found rows order text index o l e = sym (front-named rows (slice_index order index) text (o.ordered.within index l) e)
 
 pub front-unnamed : (rows : List ReferenceRow) (text : List ℕ) → is_named rows text ≡ false → goes_on rows text ≡ is_front rows text
 front-unnamed rows text e = sym (front-or rows text ∙ ap (λ b. b || goes_on rows text) e)
 
-front_is_plain : (rows : List ReferenceRow) (order : List ℕ) → IsOrder rows order → (text : List ℕ) → is_front rows text ≡ true → is_plain text ≡ true
+front_is_plain : (rows : List ReferenceRow) (order : List ℕ) → IsOrder rows order → (text : List ℕ)
+    → is_front rows text ≡ true → is_plain text ≡ true
 front_is_plain rows order o text g =
     let p = place_of_any (λ name. starts_with nat_eq name text) rows g in
     front_plain (name_at rows p.0) text (is_plain-name (name_at rows p.0) (named_at rows order o p.0 p.1)) p.2
 
 -- names are of ASCII, so a text may be looked up by its bytes
-pub is_front-chars : (rows : List ReferenceRow) (order bytes : List ℕ) → IsOrder rows order → IsUtf8 bytes → is_front rows bytes ≡ is_front rows (chars bytes)
+pub is_front-chars : (rows : List ReferenceRow) (order bytes : List ℕ) → IsOrder rows order → IsUtf8 bytes
+    → is_front rows bytes ≡ is_front rows (chars bytes)
 is_front-chars rows order bytes o u = same_test (is_front rows) (front_is_plain rows order o) bytes u

@@ -17,14 +17,18 @@ pub record IsNamed (rows : List ReferenceRow) (text : List ℕ) (row : Reference
   pub name : row.name ≡ text
   pub front : is_front rows text ≡ true
 
-named-bytes : (rows : List ReferenceRow) (order bytes : List ℕ) (row : ReferenceRow) (place : ℕ) → IsOrder rows order → place < length rows → name_at rows place ≡ bytes → row ≡ get_or rows place row → IsNamed rows bytes row
+named-bytes : (rows : List ReferenceRow) (order bytes : List ℕ) (row : ReferenceRow) (place : ℕ)
+    → IsOrder rows order → place < length rows → name_at rows place ≡ bytes → row ≡ get_or rows place row → IsNamed rows bytes row
 named-bytes rows order bytes row place o l e is = record {
   longest = sym (slice_get-get_or rows place row l is ∙ longest-found rows order bytes (Some place) place o refl (l, e));
   name = ap (λ r. r.name) is ∙ (sym (name_at-get_or rows place row l) ∙ e);
   front = front-named rows place bytes l e;
 }
 
-pub named-row : (rows : List ReferenceRow) (order bytes : List ℕ) (row : ReferenceRow) (place : ℕ) → IsOrder rows order → IsUtf8 bytes → place < length rows → name_at rows place ≡ bytes → row ≡ get_or rows place row → IsNamed rows (chars bytes) row
+pub named-row : (rows : List ReferenceRow) (order bytes : List ℕ) (row : ReferenceRow) (place : ℕ)
+    → IsOrder rows order → IsUtf8 bytes → place < length rows → name_at rows place ≡ bytes
+    → row ≡ get_or rows place row → IsNamed rows (chars bytes) row
 named-row rows order bytes row place o utf8 l e is =
-    let plain : is_plain bytes ≡ true = subst (λ n. is_plain n ≡ true) e (is_plain-name (name_at rows place) (named_at rows order o place l)) in
+    let plain : is_plain bytes ≡ true = subst (λ n. is_plain n ≡ true) e
+    (is_plain-name (name_at rows place) (named_at rows order o place l)) in
     subst (λ text. IsNamed rows text row) (sym (chars-plain bytes plain)) (named-bytes rows order bytes row place o l e is)

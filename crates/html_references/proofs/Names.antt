@@ -26,7 +26,8 @@ list_all-plain (x ∷ xs) h = let p = and_parts _ _ h in and_from _ _ (alphanume
 
 stem-plain : (name : List ℕ) (b : Bool) → ends_with nat_eq name (59 ∷ []) ≡ b → is_plain (stem name) ≡ true → is_plain name ≡ true
 stem-plain name true e h =
-    rw ((ends_is Decides-eqb name (59 ∷ []) true (sym e)).0 refl) (is_plain-append (take (length name - 1) name) (59 ∷ []) (rw (cond-true _ _ _ e) at h) refl)
+    rw ((ends_is Decides-eqb name (59 ∷ []) true (sym e)).0 refl)
+    (is_plain-append (take (length name - 1) name) (59 ∷ []) (rw (cond-true _ _ _ e) at h) refl)
 stem-plain name false e h = rw (cond-false _ _ _ e) at h
 
 pub is_plain-name : (name : List ℕ) → is_reference_name name ≡ true → is_plain name ≡ true

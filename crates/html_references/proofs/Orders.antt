@@ -16,24 +16,32 @@ pub IsBefore-greater : (a b : List ℕ) → slice_cmp nat_cmp a b ≡ Greater �
 IsBefore-greater a b h = nat_list_cmp_total.antisymm b a ∙ ap ordering_reverse h
 
 -- all names up to one that stands before a text stand before it
-pub below_middle : (rows : List ReferenceRow) (order text : List ℕ) (middle : ℕ) → IsOrdered rows order → middle < length order → IsBefore (ordered_name rows order middle) text → (low : ℕ) → low < middle + 1 → IsBefore (ordered_name rows order low) text
+pub below_middle : (rows : List ReferenceRow) (order text : List ℕ) (middle : ℕ) → IsOrdered rows order
+    → middle < length order → IsBefore (ordered_name rows order middle) text → (low : ℕ) → low < middle + 1
+    → IsBefore (ordered_name rows order low) text
 below_middle rows order text middle o in' h low l =
     ⊎_elim
     (λ (e : low ≡ middle). rw e h)
-    (λ s. ⊎_elim (λ (b : low < middle). IsBefore-trans (ordered_name rows order low) (ordered_name rows order middle) text (o.rising low middle b in') h) (λ (b : middle < low). absurd (omega arith)) s)
+    (λ s. ⊎_elim (λ (b : low < middle). IsBefore-trans (ordered_name rows order low)
+    (ordered_name rows order middle) text (o.rising low middle b in') h) (λ (b : middle < low). absurd (omega arith)) s)
     (cases_order low middle)
 
 -- all names from one on that stands after a text stand after it
-pub above_middle : (rows : List ReferenceRow) (order text : List ℕ) (middle : ℕ) → IsOrdered rows order → slice_cmp nat_cmp (ordered_name rows order middle) text ≡ Greater → (high : ℕ) → middle ≤ high → high < length order → IsBefore text (ordered_name rows order high)
+pub above_middle : (rows : List ReferenceRow) (order text : List ℕ) (middle : ℕ) → IsOrdered rows order
+    → slice_cmp nat_cmp (ordered_name rows order middle) text ≡ Greater → (high : ℕ) → middle ≤ high
+    → high < length order → IsBefore text (ordered_name rows order high)
 above_middle rows order text middle o e high l in' =
     let h : IsBefore text (ordered_name rows order middle) = IsBefore-greater (ordered_name rows order middle) text e in
     ⊎_elim
     (λ (e : high ≡ middle). rw e h)
-    (λ s. ⊎_elim (λ (b : high < middle). absurd (omega arith)) (λ (b : middle < high). IsBefore-trans text (ordered_name rows order middle) (ordered_name rows order high) h (o.rising middle high b in')) s)
+    (λ s. ⊎_elim (λ (b : high < middle). absurd (omega arith))
+    (λ (b : middle < high). IsBefore-trans text (ordered_name rows order middle)
+    (ordered_name rows order high) h (o.rising middle high b in')) s)
     (cases_order high middle)
 
 -- the row at a place has the name at it
-pub name_at-get_or : (rows : List ReferenceRow) (place : ℕ) (row : ReferenceRow) → place < length rows → name_at rows place ≡ (get_or rows place row).name
+pub name_at-get_or : (rows : List ReferenceRow) (place : ℕ) (row : ReferenceRow) → place < length rows
+    → name_at rows place ≡ (get_or rows place row).name
 name_at-get_or [] place row h = absurd (omega arith)
 name_at-get_or (r ∷ rows) zero row h = refl
 name_at-get_or (r ∷ rows) (suc place) row h = name_at-get_or rows place row (omega arith)

@@ -17,26 +17,35 @@ pub below-none : (rows : List ReferenceRow) (order : List ℕ) → IsFirstRepeat
 below-none rows order index l = absurd (omega arith)
 
 -- an index that repeats no name
-pub below-other : (rows : List ReferenceRow) (order : List ℕ) (n : ℕ) (first : Option ℕ) → (IsRepeat rows order n → ⊥) → IsFirstRepeatBelow rows order n first → IsFirstRepeatBelow rows order (n + 1) first
+pub below-other : (rows : List ReferenceRow) (order : List ℕ) (n : ℕ) (first : Option ℕ)
+    → (IsRepeat rows order n → ⊥) → IsFirstRepeatBelow rows order n first → IsFirstRepeatBelow rows order (n + 1) first
 below-other rows order n None other h = λ index l r.
     ⊎_elim (λ (b : index < n). h index b r) (λ (b : n ≤ index). let e : n ≡ index = omega arith in other (rw e r)) (cases_lt index n)
 below-other rows order n (Some place) other h = (
   h.0,
-  λ index l r. ⊎_elim (λ (b : index < n). h.1 index b r) (λ (b : n ≤ index). let e : n ≡ index = omega arith in absurd (other (rw e r))) (cases_lt index n),
+  λ index l r. ⊎_elim (λ (b : index < n). h.1 index b r)
+      (λ (b : n ≤ index). let e : n ≡ index = omega arith in absurd (other (rw e r))) (cases_lt index n),
 )
 
 -- an index that does
-pub below-repeat : (rows : List ReferenceRow) (order : List ℕ) (n : ℕ) (first : Option ℕ) → IsRepeat rows order n → IsFirstRepeatBelow rows order n first
-    → IsFirstRepeatBelow rows order (n + 1) (Some (option_map_or (λ known. min known (get_or order (n + 1) 0)) first (get_or order (n + 1) 0)))
+pub below-repeat : (rows : List ReferenceRow) (order : List ℕ) (n : ℕ) (first : Option ℕ) → IsRepeat rows order n
+    → IsFirstRepeatBelow rows order n first
+    → IsFirstRepeatBelow rows order (n + 1)
+    (Some (option_map_or (λ known. min known (get_or order (n + 1) 0)) first (get_or order (n + 1) 0)))
 below-repeat rows order n None r h = (
   (n, r, refl),
-  λ index l s. ⊎_elim (λ (b : index < n). absurd (h index b s)) (λ (b : n ≤ index). let e : index ≡ n = omega arith in rw e (omega arith)) (cases_lt index n),
+  λ index l s. ⊎_elim (λ (b : index < n). absurd (h index b s))
+      (λ (b : n ≤ index). let e : index ≡ n = omega arith in rw e (omega arith)) (cases_lt index n),
 )
 below-repeat rows order n (Some known) r h =
     ⊎_elim
     (λ (b : known < get_or order (n + 1) 0).
     let e : min known (get_or order (n + 1) 0) ≡ known = omega arith in
-    rw e (h.0, λ index l s. ⊎_elim (λ (c : index < n). h.1 index c s) (λ (c : n ≤ index). let f : index ≡ n = omega arith in rw f (omega arith)) (cases_lt index n)))
+    rw e (
+      h.0,
+      λ index l s. ⊎_elim (λ (c : index < n). h.1 index c s)
+          (λ (c : n ≤ index). let f : index ≡ n = omega arith in rw f (omega arith)) (cases_lt index n),
+    ))
     (λ (b : get_or order (n + 1) 0 ≤ known).
     let e : min known (get_or order (n + 1) 0) ≡ get_or order (n + 1) 0 = omega arith in
     rw e (
@@ -49,6 +58,7 @@ below-repeat rows order n (Some known) r h =
     (cases_lt known (get_or order (n + 1) 0))
 
 -- all indices below the order's length are all that can repeat a name
-pub below-all : (rows : List ReferenceRow) (order : List ℕ) (n : ℕ) (first : Option ℕ) → length order ≤ n → IsFirstRepeatBelow rows order n first → IsFirstRepeat rows order first
+pub below-all : (rows : List ReferenceRow) (order : List ℕ) (n : ℕ) (first : Option ℕ) → length order ≤ n
+    → IsFirstRepeatBelow rows order n first → IsFirstRepeat rows order first
 below-all rows order n None l h = λ index r. h index (omega (arith, r.0)) r
 below-all rows order n (Some place) l h = (h.0, λ index r. h.1 index (omega (arith, r.0)) r)

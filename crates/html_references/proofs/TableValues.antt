@@ -13,7 +13,8 @@ use Rattle.html_references.specs.References.{IsCheckedTable, has_values, is_refe
 not_null : (value : ℕ) → is_reference_value value ≡ true → laws.is_not_null value ≡ true
 not_null value h = grind (arith, nat_tests)
 
-no_null : (first : ℕ) (second : Option ℕ) → is_reference_value first ≡ true → option_map_or is_reference_value second true ≡ true → laws.has_no_null (values_of first second) ≡ true
+no_null : (first : ℕ) (second : Option ℕ) → is_reference_value first ≡ true
+    → option_map_or is_reference_value second true ≡ true → laws.has_no_null (values_of first second) ≡ true
 no_null first None h k = and_from _ _ (not_null first h) refl
 no_null first (Some second) h k = and_from _ _ (not_null first h) (and_from _ _ (not_null second k) refl)
 

@@ -23,7 +23,8 @@ abbrev pub IsWholeNameRead : Type 0
 IsWholeNameRead =
     (rows : List ReferenceRow) → IsCheckedTable rows
     → (row : ReferenceRow) → Contains rows row → ends_with nat_eq row.name (59 ∷ []) ≡ true
-    → (in_value : Bool) (t : List ℕ) → reference_at in_value rows (row.name ++ t) ≡ Some (record { chars = values row; len = length row.name })
+    → (in_value : Bool) (t : List ℕ) → reference_at in_value rows (row.name ++ t) ≡ Some
+    (record { chars = values row; len = length row.name })
 
 -- a table that has the names "amp;", "lt;", "gt;", "quot;" and "nbsp;" for their characters
 pub record HasEscapes (rows : List ReferenceRow) : Type 0 where

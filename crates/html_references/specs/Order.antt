@@ -1,5 +1,6 @@
 -- The rows of a table in the order of their names.
-use Rattle.std.specs.Prelude.{◌≡◌, ◌+◌, ◌<◌, ◌≤◌, ◌⊎◌, ◌&&◌, ℕ, zero, suc, Bool, IsTrue, List, [], ◌∷◌, Option, None, Some, length, slice_index, if◌then◌else◌}
+use Rattle.std.specs.Prelude.{◌≡◌, ◌+◌, ◌<◌, ◌≤◌, ◌⊎◌, ◌&&◌, ℕ, zero, suc, Bool, IsTrue, List, [], ◌∷◌, Option, None, Some}
+use Rattle.std.specs.Prelude.{length, slice_index, if◌then◌else◌}
 use Rattle.std.specs.Ordering.{nat_cmp}
 use Rattle.std.specs.Cmp.Lexicographic.{slice_cmp}
 use Rattle.std.specs.declared.cmp.Ordering.TheVariants.{Less}
@@ -53,7 +54,8 @@ pub record IsArranged (rows : List ReferenceRow) (order : List ℕ) : Type 0 whe
   pub within : (index : ℕ) → index < length order → slice_index order index < length rows
   pub whole : (place : ℕ) → place < length rows → (index : ℕ) × (index < length order) × (slice_index order index ≡ place)
   pub ranked : (low high : ℕ) → low < high → high < length order
-      → IsBefore (ordered_name rows order low) (ordered_name rows order high) ⊎ ((ordered_name rows order low ≡ ordered_name rows order high) × (slice_index order low < slice_index order high))
+      → IsBefore (ordered_name rows order low) (ordered_name rows order high)
+      ⊎ ((ordered_name rows order low ≡ ordered_name rows order high) × (slice_index order low < slice_index order high))
 
 -- the names at this index of the order and just after it are the same
 abbrev pub IsRepeat : List ReferenceRow → List ℕ → ℕ → Type 0

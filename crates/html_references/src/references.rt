@@ -4,7 +4,8 @@ ghost use Rattle.std.specs.Option.{option_copied};
 ghost use Rattle.std.specs.Str.{chars};
 ghost use Rattle.markup.specs.Plain.{is_plain};
 ghost use Rattle.html_references.specs.Order.{IsTable};
-ghost use Rattle.html_references.specs.References.{IsCheckedTable, IsFirstFault, MatchesLongest, fault_of, five_rows, goes_on, is_front, longest, row_of};
+ghost use Rattle.html_references.specs.References.{IsCheckedTable, IsFirstFault, MatchesLongest, fault_of, five_rows, goes_on};
+ghost use Rattle.html_references.specs.References.{is_front, longest, row_of};
 ghost use Rattle.html_tokens.specs.declared.table.TableFault.TheVariants.{Memory};
 
 use hints::Hints;

@@ -10,13 +10,29 @@ use Rattle.html_rules.specs.Adoption.{adoption_agency, handle_misnested_a_tags}
 use Rattle.html_rules.specs.Choice.{choose}
 use Rattle.html_rules.specs.Conditions.{holds}
 use Rattle.html_rules.specs.ForeignContent.{close_foreign, enter_foreign, foreign_start, pop_foreign}
-use Rattle.html_rules.specs.Formatting.{clear_active_formatting_to_marker, create_formatting_element_for, push_marker, reconstruct_active_formatting_elements}
+use Rattle.html_rules.specs.Formatting.{clear_active_formatting_to_marker, create_formatting_element_for, push_marker}
+use Rattle.html_rules.specs.Formatting.{reconstruct_active_formatting_elements}
 use Rattle.html_rules.specs.Names.{Html}
-use Rattle.html_rules.specs.Places.{append_comment, append_comment_to_doc, append_comment_to_html, append_text, create_root, insert_and_pop_element_for, insert_element_for, insert_phantom, put_element}
+use Rattle.html_rules.specs.Places.{append_comment, append_comment_to_doc, append_comment_to_html, append_text, create_root}
+use Rattle.html_rules.specs.Places.{insert_and_pop_element_for, insert_element_for, insert_phantom, put_element}
 use Rattle.html_rules.specs.Reset.{reset_insertion_mode}
-use Rattle.html_rules.specs.Stack.{add_attributes_to_body, add_attributes_to_root, check_body_end, close_item, close_p_element_in_button_scope, expect_to_close, generate_implied_end_except, generate_implied_end_tags, parse_error, pop_but_root, pop_until, pop_until_current, process_end_tag_in_body, remove_body, remove_from_stack}
+use Rattle.html_rules.specs.Stack.{add_attributes_to_body, add_attributes_to_root, check_body_end, close_item}
+use Rattle.html_rules.specs.Stack.{close_p_element_in_button_scope, expect_to_close, generate_implied_end_except}
+use Rattle.html_rules.specs.Stack.{generate_implied_end_tags, parse_error, pop_but_root, pop_until, pop_until_current}
+use Rattle.html_rules.specs.Stack.{process_end_tag_in_body, remove_body, remove_from_stack}
 use Rattle.html_rules.specs.State.{State, current_number, is_in, is_named}
-use Rattle.html_rules.specs.Table.{Action, Nothing, Then, When, ParseError, InsertElement, InsertVoid, InsertVoidAs, InsertFormVoid, InsertNew, InsertNewVoid, CreateRoot, CreateNewRoot, AppendText, AppendReplacement, AppendComment, AppendCommentToDocument, AppendCommentToRoot, InsertTemplate, AddAttributesToRoot, AddAttributesToBody, RemoveBody, Pop, PopUntil, ClearBackTo, Close, CloseToken, CloseP, CloseItem, ImpliedEndTags, ImpliedEndTagsExcept, ImpliedEndTagsExceptToken, ImpliedEndTagsThoroughly, AnyOtherEndTag, CheckBodyEnd, SetHeadElem, PushHeadElem, RemoveHeadElem, SetFormElem, ForgetFormElem, RemoveFormElem, Reconstruct, InsertFormatting, InsertMarker, ClearToMarker, AdoptionAgency, AdoptNobr, CloseMisnestedA, SwitchTo, SaveMode, RestoreMode, ResetMode, PushTemplateMode, SetTemplateMode, PopTemplateMode, SetQuirks, FramesetNotOk, FramesetNotOkUnlessWhite, IgnoreLineFeed, EnableFosterParenting, DisableFosterParenting, KeepText, InsertPendingText, EnterForeign, InsertForeign, PopForeign, CloseForeign}
+use Rattle.html_rules.specs.Table.{Action, Nothing, Then, When, ParseError, InsertElement, InsertVoid, InsertVoidAs}
+use Rattle.html_rules.specs.Table.{InsertFormVoid, InsertNew, InsertNewVoid, CreateRoot, CreateNewRoot, AppendText}
+use Rattle.html_rules.specs.Table.{AppendReplacement, AppendComment, AppendCommentToDocument, AppendCommentToRoot}
+use Rattle.html_rules.specs.Table.{InsertTemplate, AddAttributesToRoot, AddAttributesToBody, RemoveBody, Pop, PopUntil}
+use Rattle.html_rules.specs.Table.{ClearBackTo, Close, CloseToken, CloseP, CloseItem, ImpliedEndTags, ImpliedEndTagsExcept}
+use Rattle.html_rules.specs.Table.{ImpliedEndTagsExceptToken, ImpliedEndTagsThoroughly, AnyOtherEndTag, CheckBodyEnd}
+use Rattle.html_rules.specs.Table.{SetHeadElem, PushHeadElem, RemoveHeadElem, SetFormElem, ForgetFormElem, RemoveFormElem}
+use Rattle.html_rules.specs.Table.{Reconstruct, InsertFormatting, InsertMarker, ClearToMarker, AdoptionAgency, AdoptNobr}
+use Rattle.html_rules.specs.Table.{CloseMisnestedA, SwitchTo, SaveMode, RestoreMode, ResetMode, PushTemplateMode}
+use Rattle.html_rules.specs.Table.{SetTemplateMode, PopTemplateMode, SetQuirks, FramesetNotOk, FramesetNotOkUnlessWhite}
+use Rattle.html_rules.specs.Table.{IgnoreLineFeed, EnableFosterParenting, DisableFosterParenting, KeepText, InsertPendingText}
+use Rattle.html_rules.specs.Table.{EnterForeign, InsertForeign, PopForeign, CloseForeign}
 use Rattle.html_rules.specs.Templates.{insert_template}
 use Rattle.html_rules.specs.Tokens.{attributes_of, is_white, name_of, text_of}
 use Rattle.html_rules.specs.declared.insertion_mode.InsertionMode.{InsertionMode}

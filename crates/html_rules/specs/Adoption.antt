@@ -90,12 +90,15 @@ pub record Turned : Type 0 where
 abbrev pub adopt : Listed → Open → Walk → State → State
 adopt formatting_element block w s =
     let removed = remove w.forest w.last_node in
-    let placed = put removed (place_for s.foster_parenting removed s.open_elems (current_node (opened_before formatting_element.number s.open_elems))) w.last_node in
+    let placed = put removed (place_for s.foster_parenting removed s.open_elems
+    (current_node (opened_before formatting_element.number s.open_elems))) w.last_node in
     let moved = reparent_children (with_copy placed formatting_element.tag) block.number (node_count placed) in
     record s {
       forest = put moved (Last block.number) (node_count placed);
-      active_formatting = relist formatting_element.number (Element (node_count placed) formatting_element.tag) w.copies w.active_formatting;
-      open_elems = opened_after block.number s.open_elems ++ opened_for placed formatting_element.tag ∷ block ∷ w.copies ++ opened_before formatting_element.number s.open_elems;
+      active_formatting = relist formatting_element.number (Element (node_count placed) formatting_element.tag)
+          w.copies w.active_formatting;
+      open_elems = opened_after block.number s.open_elems ++ opened_for placed formatting_element.tag ∷ block ∷
+          w.copies ++ opened_before formatting_element.number s.open_elems;
     }
 
 abbrev pub begin_walk : Open → State → Walk
@@ -114,23 +117,28 @@ cut_at formatting_element s = record s {
 
 abbrev pub adopt_from : Listed → Option Open → State → Turned
 adopt_from formatting_element None s = record { state = cut_at formatting_element s; goes_on = false }
-adopt_from formatting_element (Some block) s = record { state = adopt formatting_element block (walk 3 (between formatting_element block s) (begin_walk block s)) s; goes_on = true }
+adopt_from formatting_element (Some block) s =
+    record { state = adopt formatting_element block (walk 3 (between formatting_element block s) (begin_walk block s)) s; goes_on = true }
 
 -- an error, if the formatting element is not the current node
 abbrev pub error_if_not_current : Listed → State → State
-error_if_not_current formatting_element s = choose (current_is (is_number formatting_element.number) s.open_elems) (λ _. s) (λ _. parse_error s)
+error_if_not_current formatting_element s = choose (current_is (is_number formatting_element.number) s.open_elems)
+    (λ _. s) (λ _. parse_error s)
 
 abbrev pub unlist : Listed → State → State
 unlist formatting_element s = record s { active_formatting = without_entry formatting_element.number s.active_formatting }
 
 abbrev pub adopt_open : Listed → State → Turned
-adopt_open formatting_element s = adopt_from formatting_element (furthest_block (opened_after formatting_element.number s.open_elems)) (error_if_not_current formatting_element s)
+adopt_open formatting_element s = adopt_from formatting_element
+    (furthest_block (opened_after formatting_element.number s.open_elems)) (error_if_not_current formatting_element s)
 
 abbrev pub adopt_listed : Option Listed → List ℕ → State → Turned
 adopt_listed None name s = record { state = process_end_tag_in_body name s; goes_on = false }
 adopt_listed (Some formatting_element) name s =
-    choose (not (is_open formatting_element.number s.open_elems)) (λ _. record { state = unlist formatting_element (parse_error s); goes_on = false })
-    (λ _. choose (not (in_scope set.DefaultScope (is_number formatting_element.number) s.open_elems)) (λ _. record { state = parse_error s; goes_on = false })
+    choose (not (is_open formatting_element.number s.open_elems))
+    (λ _. record { state = unlist formatting_element (parse_error s); goes_on = false })
+    (λ _. choose (not (in_scope set.DefaultScope (is_number formatting_element.number) s.open_elems))
+    (λ _. record { state = parse_error s; goes_on = false })
     (λ _. adopt_open formatting_element s))
 
 -- one turn of the outer loop

@@ -8,7 +8,10 @@ use Rattle.html_rules.specs.ForeignContent.{foreign_end, is_as_in_mode, is_forei
 use Rattle.html_rules.specs.Formatting.{last_named}
 use Rattle.html_rules.specs.Stack.{body_elem, has_open, in_scope}
 use Rattle.html_rules.specs.State.{Open, State, current_is, is_fragment, is_in, is_named}
-use Rattle.html_rules.specs.Table.{Condition, Always, Not, Both, ScriptingEnabled, IframeSrcdoc, InFragment, ContextIs, InQuirksMode, FramesetOk, CurrentIs, CurrentIsToken, RootAlone, SecondIsBody, TemplateOpen, HasTemplateModes, InScope, TokenInScope, HasFormElem, FormElemInScope, FormElemIsCurrent, AListed, TypeHidden, FontAttributes, EndsInHtml, ForeignEndError}
+use Rattle.html_rules.specs.Table.{Condition, Always, Not, Both, ScriptingEnabled, IframeSrcdoc, InFragment, ContextIs}
+use Rattle.html_rules.specs.Table.{InQuirksMode, FramesetOk, CurrentIs, CurrentIsToken, RootAlone, SecondIsBody, TemplateOpen}
+use Rattle.html_rules.specs.Table.{HasTemplateModes, InScope, TokenInScope, HasFormElem, FormElemInScope, FormElemIsCurrent}
+use Rattle.html_rules.specs.Table.{AListed, TypeHidden, FontAttributes, EndsInHtml, ForeignEndError}
 use Rattle.html_rules.specs.Tokens.{has_font_attributes, is_type_hidden, name_of}
 use Rattle.html_rules.specs.declared.tag_set.TagSet.{TagSet}
 use Rattle.html_rules.specs.declared.tag_set.TagSet.TheVariants as set

@@ -18,9 +18,12 @@ is_given (Some given) text = bytes_eq given text
 abbrev pub is_allowed : Option (List ℕ) → Option (List ℕ) → Bool
 is_allowed public_id system_id =
     (is_none public_id && (is_none system_id || is_given system_id (codes "about:legacy-compat")))
-    || (is_given public_id (codes "-//W3C//DTD HTML 4.0//EN") && (is_none system_id || is_given system_id (codes "http://www.w3.org/TR/REC-html40/strict.dtd")))
-    || (is_given public_id (codes "-//W3C//DTD HTML 4.01//EN") && (is_none system_id || is_given system_id (codes "http://www.w3.org/TR/html4/strict.dtd")))
-    || (is_given public_id (codes "-//W3C//DTD XHTML 1.0 Strict//EN") && is_given system_id (codes "http://www.w3.org/TR/xhtml1/DTD/xhtml1-strict.dtd"))
+    || (is_given public_id (codes "-//W3C//DTD HTML 4.0//EN")
+    && (is_none system_id || is_given system_id (codes "http://www.w3.org/TR/REC-html40/strict.dtd")))
+    || (is_given public_id (codes "-//W3C//DTD HTML 4.01//EN")
+    && (is_none system_id || is_given system_id (codes "http://www.w3.org/TR/html4/strict.dtd")))
+    || (is_given public_id (codes "-//W3C//DTD XHTML 1.0 Strict//EN") && is_given system_id
+    (codes "http://www.w3.org/TR/xhtml1/DTD/xhtml1-strict.dtd"))
     || (is_given public_id (codes "-//W3C//DTD XHTML 1.1//EN") && is_given system_id (codes "http://www.w3.org/TR/xhtml11/DTD/xhtml11.dtd"))
 
 -- whether a doctype is an error
@@ -97,7 +100,8 @@ quirky_public_prefixes =
 -- doctypes of no standard, or of one that browsers lay out as old ones did
 abbrev pub is_quirky : Option (List ℕ) → Option (List ℕ) → Bool
 is_quirky public_id system_id =
-    is_given public_id (codes "-//w3o//dtd w3 html strict 3.0//en//") || is_given public_id (codes "-/w3c/dtd html 4.0 transitional/en") || is_given public_id (codes "html")
+    is_given public_id (codes "-//w3o//dtd w3 html strict 3.0//en//") || is_given public_id
+    (codes "-/w3c/dtd html 4.0 transitional/en") || is_given public_id (codes "html")
     || is_given system_id (codes "http://www.ibm.com/data/dtd/v11/ibmxhtml1-transitional.dtd")
     || begins_with_one public_id quirky_public_prefixes
 

@@ -56,7 +56,11 @@ modes_of_context context = choose (is_in set.Template context) (λ _. InTemplate
 -- the state before the first token of a fragment: with its context, and with the form that the context stands in, if it stands in one
 abbrev pub before_fragment : Setting → Open → Option ℕ → Forest → State
 before_fragment setting context form f =
-    reset_insertion_mode (create_root [] (record (before_document setting f) { context_elem = Some context; form_elem = form; template_modes = modes_of_context context }))
+    reset_insertion_mode (create_root [] (record (before_document setting f) {
+      context_elem = Some context;
+      form_elem = form;
+      template_modes = modes_of_context context;
+    }))
 
 -- the text state in which the tokenizer begins a fragment (section 13.4)
 abbrev pub tokenizer_state : Open → Bool → TokenizerState
@@ -69,7 +73,8 @@ tokenizer_state context scripting =
 
 -- the state that a whole text leaves, from a state on, where the tokenizer begins at a stand
 abbrev pub document_from : List Row → Bool → Stand → State → List ℕ → Result State Refusal
-document_from table discard_bom st s text = reading step (λ fault s. s) asks_cdata ended table st 0 (hushed s) (normal_text discard_bom text)
+document_from table discard_bom st s text = reading step (λ fault s. s) asks_cdata ended table st 0 (hushed s)
+    (normal_text discard_bom text)
 
 abbrev pub stand_of : TokenizerOpts → Stand
 stand_of opts = first_stand opts.initial_state opts.last_start_tag_name
@@ -81,7 +86,8 @@ document table opts setting f text = document_from table opts.discard_bom (stand
 -- the fragment of a text; `scripting` says how the context was scripted
 abbrev pub fragment : List Row → TokenizerOpts → Setting → Open → Option ℕ → Bool → Forest → List ℕ → Result State Refusal
 fragment table opts setting context form scripting f text =
-    document_from table opts.discard_bom (stand_of (record opts { initial_state = Some (tokenizer_state context scripting) })) (before_fragment setting context form f) text
+    document_from table opts.discard_bom
+    (stand_of (record opts { initial_state = Some (tokenizer_state context scripting) })) (before_fragment setting context form f) text
 
 -- whether a text is read from a state without anything that is not clean, and without an error of the rules
 abbrev pub is_quiet_text : List Row → Stand → State → List ℕ → Bool

@@ -1,4 +1,5 @@
--- The encoding that a `meta` element names (HTML Standard, section 2.6.6, "extracting a character encoding from a meta element", and section 13.2.6.4.4).
+-- The encoding that a `meta` element names (HTML Standard, section 2.6.6, "extracting a character encoding from a meta element", and
+-- section 13.2.6.4.4).
 use Rattle.std.specs.Prelude.{ℕ, Bool, false, ◌||◌, not, nat_eq, nat_lt, length, take, drop, List, [], ◌∷◌, Option, Some, None, codes}
 use Rattle.markup.specs.declared.attributes.Attribute.{Attribute}
 use Rattle.html_tokens.specs.Characters.{run, begins_any_case}
@@ -56,7 +57,8 @@ is_content_type (Some value) = equals_any_case value (codes "content-type")
 
 abbrev pub hint_by : Option (List ℕ) → List Attribute → Option (List ℕ)
 hint_by (Some charset) attributes = Some charset
-hint_by None attributes = choose (is_content_type (value_of (codes "http-equiv") attributes)) (λ _. encoding_of_content (value_of (codes "content") attributes)) (λ _. None)
+hint_by None attributes = choose (is_content_type (value_of (codes "http-equiv") attributes))
+    (λ _. encoding_of_content (value_of (codes "content") attributes)) (λ _. None)
 
 -- the encoding that a tag names, by `charset` or by `http-equiv` and `content`
 unfoldable pub encoding_hint : List Attribute → Option (List ℕ)

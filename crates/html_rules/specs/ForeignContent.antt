@@ -47,7 +47,8 @@ abbrev pub is_html_there : State → Open → Token → Bool
 is_html_there s x t =
     (is_in set.MathmlTextIntegrationPoint x && is_text_or_start (λ name. not (is_among name (names_of set.MglyphMalignmark))) t)
     || (is_in set.SvgHtmlIntegrationPoint x && is_text_or_start (λ name. true) t)
-    || (is_in set.AnnotationXml x && (is_svg_start t || (is_text_or_start (λ name. true) t && s.answers.integration_point (with_errors 0 s.forest) x.number)))
+    || (is_in set.AnnotationXml x
+    && (is_svg_start t || (is_text_or_start (λ name. true) t && s.answers.integration_point (with_errors 0 s.forest) x.number)))
 
 abbrev pub is_foreign_at : State → Option Open → Token → Bool
 is_foreign_at s None t = false
@@ -90,7 +91,8 @@ pop_foreign s = pop_until_current ends_foreign s
 
 -- an attribute of `font` that ends foreign content
 abbrev pub is_font_attribute : Attribute → Bool
-is_font_attribute attribute = bytes_eq attribute.name.local (codes "color") || bytes_eq attribute.name.local (codes "face") || bytes_eq attribute.name.local (codes "size")
+is_font_attribute attribute = bytes_eq attribute.name.local (codes "color") || bytes_eq attribute.name.local
+    (codes "face") || bytes_eq attribute.name.local (codes "size")
 
 -- what an end tag in foreign content comes to: it is dropped, the rules of the mode hold, or elements leave the stack
 pub data ForeignEnd : Type 0 where

@@ -42,7 +42,8 @@ pub record Listed : Type 0 where
 abbrev pub last_named : List ℕ → List Entry → Option Listed
 last_named name [] = None
 last_named name (Marker ∷ entries) = None
-last_named name (Element n tag ∷ entries) = choose (bytes_eq tag.name name) (λ _. Some (record { number = n; tag = tag })) (λ _. last_named name entries)
+last_named name (Element n tag ∷ entries) = choose (bytes_eq tag.name name)
+    (λ _. Some (record { number = n; tag = tag })) (λ _. last_named name entries)
 
 abbrev pub same_kind : TagKind → TagKind → Bool
 same_kind StartTag StartTag = true
@@ -51,20 +52,23 @@ same_kind _ _ = false
 
 -- one kind, one name, and the same attributes in some order
 abbrev pub is_equiv_modulo_attr_order : Tag → Tag → Bool
-is_equiv_modulo_attr_order a b = same_kind a.kind b.kind && bytes_eq a.name b.name && nat_eq (length a.attrs) (length b.attrs) && have_same_counts a.attrs b.attrs
+is_equiv_modulo_attr_order a b = same_kind a.kind b.kind && bytes_eq a.name b.name && nat_eq (length a.attrs)
+    (length b.attrs) && have_same_counts a.attrs b.attrs
 
 -- how many entries since the last marker are equal to a tag
 abbrev pub count_equal : Tag → List Entry → ℕ
 count_equal tag [] = 0
 count_equal tag (Marker ∷ entries) = 0
-count_equal tag (Element n other ∷ entries) = choose (is_equiv_modulo_attr_order tag other) (λ _. suc (count_equal tag entries)) (λ _. count_equal tag entries)
+count_equal tag (Element n other ∷ entries) = choose (is_equiv_modulo_attr_order tag other)
+    (λ _. suc (count_equal tag entries)) (λ _. count_equal tag entries)
 
 -- the entries without the earliest of these
 abbrev pub without_earliest : Tag → List Entry → List Entry
 without_earliest tag [] = []
 without_earliest tag (Marker ∷ entries) = Marker ∷ entries
 without_earliest tag (Element n other ∷ entries) =
-    choose (is_equiv_modulo_attr_order tag other && nat_eq (count_equal tag entries) 0) (λ _. entries) (λ _. Element n other ∷ without_earliest tag entries)
+    choose (is_equiv_modulo_attr_order tag other && nat_eq (count_equal tag entries) 0) (λ _. entries)
+    (λ _. Element n other ∷ without_earliest tag entries)
 
 -- at most three equal entries since a marker ("push onto the list of active formatting elements")
 abbrev pub with_room : Tag → List Entry → List Entry
@@ -76,7 +80,8 @@ list_current tag s = record s { active_formatting = Element (current_number s.op
 
 -- an element is inserted for a tag, and listed
 unfoldable pub create_formatting_element_for : Tag → State → State
-create_formatting_element_for tag s = list_current tag (insert_element_for tag (record s { active_formatting = with_room tag s.active_formatting }))
+create_formatting_element_for tag s = list_current tag
+    (insert_element_for tag (record s { active_formatting = with_room tag s.active_formatting }))
 
 unfoldable pub push_marker : State → State
 push_marker s = record s { active_formatting = Marker ∷ s.active_formatting }

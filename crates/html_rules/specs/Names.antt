@@ -31,7 +31,8 @@ uri_of (Other uri) = uri
 
 -- which namespace is so written
 abbrev pub namespace_of : List ℕ → Namespace
-namespace_of uri = cond (bytes_eq uri html_namespace) Html (cond (bytes_eq uri mathml_namespace) MathMl (cond (bytes_eq uri svg_namespace) Svg (Other uri)))
+namespace_of uri = cond (bytes_eq uri html_namespace) Html
+    (cond (bytes_eq uri mathml_namespace) MathMl (cond (bytes_eq uri svg_namespace) Svg (Other uri)))
 
 -- the name of an element that the rules create
 abbrev pub element_name_of : Namespace → List ℕ → QualName
@@ -59,6 +60,7 @@ encodes_html attribute =
 abbrev pub flags_of : Namespace → List ℕ → List Attribute → Bool → ElementFlags
 flags_of namespace name attributes had_duplicate_attributes = record {
   template = is_html namespace && bytes_eq name (codes "template");
-  mathml_annotation_xml_integration_point = is_mathml namespace && bytes_eq name (codes "annotation-xml") && list_any encodes_html attributes;
+  mathml_annotation_xml_integration_point = is_mathml namespace && bytes_eq name (codes "annotation-xml")
+      && list_any encodes_html attributes;
   had_duplicate_attributes = had_duplicate_attributes;
 }

@@ -26,7 +26,8 @@ foster_place f root (x ∷ xs) =
 -- "the appropriate place for inserting a node", for a target
 abbrev pub place_for : Bool → Forest → List Open → Option Open → Place
 place_for foster f xs None = Last 0
-place_for foster f xs (Some target) = choose (foster && is_in set.FosterTarget target) (λ _. foster_place f (root_number xs) xs) (λ _. inside target)
+place_for foster f xs (Some target) = choose (foster && is_in set.FosterTarget target)
+    (λ _. foster_place f (root_number xs) xs) (λ _. inside target)
 
 -- the same, for the current node
 abbrev pub appropriate_place : State → Forest → Place
@@ -34,7 +35,8 @@ appropriate_place s f = place_for s.foster_parenting f s.open_elems (current_nod
 
 -- a forest with a new element
 abbrev pub with_element : Forest → Namespace → List ℕ → List Attribute → Bool → Forest
-with_element f namespace name attributes had_duplicate_attributes = create_element f (element_name_of namespace name) attributes (flags_of namespace name attributes had_duplicate_attributes)
+with_element f namespace name attributes had_duplicate_attributes = create_element f
+    (element_name_of namespace name) attributes (flags_of namespace name attributes had_duplicate_attributes)
 
 -- a forest with a node, put at the appropriate place
 abbrev pub put_appropriately : State → Forest → ℕ → Forest
@@ -97,7 +99,8 @@ append_comment_to_doc text s = record s { forest = put (with_node s.forest (Comm
 
 -- a comment, last in the root
 unfoldable pub append_comment_to_html : List ℕ → State → State
-append_comment_to_html text s = record s { forest = put (with_node s.forest (Comment text)) (Last (root_number s.open_elems)) (node_count s.forest) }
+append_comment_to_html text s =
+    record s { forest = put (with_node s.forest (Comment text)) (Last (root_number s.open_elems)) (node_count s.forest) }
 
 abbrev pub or_empty : Option (List ℕ) → List ℕ
 or_empty None = []
@@ -106,5 +109,6 @@ or_empty (Some text) = text
 -- a doctype, last in the document; missing parts are empty
 unfoldable pub append_doctype_to_document : Doctype → State → State
 append_doctype_to_document d s = record s {
-  forest = put (with_node s.forest (DoctypeNode (or_empty d.name) (or_empty d.public_id) (or_empty d.system_id))) (Last 0) (node_count s.forest);
+  forest = put (with_node s.forest (DoctypeNode (or_empty d.name) (or_empty d.public_id) (or_empty d.system_id)))
+      (Last 0) (node_count s.forest);
 }

@@ -9,11 +9,30 @@ use Rattle.html_rules.specs.Names.{Namespace, MathMl, Svg}
 
 -- SVG elements whose names have letters in upper case
 unfoldable pub svg_tag_names : List (List ℕ)
-svg_tag_names = codes "altGlyph" ∷ codes "altGlyphDef" ∷ codes "altGlyphItem" ∷ codes "animateColor" ∷ codes "animateMotion" ∷ codes "animateTransform" ∷ codes "clipPath" ∷ codes "feBlend" ∷ codes "feColorMatrix" ∷ codes "feComponentTransfer" ∷ codes "feComposite" ∷ codes "feConvolveMatrix" ∷ codes "feDiffuseLighting" ∷ codes "feDisplacementMap" ∷ codes "feDistantLight" ∷ codes "feDropShadow" ∷ codes "feFlood" ∷ codes "feFuncA" ∷ codes "feFuncB" ∷ codes "feFuncG" ∷ codes "feFuncR" ∷ codes "feGaussianBlur" ∷ codes "feImage" ∷ codes "feMerge" ∷ codes "feMergeNode" ∷ codes "feMorphology" ∷ codes "feOffset" ∷ codes "fePointLight" ∷ codes "feSpecularLighting" ∷ codes "feSpotLight" ∷ codes "feTile" ∷ codes "feTurbulence" ∷ codes "foreignObject" ∷ codes "glyphRef" ∷ codes "linearGradient" ∷ codes "radialGradient" ∷ codes "textPath" ∷ []
+svg_tag_names = codes "altGlyph" ∷ codes "altGlyphDef" ∷ codes "altGlyphItem" ∷ codes "animateColor" ∷
+    codes "animateMotion" ∷ codes "animateTransform" ∷ codes "clipPath" ∷ codes "feBlend" ∷ codes "feColorMatrix" ∷
+    codes "feComponentTransfer" ∷ codes "feComposite" ∷ codes "feConvolveMatrix" ∷ codes "feDiffuseLighting" ∷
+    codes "feDisplacementMap" ∷ codes "feDistantLight" ∷ codes "feDropShadow" ∷ codes "feFlood" ∷ codes "feFuncA" ∷
+    codes "feFuncB" ∷ codes "feFuncG" ∷ codes "feFuncR" ∷ codes "feGaussianBlur" ∷ codes "feImage" ∷
+    codes "feMerge" ∷ codes "feMergeNode" ∷ codes "feMorphology" ∷ codes "feOffset" ∷ codes "fePointLight" ∷
+    codes "feSpecularLighting" ∷ codes "feSpotLight" ∷ codes "feTile" ∷ codes "feTurbulence" ∷
+    codes "foreignObject" ∷ codes "glyphRef" ∷ codes "linearGradient" ∷ codes "radialGradient" ∷ codes "textPath" ∷ []
 
 -- SVG attributes whose names have letters in upper case
 unfoldable pub svg_attribute_names : List (List ℕ)
-svg_attribute_names = codes "attributeName" ∷ codes "attributeType" ∷ codes "baseFrequency" ∷ codes "baseProfile" ∷ codes "calcMode" ∷ codes "clipPathUnits" ∷ codes "diffuseConstant" ∷ codes "edgeMode" ∷ codes "filterUnits" ∷ codes "glyphRef" ∷ codes "gradientTransform" ∷ codes "gradientUnits" ∷ codes "kernelMatrix" ∷ codes "kernelUnitLength" ∷ codes "keyPoints" ∷ codes "keySplines" ∷ codes "keyTimes" ∷ codes "lengthAdjust" ∷ codes "limitingConeAngle" ∷ codes "markerHeight" ∷ codes "markerUnits" ∷ codes "markerWidth" ∷ codes "maskContentUnits" ∷ codes "maskUnits" ∷ codes "numOctaves" ∷ codes "pathLength" ∷ codes "patternContentUnits" ∷ codes "patternTransform" ∷ codes "patternUnits" ∷ codes "pointsAtX" ∷ codes "pointsAtY" ∷ codes "pointsAtZ" ∷ codes "preserveAlpha" ∷ codes "preserveAspectRatio" ∷ codes "primitiveUnits" ∷ codes "refX" ∷ codes "refY" ∷ codes "repeatCount" ∷ codes "repeatDur" ∷ codes "requiredExtensions" ∷ codes "requiredFeatures" ∷ codes "specularConstant" ∷ codes "specularExponent" ∷ codes "spreadMethod" ∷ codes "startOffset" ∷ codes "stdDeviation" ∷ codes "stitchTiles" ∷ codes "surfaceScale" ∷ codes "systemLanguage" ∷ codes "tableValues" ∷ codes "targetX" ∷ codes "targetY" ∷ codes "textLength" ∷ codes "viewBox" ∷ codes "viewTarget" ∷ codes "xChannelSelector" ∷ codes "yChannelSelector" ∷ codes "zoomAndPan" ∷ []
+svg_attribute_names = codes "attributeName" ∷ codes "attributeType" ∷ codes "baseFrequency" ∷ codes "baseProfile" ∷
+    codes "calcMode" ∷ codes "clipPathUnits" ∷ codes "diffuseConstant" ∷ codes "edgeMode" ∷ codes "filterUnits" ∷
+    codes "glyphRef" ∷ codes "gradientTransform" ∷ codes "gradientUnits" ∷ codes "kernelMatrix" ∷
+    codes "kernelUnitLength" ∷ codes "keyPoints" ∷ codes "keySplines" ∷ codes "keyTimes" ∷ codes "lengthAdjust" ∷
+    codes "limitingConeAngle" ∷ codes "markerHeight" ∷ codes "markerUnits" ∷ codes "markerWidth" ∷
+    codes "maskContentUnits" ∷ codes "maskUnits" ∷ codes "numOctaves" ∷ codes "pathLength" ∷
+    codes "patternContentUnits" ∷ codes "patternTransform" ∷ codes "patternUnits" ∷ codes "pointsAtX" ∷
+    codes "pointsAtY" ∷ codes "pointsAtZ" ∷ codes "preserveAlpha" ∷ codes "preserveAspectRatio" ∷
+    codes "primitiveUnits" ∷ codes "refX" ∷ codes "refY" ∷ codes "repeatCount" ∷ codes "repeatDur" ∷
+    codes "requiredExtensions" ∷ codes "requiredFeatures" ∷ codes "specularConstant" ∷ codes "specularExponent" ∷
+    codes "spreadMethod" ∷ codes "startOffset" ∷ codes "stdDeviation" ∷ codes "stitchTiles" ∷ codes "surfaceScale" ∷
+    codes "systemLanguage" ∷ codes "tableValues" ∷ codes "targetX" ∷ codes "targetY" ∷ codes "textLength" ∷
+    codes "viewBox" ∷ codes "viewTarget" ∷ codes "xChannelSelector" ∷ codes "yChannelSelector" ∷ codes "zoomAndPan" ∷ []
 
 -- such attributes of MathML
 abbrev pub mathml_attribute_names : List (List ℕ)

@@ -3,7 +3,9 @@ use Rattle.std.specs.Prelude.{ℕ, List, [], ◌∷◌, Option, Some, None}
 use Rattle.html_rules.specs.Choice.{choose}
 use Rattle.html_rules.specs.State.{Open, State, is_in}
 use Rattle.html_rules.specs.declared.insertion_mode.InsertionMode.{InsertionMode}
-use Rattle.html_rules.specs.declared.insertion_mode.InsertionMode.TheVariants.{BeforeHead, InHead, AfterHead, InBody, InTable, InCaption, InColumnGroup, InTableBody, InRow, InCell, InFrameset}
+use Rattle.html_rules.specs.declared.insertion_mode.InsertionMode.TheVariants.{BeforeHead, InHead, AfterHead, InBody, InTable}
+use Rattle.html_rules.specs.declared.insertion_mode.InsertionMode.TheVariants.{InCaption, InColumnGroup, InTableBody, InRow}
+use Rattle.html_rules.specs.declared.insertion_mode.InsertionMode.TheVariants.{InCell, InFrameset}
 use Rattle.html_rules.specs.declared.tag_set.TagSet.TheVariants as set
 
 -- the current template insertion mode

@@ -33,7 +33,9 @@ use Rattle.html_rules.specs.Modes.Initial.{initial}
 use Rattle.html_rules.specs.Modes.Text.{text}
 use Rattle.html_rules.specs.Stack.{parse_error}
 use Rattle.html_rules.specs.State.{Open, State, current_number}
-use Rattle.html_rules.specs.Table.{Row, Action, AnythingElse, Nothing, Conclusion, Done, Acknowledged, Reprocess, ReprocessInOriginal, ReprocessInMode, Using, UsingThen, UsingCurrentMode, RawText, PlainText, RunScript, ReportEncoding, row}
+use Rattle.html_rules.specs.Table.{Row, Action, AnythingElse, Nothing, Conclusion, Done, Acknowledged, Reprocess}
+use Rattle.html_rules.specs.Table.{ReprocessInOriginal, ReprocessInMode, Using, UsingThen, UsingCurrentMode, RawText, PlainText}
+use Rattle.html_rules.specs.Table.{RunScript, ReportEncoding, row}
 use Rattle.html_rules.specs.Tokens.{attributes_of, class_fits}
 use Rattle.html_rules.specs.declared.insertion_mode.InsertionMode.{InsertionMode}
 use Rattle.html_rules.specs.declared.insertion_mode.InsertionMode.TheVariants as mode

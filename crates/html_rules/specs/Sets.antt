@@ -12,40 +12,77 @@ is_among name (x ∷ xs) = bytes_eq name x || is_among name xs
 
 -- the names of HTML elements in a set
 unfoldable pub names_of : TagSet → List (List ℕ)
-names_of set.DefaultScope = codes "applet" ∷ codes "caption" ∷ codes "html" ∷ codes "table" ∷ codes "td" ∷ codes "th" ∷ codes "marquee" ∷ codes "object" ∷ codes "select" ∷ codes "template" ∷ []
-names_of set.ListItemScope = codes "applet" ∷ codes "caption" ∷ codes "html" ∷ codes "table" ∷ codes "td" ∷ codes "th" ∷ codes "marquee" ∷ codes "object" ∷ codes "select" ∷ codes "template" ∷ codes "ol" ∷ codes "ul" ∷ []
-names_of set.ButtonScope = codes "applet" ∷ codes "caption" ∷ codes "html" ∷ codes "table" ∷ codes "td" ∷ codes "th" ∷ codes "marquee" ∷ codes "object" ∷ codes "select" ∷ codes "template" ∷ codes "button" ∷ []
+names_of set.DefaultScope = codes "applet" ∷ codes "caption" ∷ codes "html" ∷ codes "table" ∷ codes "td" ∷
+    codes "th" ∷ codes "marquee" ∷ codes "object" ∷ codes "select" ∷ codes "template" ∷ []
+names_of set.ListItemScope = codes "applet" ∷ codes "caption" ∷ codes "html" ∷ codes "table" ∷ codes "td" ∷
+    codes "th" ∷ codes "marquee" ∷ codes "object" ∷ codes "select" ∷ codes "template" ∷ codes "ol" ∷ codes "ul" ∷ []
+names_of set.ButtonScope = codes "applet" ∷ codes "caption" ∷ codes "html" ∷ codes "table" ∷ codes "td" ∷
+    codes "th" ∷ codes "marquee" ∷ codes "object" ∷ codes "select" ∷ codes "template" ∷ codes "button" ∷ []
 names_of set.TableScope = codes "html" ∷ codes "table" ∷ codes "template" ∷ []
 names_of set.TableBodyContext = codes "tbody" ∷ codes "tfoot" ∷ codes "thead" ∷ codes "template" ∷ codes "html" ∷ []
 names_of set.TableRowContext = codes "tr" ∷ codes "template" ∷ codes "html" ∷ []
-names_of set.SpecialTag = codes "address" ∷ codes "applet" ∷ codes "area" ∷ codes "article" ∷ codes "aside" ∷ codes "base" ∷ codes "basefont" ∷ codes "bgsound" ∷ codes "blockquote" ∷ codes "body" ∷ codes "br" ∷ codes "button" ∷ codes "caption" ∷ codes "center" ∷ codes "col" ∷ codes "colgroup" ∷ codes "dd" ∷ codes "details" ∷ codes "dir" ∷ codes "div" ∷ codes "dl" ∷ codes "dt" ∷ codes "embed" ∷ codes "fieldset" ∷ codes "figcaption" ∷ codes "figure" ∷ codes "footer" ∷ codes "form" ∷ codes "frame" ∷ codes "frameset" ∷ codes "h1" ∷ codes "h2" ∷ codes "h3" ∷ codes "h4" ∷ codes "h5" ∷ codes "h6" ∷ codes "head" ∷ codes "header" ∷ codes "hgroup" ∷ codes "hr" ∷ codes "html" ∷ codes "iframe" ∷ codes "img" ∷ codes "input" ∷ codes "isindex" ∷ codes "li" ∷ codes "link" ∷ codes "listing" ∷ codes "main" ∷ codes "marquee" ∷ codes "menu" ∷ codes "meta" ∷ codes "nav" ∷ codes "noembed" ∷ codes "noframes" ∷ codes "noscript" ∷ codes "object" ∷ codes "ol" ∷ codes "p" ∷ codes "param" ∷ codes "plaintext" ∷ codes "pre" ∷ codes "script" ∷ codes "section" ∷ codes "select" ∷ codes "source" ∷ codes "style" ∷ codes "summary" ∷ codes "table" ∷ codes "tbody" ∷ codes "td" ∷ codes "template" ∷ codes "textarea" ∷ codes "tfoot" ∷ codes "th" ∷ codes "thead" ∷ codes "title" ∷ codes "tr" ∷ codes "track" ∷ codes "ul" ∷ codes "wbr" ∷ codes "xmp" ∷ []
-names_of set.CursoryImpliedEnd = codes "dd" ∷ codes "dt" ∷ codes "li" ∷ codes "option" ∷ codes "optgroup" ∷ codes "p" ∷ codes "rb" ∷ codes "rp" ∷ codes "rt" ∷ codes "rtc" ∷ []
-names_of set.ThoroughImpliedEnd = codes "dd" ∷ codes "dt" ∷ codes "li" ∷ codes "option" ∷ codes "optgroup" ∷ codes "p" ∷ codes "rb" ∷ codes "rp" ∷ codes "rt" ∷ codes "rtc" ∷ codes "caption" ∷ codes "colgroup" ∷ codes "tbody" ∷ codes "td" ∷ codes "tfoot" ∷ codes "th" ∷ codes "thead" ∷ codes "tr" ∷ []
+names_of set.SpecialTag = codes "address" ∷ codes "applet" ∷ codes "area" ∷ codes "article" ∷ codes "aside" ∷
+    codes "base" ∷ codes "basefont" ∷ codes "bgsound" ∷ codes "blockquote" ∷ codes "body" ∷ codes "br" ∷
+    codes "button" ∷ codes "caption" ∷ codes "center" ∷ codes "col" ∷ codes "colgroup" ∷ codes "dd" ∷
+    codes "details" ∷ codes "dir" ∷ codes "div" ∷ codes "dl" ∷ codes "dt" ∷ codes "embed" ∷ codes "fieldset" ∷
+    codes "figcaption" ∷ codes "figure" ∷ codes "footer" ∷ codes "form" ∷ codes "frame" ∷ codes "frameset" ∷
+    codes "h1" ∷ codes "h2" ∷ codes "h3" ∷ codes "h4" ∷ codes "h5" ∷ codes "h6" ∷ codes "head" ∷ codes "header" ∷
+    codes "hgroup" ∷ codes "hr" ∷ codes "html" ∷ codes "iframe" ∷ codes "img" ∷ codes "input" ∷ codes "isindex" ∷
+    codes "li" ∷ codes "link" ∷ codes "listing" ∷ codes "main" ∷ codes "marquee" ∷ codes "menu" ∷ codes "meta" ∷
+    codes "nav" ∷ codes "noembed" ∷ codes "noframes" ∷ codes "noscript" ∷ codes "object" ∷ codes "ol" ∷ codes "p" ∷
+    codes "param" ∷ codes "plaintext" ∷ codes "pre" ∷ codes "script" ∷ codes "section" ∷ codes "select" ∷
+    codes "source" ∷ codes "style" ∷ codes "summary" ∷ codes "table" ∷ codes "tbody" ∷ codes "td" ∷
+    codes "template" ∷ codes "textarea" ∷ codes "tfoot" ∷ codes "th" ∷ codes "thead" ∷ codes "title" ∷ codes "tr" ∷
+    codes "track" ∷ codes "ul" ∷ codes "wbr" ∷ codes "xmp" ∷ []
+names_of set.CursoryImpliedEnd = codes "dd" ∷ codes "dt" ∷ codes "li" ∷ codes "option" ∷ codes "optgroup" ∷
+    codes "p" ∷ codes "rb" ∷ codes "rp" ∷ codes "rt" ∷ codes "rtc" ∷ []
+names_of set.ThoroughImpliedEnd = codes "dd" ∷ codes "dt" ∷ codes "li" ∷ codes "option" ∷ codes "optgroup" ∷
+    codes "p" ∷ codes "rb" ∷ codes "rp" ∷ codes "rt" ∷ codes "rtc" ∷ codes "caption" ∷ codes "colgroup" ∷
+    codes "tbody" ∷ codes "td" ∷ codes "tfoot" ∷ codes "th" ∷ codes "thead" ∷ codes "tr" ∷ []
 names_of set.HeadingTag = codes "h1" ∷ codes "h2" ∷ codes "h3" ∷ codes "h4" ∷ codes "h5" ∷ codes "h6" ∷ []
 names_of set.FosterTarget = codes "table" ∷ codes "tbody" ∷ codes "tfoot" ∷ codes "thead" ∷ codes "tr" ∷ []
-names_of set.BodyEnd = codes "dd" ∷ codes "dt" ∷ codes "li" ∷ codes "optgroup" ∷ codes "option" ∷ codes "p" ∷ codes "rp" ∷ codes "rt" ∷ codes "tbody" ∷ codes "td" ∷ codes "tfoot" ∷ codes "th" ∷ codes "thead" ∷ codes "tr" ∷ codes "body" ∷ codes "html" ∷ []
-names_of set.FormAssociatable = codes "button" ∷ codes "fieldset" ∷ codes "input" ∷ codes "object" ∷ codes "output" ∷ codes "select" ∷ codes "textarea" ∷ codes "img" ∷ []
-names_of set.Listed = codes "button" ∷ codes "fieldset" ∷ codes "input" ∷ codes "object" ∷ codes "output" ∷ codes "select" ∷ codes "textarea" ∷ []
+names_of set.BodyEnd = codes "dd" ∷ codes "dt" ∷ codes "li" ∷ codes "optgroup" ∷ codes "option" ∷ codes "p" ∷
+    codes "rp" ∷ codes "rt" ∷ codes "tbody" ∷ codes "td" ∷ codes "tfoot" ∷ codes "th" ∷ codes "thead" ∷ codes "tr" ∷
+    codes "body" ∷ codes "html" ∷ []
+names_of set.FormAssociatable = codes "button" ∷ codes "fieldset" ∷ codes "input" ∷ codes "object" ∷
+    codes "output" ∷ codes "select" ∷ codes "textarea" ∷ codes "img" ∷ []
+names_of set.Listed = codes "button" ∷ codes "fieldset" ∷ codes "input" ∷ codes "object" ∷ codes "output" ∷
+    codes "select" ∷ codes "textarea" ∷ []
 names_of set.MathmlTextIntegrationPoint = []
 names_of set.SvgHtmlIntegrationPoint = []
 names_of set.AnnotationXml = []
 names_of set.MglyphMalignmark = codes "mglyph" ∷ codes "malignmark" ∷ []
-names_of set.ForeignBreakout = codes "b" ∷ codes "big" ∷ codes "blockquote" ∷ codes "body" ∷ codes "br" ∷ codes "center" ∷ codes "code" ∷ codes "dd" ∷ codes "div" ∷ codes "dl" ∷ codes "dt" ∷ codes "em" ∷ codes "embed" ∷ codes "h1" ∷ codes "h2" ∷ codes "h3" ∷ codes "h4" ∷ codes "h5" ∷ codes "h6" ∷ codes "head" ∷ codes "hr" ∷ codes "i" ∷ codes "img" ∷ codes "li" ∷ codes "listing" ∷ codes "menu" ∷ codes "meta" ∷ codes "nobr" ∷ codes "ol" ∷ codes "p" ∷ codes "pre" ∷ codes "ruby" ∷ codes "s" ∷ codes "small" ∷ codes "span" ∷ codes "strong" ∷ codes "strike" ∷ codes "sub" ∷ codes "sup" ∷ codes "table" ∷ codes "tt" ∷ codes "u" ∷ codes "ul" ∷ codes "var" ∷ []
+names_of set.ForeignBreakout = codes "b" ∷ codes "big" ∷ codes "blockquote" ∷ codes "body" ∷ codes "br" ∷
+    codes "center" ∷ codes "code" ∷ codes "dd" ∷ codes "div" ∷ codes "dl" ∷ codes "dt" ∷ codes "em" ∷
+    codes "embed" ∷ codes "h1" ∷ codes "h2" ∷ codes "h3" ∷ codes "h4" ∷ codes "h5" ∷ codes "h6" ∷ codes "head" ∷
+    codes "hr" ∷ codes "i" ∷ codes "img" ∷ codes "li" ∷ codes "listing" ∷ codes "menu" ∷ codes "meta" ∷
+    codes "nobr" ∷ codes "ol" ∷ codes "p" ∷ codes "pre" ∷ codes "ruby" ∷ codes "s" ∷ codes "small" ∷ codes "span" ∷
+    codes "strong" ∷ codes "strike" ∷ codes "sub" ∷ codes "sup" ∷ codes "table" ∷ codes "tt" ∷ codes "u" ∷ codes "ul" ∷ codes "var" ∷ []
 names_of set.BrP = codes "br" ∷ codes "p" ∷ []
 names_of set.HeadBodyHtmlBr = codes "head" ∷ codes "body" ∷ codes "html" ∷ codes "br" ∷ []
 names_of set.BodyHtmlBr = codes "body" ∷ codes "html" ∷ codes "br" ∷ []
 names_of set.MetadataVoid = codes "base" ∷ codes "basefont" ∷ codes "bgsound" ∷ codes "link" ∷ codes "meta" ∷ []
 names_of set.NoscriptContent = codes "basefont" ∷ codes "bgsound" ∷ codes "link" ∷ codes "meta" ∷ codes "noframes" ∷ codes "style" ∷ []
-names_of set.HeadContent = codes "base" ∷ codes "basefont" ∷ codes "bgsound" ∷ codes "link" ∷ codes "meta" ∷ codes "noframes" ∷ codes "script" ∷ codes "style" ∷ codes "template" ∷ codes "title" ∷ []
+names_of set.HeadContent = codes "base" ∷ codes "basefont" ∷ codes "bgsound" ∷ codes "link" ∷ codes "meta" ∷
+    codes "noframes" ∷ codes "script" ∷ codes "style" ∷ codes "template" ∷ codes "title" ∷ []
 names_of set.NoframesStyle = codes "noframes" ∷ codes "style" ∷ []
 names_of set.HeadNoscript = codes "head" ∷ codes "noscript" ∷ []
-names_of set.Block = codes "address" ∷ codes "article" ∷ codes "aside" ∷ codes "blockquote" ∷ codes "center" ∷ codes "details" ∷ codes "dialog" ∷ codes "dir" ∷ codes "div" ∷ codes "dl" ∷ codes "fieldset" ∷ codes "figcaption" ∷ codes "figure" ∷ codes "footer" ∷ codes "header" ∷ codes "hgroup" ∷ codes "main" ∷ codes "menu" ∷ codes "nav" ∷ codes "ol" ∷ codes "p" ∷ codes "search" ∷ codes "section" ∷ codes "summary" ∷ codes "ul" ∷ []
-names_of set.BlockEnd = codes "address" ∷ codes "article" ∷ codes "aside" ∷ codes "blockquote" ∷ codes "button" ∷ codes "center" ∷ codes "details" ∷ codes "dialog" ∷ codes "dir" ∷ codes "div" ∷ codes "dl" ∷ codes "fieldset" ∷ codes "figcaption" ∷ codes "figure" ∷ codes "footer" ∷ codes "header" ∷ codes "hgroup" ∷ codes "listing" ∷ codes "main" ∷ codes "menu" ∷ codes "nav" ∷ codes "ol" ∷ codes "pre" ∷ codes "search" ∷ codes "section" ∷ codes "select" ∷ codes "summary" ∷ codes "ul" ∷ []
+names_of set.Block = codes "address" ∷ codes "article" ∷ codes "aside" ∷ codes "blockquote" ∷ codes "center" ∷
+    codes "details" ∷ codes "dialog" ∷ codes "dir" ∷ codes "div" ∷ codes "dl" ∷ codes "fieldset" ∷
+    codes "figcaption" ∷ codes "figure" ∷ codes "footer" ∷ codes "header" ∷ codes "hgroup" ∷ codes "main" ∷
+    codes "menu" ∷ codes "nav" ∷ codes "ol" ∷ codes "p" ∷ codes "search" ∷ codes "section" ∷ codes "summary" ∷ codes "ul" ∷ []
+names_of set.BlockEnd = codes "address" ∷ codes "article" ∷ codes "aside" ∷ codes "blockquote" ∷ codes "button" ∷
+    codes "center" ∷ codes "details" ∷ codes "dialog" ∷ codes "dir" ∷ codes "div" ∷ codes "dl" ∷ codes "fieldset" ∷
+    codes "figcaption" ∷ codes "figure" ∷ codes "footer" ∷ codes "header" ∷ codes "hgroup" ∷ codes "listing" ∷
+    codes "main" ∷ codes "menu" ∷ codes "nav" ∷ codes "ol" ∷ codes "pre" ∷ codes "search" ∷ codes "section" ∷
+    codes "select" ∷ codes "summary" ∷ codes "ul" ∷ []
 names_of set.PreListing = codes "pre" ∷ codes "listing" ∷ []
 names_of set.DdDt = codes "dd" ∷ codes "dt" ∷ []
 names_of set.AddressDivP = codes "address" ∷ codes "div" ∷ codes "p" ∷ []
-names_of set.FormattingTag = codes "b" ∷ codes "big" ∷ codes "code" ∷ codes "em" ∷ codes "font" ∷ codes "i" ∷ codes "s" ∷ codes "small" ∷ codes "strike" ∷ codes "strong" ∷ codes "tt" ∷ codes "u" ∷ []
-names_of set.FormattingEnd = codes "a" ∷ codes "b" ∷ codes "big" ∷ codes "code" ∷ codes "em" ∷ codes "font" ∷ codes "i" ∷ codes "nobr" ∷ codes "s" ∷ codes "small" ∷ codes "strike" ∷ codes "strong" ∷ codes "tt" ∷ codes "u" ∷ []
+names_of set.FormattingTag = codes "b" ∷ codes "big" ∷ codes "code" ∷ codes "em" ∷ codes "font" ∷ codes "i" ∷
+    codes "s" ∷ codes "small" ∷ codes "strike" ∷ codes "strong" ∷ codes "tt" ∷ codes "u" ∷ []
+names_of set.FormattingEnd = codes "a" ∷ codes "b" ∷ codes "big" ∷ codes "code" ∷ codes "em" ∷ codes "font" ∷
+    codes "i" ∷ codes "nobr" ∷ codes "s" ∷ codes "small" ∷ codes "strike" ∷ codes "strong" ∷ codes "tt" ∷ codes "u" ∷ []
 names_of set.AppletMarqueeObject = codes "applet" ∷ codes "marquee" ∷ codes "object" ∷ []
 names_of set.VoidTag = codes "area" ∷ codes "br" ∷ codes "embed" ∷ codes "img" ∷ codes "keygen" ∷ codes "wbr" ∷ []
 names_of set.ParamSourceTrack = codes "param" ∷ codes "source" ∷ codes "track" ∷ []
@@ -53,18 +90,23 @@ names_of set.OptionOptgroup = codes "option" ∷ codes "optgroup" ∷ []
 names_of set.RbRtc = codes "rb" ∷ codes "rtc" ∷ []
 names_of set.RpRt = codes "rp" ∷ codes "rt" ∷ []
 names_of set.RtcRuby = codes "rtc" ∷ codes "ruby" ∷ []
-names_of set.TablePart = codes "caption" ∷ codes "col" ∷ codes "colgroup" ∷ codes "frame" ∷ codes "head" ∷ codes "tbody" ∷ codes "td" ∷ codes "tfoot" ∷ codes "th" ∷ codes "thead" ∷ codes "tr" ∷ []
+names_of set.TablePart = codes "caption" ∷ codes "col" ∷ codes "colgroup" ∷ codes "frame" ∷ codes "head" ∷
+    codes "tbody" ∷ codes "td" ∷ codes "tfoot" ∷ codes "th" ∷ codes "thead" ∷ codes "tr" ∷ []
 names_of set.TbodyTfootThead = codes "tbody" ∷ codes "tfoot" ∷ codes "thead" ∷ []
 names_of set.TdTh = codes "td" ∷ codes "th" ∷ []
 names_of set.TdThTr = codes "td" ∷ codes "th" ∷ codes "tr" ∷ []
 names_of set.TableTbodyTfoot = codes "table" ∷ codes "tbody" ∷ codes "tfoot" ∷ []
 names_of set.StyleScriptTemplate = codes "style" ∷ codes "script" ∷ codes "template" ∷ []
-names_of set.InTableIgnoredEnd = codes "body" ∷ codes "caption" ∷ codes "col" ∷ codes "colgroup" ∷ codes "html" ∷ codes "tbody" ∷ codes "td" ∷ codes "tfoot" ∷ codes "th" ∷ codes "thead" ∷ codes "tr" ∷ []
-names_of set.InCaptionIgnoredEnd = codes "body" ∷ codes "col" ∷ codes "colgroup" ∷ codes "html" ∷ codes "tbody" ∷ codes "td" ∷ codes "tfoot" ∷ codes "th" ∷ codes "thead" ∷ codes "tr" ∷ []
-names_of set.InTableBodyIgnoredEnd = codes "body" ∷ codes "caption" ∷ codes "col" ∷ codes "colgroup" ∷ codes "html" ∷ codes "td" ∷ codes "th" ∷ codes "tr" ∷ []
+names_of set.InTableIgnoredEnd = codes "body" ∷ codes "caption" ∷ codes "col" ∷ codes "colgroup" ∷ codes "html" ∷
+    codes "tbody" ∷ codes "td" ∷ codes "tfoot" ∷ codes "th" ∷ codes "thead" ∷ codes "tr" ∷ []
+names_of set.InCaptionIgnoredEnd = codes "body" ∷ codes "col" ∷ codes "colgroup" ∷ codes "html" ∷ codes "tbody" ∷
+    codes "td" ∷ codes "tfoot" ∷ codes "th" ∷ codes "thead" ∷ codes "tr" ∷ []
+names_of set.InTableBodyIgnoredEnd = codes "body" ∷ codes "caption" ∷ codes "col" ∷ codes "colgroup" ∷
+    codes "html" ∷ codes "td" ∷ codes "th" ∷ codes "tr" ∷ []
 names_of set.InRowIgnoredEnd = codes "body" ∷ codes "caption" ∷ codes "col" ∷ codes "colgroup" ∷ codes "html" ∷ codes "td" ∷ codes "th" ∷ []
 names_of set.InCellIgnoredEnd = codes "body" ∷ codes "caption" ∷ codes "col" ∷ codes "colgroup" ∷ codes "html" ∷ []
-names_of set.CaptionCloser = codes "caption" ∷ codes "col" ∷ codes "colgroup" ∷ codes "tbody" ∷ codes "td" ∷ codes "tfoot" ∷ codes "th" ∷ codes "thead" ∷ codes "tr" ∷ []
+names_of set.CaptionCloser = codes "caption" ∷ codes "col" ∷ codes "colgroup" ∷ codes "tbody" ∷ codes "td" ∷
+    codes "tfoot" ∷ codes "th" ∷ codes "thead" ∷ codes "tr" ∷ []
 names_of set.TableBodyCloser = codes "caption" ∷ codes "col" ∷ codes "colgroup" ∷ codes "tbody" ∷ codes "tfoot" ∷ codes "thead" ∷ []
 names_of set.RowCloser = codes "caption" ∷ codes "col" ∷ codes "colgroup" ∷ codes "tbody" ∷ codes "tfoot" ∷ codes "thead" ∷ codes "tr" ∷ []
 names_of set.CellCloserEnd = codes "table" ∷ codes "tbody" ∷ codes "tfoot" ∷ codes "thead" ∷ codes "tr" ∷ []

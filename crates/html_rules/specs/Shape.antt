@@ -6,7 +6,8 @@ use Rattle.html_rules.specs.Conditions.{context_is, is_nonempty}
 use Rattle.html_rules.specs.Stack.{in_scope, open_templates, without_current}
 use Rattle.html_rules.specs.State.{Open, State, current_is, is_in}
 use Rattle.html_rules.specs.declared.insertion_mode.InsertionMode.{InsertionMode}
-use Rattle.html_rules.specs.declared.insertion_mode.InsertionMode.TheVariants.{Initial, BeforeHtml, InHead, InHeadNoscript, AfterHead, Text, InTableText, InCell, InTemplate}
+use Rattle.html_rules.specs.declared.insertion_mode.InsertionMode.TheVariants.{Initial, BeforeHtml, InHead, InHeadNoscript}
+use Rattle.html_rules.specs.declared.insertion_mode.InsertionMode.TheVariants.{AfterHead, Text, InTableText, InCell, InTemplate}
 use Rattle.html_rules.specs.declared.tag_set.TagSet.TheVariants as set
 
 -- the first element that was opened is `html`, and no other one is
@@ -51,4 +52,5 @@ abbrev pub has_template_modes : List InsertionMode → List Open → Option Open
 has_template_modes modes xs context = nat_eq (length modes) (open_templates xs + one_if (context_is set.Template context))
 
 unfoldable pub is_fit : State → Bool
-is_fit s = fits_mode s.mode s.orig_mode s.open_elems s.head_elem s.template_modes && has_template_modes s.template_modes s.open_elems s.context_elem
+is_fit s = fits_mode s.mode s.orig_mode s.open_elems s.head_elem s.template_modes
+    && has_template_modes s.template_modes s.open_elems s.context_elem

@@ -4,7 +4,8 @@ use Rattle.html_tokens.specs.Sink.{Step, Reply, Refusal, InText, AfterEnd, Unfit
 use Rattle.html_tokens.specs.declared.replies.TokenSinkResult.TheVariants as reply
 use Rattle.html_tokens.specs.declared.token.Doctype.{Doctype}
 use Rattle.html_tokens.specs.declared.token.Token.{Token}
-use Rattle.html_tokens.specs.declared.token.Token.TheVariants.{DoctypeToken, TagToken, CommentToken, CharacterTokens, NullCharacterToken, ParseError}
+use Rattle.html_tokens.specs.declared.token.Token.TheVariants.{DoctypeToken, TagToken, CommentToken, CharacterTokens}
+use Rattle.html_tokens.specs.declared.token.Token.TheVariants.{NullCharacterToken, ParseError}
 use Rattle.html_rules.specs.Actions.{set_ignore_lf, set_mode, set_quirks_mode}
 use Rattle.html_rules.specs.Choice.{choose}
 use Rattle.html_rules.specs.Doctypes.{doctype_error, quirks_of}

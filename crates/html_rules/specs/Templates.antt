@@ -22,7 +22,8 @@ foster_intended_parent root (x ∷ xs) =
 
 abbrev pub intended_parent_at : Bool → List Open → Option Open → ℕ
 intended_parent_at foster xs None = 0
-intended_parent_at foster xs (Some target) = choose (foster && is_in set.FosterTarget target) (λ _. foster_intended_parent (root_number xs) xs) (λ _. parent_at (inside target))
+intended_parent_at foster xs (Some target) = choose (foster && is_in set.FosterTarget target)
+    (λ _. foster_intended_parent (root_number xs) xs) (λ _. parent_at (inside target))
 
 -- the node that the template would be put under
 abbrev pub intended_parent : State → ℕ
@@ -30,7 +31,8 @@ intended_parent s = intended_parent_at s.foster_parenting s.open_elems (current_
 
 -- whether a template is to become a shadow root, if its host takes one
 abbrev pub may_be_shadow_root : Tag → State → Bool
-may_be_shadow_root tag s = list_any is_shadow_mode tag.attrs && s.answers.allows_shadow_roots (with_errors 0 s.forest) (intended_parent s) && not (is_alone s.open_elems)
+may_be_shadow_root tag s = list_any is_shadow_mode tag.attrs && s.answers.allows_shadow_roots
+    (with_errors 0 s.forest) (intended_parent s) && not (is_alone s.open_elems)
 
 abbrev pub number_of : Option Open → ℕ
 number_of None = 0
@@ -46,5 +48,6 @@ attach_shadow_root tag host opened =
 unfoldable pub insert_template : Tag → State → State
 insert_template tag s =
     choose (may_be_shadow_root tag s)
-    (λ _. attach_shadow_root tag (number_of (adjusted_current_node s)) (open_element Html tag.name tag.attrs tag.had_duplicate_attributes s))
+    (λ _. attach_shadow_root tag (number_of (adjusted_current_node s))
+    (open_element Html tag.name tag.attrs tag.had_duplicate_attributes s))
     (λ _. insert_element_for tag s)

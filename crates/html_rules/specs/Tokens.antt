@@ -10,7 +10,8 @@ use Rattle.html_rules.specs.Encodings.{is_space}
 use Rattle.html_rules.specs.ForeignContent.{is_font_attribute, is_start_tag, is_end_tag}
 use Rattle.html_rules.specs.Names.{equals_any_case}
 use Rattle.html_rules.specs.Sets.{is_among, names_of}
-use Rattle.html_rules.specs.Table.{Class, StartTags, EndTags, AnyStartTag, AnyEndTag, WhiteSpace, Character, Null, Comment, EndOfFile, AnythingElse}
+use Rattle.html_rules.specs.Table.{Class, StartTags, EndTags, AnyStartTag, AnyEndTag, WhiteSpace, Character, Null, Comment}
+use Rattle.html_rules.specs.Table.{EndOfFile, AnythingElse}
 
 -- whether a text is white space alone
 abbrev pub is_white : List ℕ → Bool
@@ -59,4 +60,5 @@ has_font_attributes t = list_any is_font_attribute (attributes_of t)
 
 -- an attribute that asks for a shadow root
 abbrev pub is_shadow_mode : Attribute → Bool
-is_shadow_mode attribute = bytes_eq attribute.name.local (codes "shadowrootmode") && (bytes_eq attribute.value (codes "open") || bytes_eq attribute.value (codes "closed"))
+is_shadow_mode attribute = bytes_eq attribute.name.local (codes "shadowrootmode")
+    && (bytes_eq attribute.value (codes "open") || bytes_eq attribute.value (codes "closed"))

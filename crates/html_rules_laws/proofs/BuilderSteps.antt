@@ -1,5 +1,6 @@
 -- What the calls of a builder come to, as those of a sink of tokens.
-use Rattle.std.proofs.Common.{◌≡◌, ◌∙◌, ℕ, zero, suc, ◌≤◌, nat_eq, Bool, true, false, true≢false, [], ◌∷◌, Result, Ok, Err, IfOk, IfErr, refl, sym, ap, arith, subst}
+use Rattle.std.proofs.Common.{◌≡◌, ◌∙◌, ℕ, zero, suc, ◌≤◌, nat_eq, Bool, true, false, true≢false, [], ◌∷◌, Result, Ok, Err}
+use Rattle.std.proofs.Common.{IfOk, IfErr, refl, sym, ap, arith, subst}
 use Rattle.std.proofs.lemmas.Bool.Decides.{nat_tests}
 use Rattle.markup.specs.Forest.{one_more}
 use Rattle.markup.specs.declared.fault.ParseFault.{ParseFault}
@@ -8,7 +9,8 @@ use Rattle.html_tokens.specs.Sink.{AfterEnd, Counts, CountsOwn, Gives, InText, f
 use Rattle.html_tokens.specs.declared.replies.TokenSinkResult.{TokenSinkResult}
 use Rattle.html_tokens.specs.declared.replies.TokenSinkResult.TheVariants as reply
 use Rattle.html_tokens.specs.declared.token.Token.{Token}
-use Rattle.html_tokens.specs.declared.token.Token.TheVariants.{DoctypeToken, TagToken, CommentToken, CharacterTokens, NullCharacterToken, EOFToken, ParseError}
+use Rattle.html_tokens.specs.declared.token.Token.TheVariants.{DoctypeToken, TagToken, CommentToken, CharacterTokens}
+use Rattle.html_tokens.specs.declared.token.Token.TheVariants.{NullCharacterToken, EOFToken, ParseError}
 use Rattle.html_rules.specs.Actions.{set_ignore_lf}
 use Rattle.html_rules.specs.Choice.{choose}
 use Rattle.html_rules.specs.Stack.{parse_error}
@@ -38,7 +40,8 @@ barred-busy Text (DoctypeToken d) h = refl
 barred-busy Text EOFToken h = refl
 barred-busy m t h = absurd (true≢false (sym h))
 
-pub refuses-barred : (t : Token) (s : State) (line : ℕ) → Usable s → s.has_ended ≡ false → is_barred s.mode t ≡ true → step s t line ≡ Err InText
+pub refuses-barred : (t : Token) (s : State) (line : ℕ) → Usable s → s.has_ended ≡ false → is_barred s.mode t ≡ true
+    → step s t line ≡ Err InText
 unfolding refusal_with
 refuses-barred t s line h going e = step-is s t line false false true true going (barred-busy s.mode t e) (usable-fit s h going) e
 
@@ -47,7 +50,8 @@ refuses-barred t s line h going e = step-is s t line false false true true going
 answered-louder : (t : Token) (s : State) → answered (taken t (hushed s)) ≡ answered (taken t s)
 answered-louder t s = sym (ap answered (taken-hushed t s))
 
-busy-step : (t : Token) (s : State) (line : ℕ) → Usable (hushed s) → s.has_ended ≡ false → is_idle t ≡ false → is_barred s.mode t ≡ false → step (hushed s) t line ≡ Ok (answered (taken t s))
+busy-step : (t : Token) (s : State) (line : ℕ) → Usable (hushed s) → s.has_ended ≡ false → is_idle t ≡ false
+    → is_barred s.mode t ≡ false → step (hushed s) t line ≡ Ok (answered (taken t s))
 unfolding refusal_with
 busy-step t s line h going i b =
     step-is (hushed s) t line false false true false going i (usable-fit (hushed s) h going) b
@@ -55,7 +59,8 @@ busy-step t s line h going i b =
     ∙ ap Ok (answered-louder t s)
 
 -- the step gives what the token comes to
-pub came-step : (t : Token) (s : State) (line : ℕ) → Usable (hushed s) → s.has_ended ≡ false → is_barred s.mode t ≡ false → step (hushed s) t line ≡ Ok (answered (came_of t s))
+pub came-step : (t : Token) (s : State) (line : ℕ) → Usable (hushed s) → s.has_ended ≡ false
+    → is_barred s.mode t ≡ false → step (hushed s) t line ≡ Ok (answered (came_of t s))
 unfolding parse_error
 came-step (ParseError message) s line h going b = idle-step (hushed s) (ParseError message) line going refl
 came-step (CharacterTokens []) s line h going b = idle-step (hushed s) (CharacterTokens []) line going refl
@@ -66,14 +71,17 @@ came-step (CommentToken text) s line h going b = busy-step (CommentToken text) s
 came-step NullCharacterToken s line h going b = busy-step NullCharacterToken s line h going refl b
 came-step EOFToken s line h going b = busy-step EOFToken s line h going refl b
 
-pub gives-taken : {H : Type 0} (node : H → ℕ) (t : Token) (s new : State) (line : ℕ) (r : Result (TokenSinkResult H) ParseFault) → Usable (hushed s) → s.has_ended ≡ false → is_barred s.mode t ≡ false
+pub gives-taken : {H : Type 0} (node : H → ℕ) (t : Token) (s new : State) (line : ℕ)
+    (r : Result (TokenSinkResult H) ParseFault) → Usable (hushed s) → s.has_ended ≡ false → is_barred s.mode t ≡ false
     → IsTaken node t s new r → IfErr r (λ fault. fault ≡ Memory) → Gives node (step (hushed s) t line) r (hushed new)
 gives-taken node t s new line (Ok answer) h going b e f = came-step t s line h going b ∙ rw (e.0, e.1) refl
 gives-taken node t s new line (Err fault) h going b e f = rw (f, came-step t s line h going b) refl
 
-pub usable-taken : {H : Type 0} (node : H → ℕ) (t : Token) (s new : State) (answer : TokenSinkResult H) → Usable (hushed s) → s.has_ended ≡ false → is_barred s.mode t ≡ false
+pub usable-taken : {H : Type 0} (node : H → ℕ) (t : Token) (s new : State) (answer : TokenSinkResult H)
+    → Usable (hushed s) → s.has_ended ≡ false → is_barred s.mode t ≡ false
     → IsTaken node t s new (Ok answer) → Usable (hushed new)
-usable-taken node t s new answer h going b e = rw e.0 (subst (λ r. IfOk r (λ p. Usable p.0)) (came-step t s 0 h going b) (usable-step (hushed s) h t 0))
+usable-taken node t s new answer h going b e =
+    rw e.0 (subst (λ r. IfOk r (λ p. Usable p.0)) (came-step t s 0 h going b) (usable-step (hushed s) h t 0))
 
 -- the number of errors
 
@@ -93,7 +101,8 @@ own (suc n) e = rw (suc-some n) (rises-above n e)
 
 busy-own : (t : Token) (s : State) → CountsOwn (is_quiet (hushed s) t) s.forest.errors (taken t s).state.forest.errors
 unfolding is_quiet
-busy-own t s = subst (λ made. CountsOwn (nat_eq (taken t (hushed s)).state.forest.errors 0) s.forest.errors made.state.forest.errors) (sym (taken-hushed t s)) (own (taken t (hushed s)).state.forest.errors s.forest.errors)
+busy-own t s = subst (λ made. CountsOwn (nat_eq (taken t (hushed s)).state.forest.errors 0) s.forest.errors
+    made.state.forest.errors) (sym (taken-hushed t s)) (own (taken t (hushed s)).state.forest.errors s.forest.errors)
 
 no_text-quiet : (s : State) → is_quiet (hushed s) (CharacterTokens []) ≡ true
 unfolding is_quiet taken set_ignore_lf
@@ -102,7 +111,8 @@ no_text-quiet s = by s.ignore_lf where
   by true = refl
   by false = refl
 
-came-counts : (t : Token) {R : Type 0} (r : R) (s : State) → Counts (is_quiet (hushed s) t) t (Ok r) s.forest.errors (came_of t s).state.forest.errors
+came-counts : (t : Token) {R : Type 0} (r : R) (s : State) → Counts (is_quiet (hushed s) t) t (Ok r) s.forest.errors
+    (came_of t s).state.forest.errors
 unfolding parse_error
 came-counts (ParseError message) r s = refl
 came-counts (CharacterTokens []) r s = rw (no_text-quiet s) refl
@@ -122,12 +132,16 @@ err-counts (CharacterTokens text) R q fault a b = tt
 err-counts NullCharacterToken R q fault a b = tt
 err-counts EOFToken R q fault a b = tt
 
-pub counts-taken : {H : Type 0} (node : H → ℕ) (t : Token) (s new : State) (r : Result (TokenSinkResult H) ParseFault) → IsTaken node t s new r → Counts (is_quiet (hushed s) t) t r s.forest.errors new.forest.errors
+pub counts-taken : {H : Type 0} (node : H → ℕ) (t : Token) (s new : State)
+    (r : Result (TokenSinkResult H) ParseFault) → IsTaken node t s new r → Counts (is_quiet (hushed s) t) t r
+    s.forest.errors new.forest.errors
 counts-taken node t s new (Ok answer) e = rw e.0 (came-counts t answer s)
-counts-taken {H} node t s new (Err fault) e = err-counts t (TokenSinkResult H) (is_quiet (hushed s) t) fault s.forest.errors new.forest.errors
+counts-taken {H} node t s new (Err fault) e = err-counts t (TokenSinkResult H) (is_quiet (hushed s) t) fault
+    s.forest.errors new.forest.errors
 
 -- it leaves a usable state, unless it leaves a builder that has failed
-pub sound-taken : {H : Type 0} (node : H → ℕ) (t : Token) (s new : State) (r : Result (TokenSinkResult H) ParseFault) (failed : Bool) → Usable (hushed s) → s.has_ended ≡ false → is_barred s.mode t ≡ false
+pub sound-taken : {H : Type 0} (node : H → ℕ) (t : Token) (s new : State)
+    (r : Result (TokenSinkResult H) ParseFault) (failed : Bool) → Usable (hushed s) → s.has_ended ≡ false → is_barred s.mode t ≡ false
     → IsTaken node t s new r → IfErr r (λ fault. fault ≡ Memory) → failed ≡ fails r → failed ≡ false → Usable (hushed new)
 sound-taken node t s new (Ok answer) failed h going b e f is works = usable-taken node t s new answer h going b e
 sound-taken node t s new (Err fault) failed h going b e f is works = absurd (true≢false (sym (is ∙ rw f refl) ∙ works))

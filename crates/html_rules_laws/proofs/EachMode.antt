@@ -4,11 +4,18 @@ use Rattle.std.specs.Prelude.{◌&&◌}
 use Rattle.std.specs.List.{list_all}
 use Rattle.std.proofs.lemmas.Bool.{and_parts}
 use Rattle.html_rules.specs.declared.insertion_mode.InsertionMode.{InsertionMode}
-use Rattle.html_rules.specs.declared.insertion_mode.InsertionMode.TheVariants.{Initial, BeforeHtml, BeforeHead, InHead, InHeadNoscript, AfterHead, InBody, Text, InTable, InTableText, InCaption, InColumnGroup, InTableBody, InRow, InCell, InTemplate, AfterBody, InFrameset, AfterFrameset, AfterAfterBody, AfterAfterFrameset}
+use Rattle.html_rules.specs.declared.insertion_mode.InsertionMode.TheVariants.{Initial, BeforeHtml, BeforeHead, InHead}
+use Rattle.html_rules.specs.declared.insertion_mode.InsertionMode.TheVariants.{InHeadNoscript, AfterHead, InBody, Text, InTable}
+use Rattle.html_rules.specs.declared.insertion_mode.InsertionMode.TheVariants.{InTableText, InCaption, InColumnGroup}
+use Rattle.html_rules.specs.declared.insertion_mode.InsertionMode.TheVariants.{InTableBody, InRow, InCell, InTemplate}
+use Rattle.html_rules.specs.declared.insertion_mode.InsertionMode.TheVariants.{AfterBody, InFrameset, AfterFrameset}
+use Rattle.html_rules.specs.declared.insertion_mode.InsertionMode.TheVariants.{AfterAfterBody, AfterAfterFrameset}
 
 -- the modes, in their order
 abbrev later_modes : List InsertionMode
-later_modes = BeforeHtml ∷ BeforeHead ∷ InHead ∷ InHeadNoscript ∷ AfterHead ∷ InBody ∷ Text ∷ InTable ∷ InTableText ∷ InCaption ∷ InColumnGroup ∷ InTableBody ∷ InRow ∷ InCell ∷ InTemplate ∷ AfterBody ∷ InFrameset ∷ AfterFrameset ∷ AfterAfterBody ∷ AfterAfterFrameset ∷ []
+later_modes = BeforeHtml ∷ BeforeHead ∷ InHead ∷ InHeadNoscript ∷ AfterHead ∷ InBody ∷ Text ∷ InTable ∷
+    InTableText ∷ InCaption ∷ InColumnGroup ∷ InTableBody ∷ InRow ∷ InCell ∷ InTemplate ∷ AfterBody ∷ InFrameset ∷
+    AfterFrameset ∷ AfterAfterBody ∷ AfterAfterFrameset ∷ []
 
 abbrev pub all_modes : List InsertionMode
 all_modes = Initial ∷ later_modes
@@ -18,7 +25,8 @@ at [] n = Initial
 at (m ∷ ms) zero = m
 at (m ∷ ms) (suc n) = at ms n
 
-passes-at : (test : InsertionMode → Bool) (m : InsertionMode) (ms : List InsertionMode) → list_all test (m ∷ ms) ≡ true → (n : ℕ) → test Initial ≡ true → test (at (m ∷ ms) n) ≡ true
+passes-at : (test : InsertionMode → Bool) (m : InsertionMode) (ms : List InsertionMode)
+    → list_all test (m ∷ ms) ≡ true → (n : ℕ) → test Initial ≡ true → test (at (m ∷ ms) n) ≡ true
 passes-at test m ms h zero i = (and_parts (test m) (list_all test ms) h).0
 passes-at test m [] h (suc n) i = i
 passes-at test m (k ∷ ms) h (suc n) i = passes-at test k ms (and_parts (test m) (list_all test (k ∷ ms)) h).1 n i

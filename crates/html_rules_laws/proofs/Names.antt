@@ -29,7 +29,8 @@ shares name (x ∷ xs) names h k =
     (λ e. or_right (is_among x names) (shares_name xs names) (shares name xs names e k))
 
 -- a name of one list is none of a list that has none in common with it
-pub disjoint : (name : List ℕ) (xs names : List (List ℕ)) → shares_name xs names ≡ false → is_among name xs ≡ true → is_among name names ≡ false
+pub disjoint : (name : List ℕ) (xs names : List (List ℕ)) → shares_name xs names ≡ false → is_among name xs ≡ true
+    → is_among name names ≡ false
 disjoint name xs names h k = by (is_among name names) refl where
   by : (b : Bool) → is_among name names ≡ b → is_among name names ≡ false
   by true e = absurd (true≢false (sym (shares name xs names k e) ∙ h))

@@ -45,20 +45,24 @@ root-reopened n tag xs h = rw (not_html n tag h) refl
 pub templates-reopened : (n : ℕ) (tag : Tag) (xs : List Open) → IsFormatting tag → open_templates (reopened n tag ∷ xs) ≡ open_templates xs
 templates-reopened n tag xs h = rw (not_template n tag h) refl
 
-pub cell-reopened : (n : ℕ) (tag : Tag) (xs : List Open) → IsFormatting tag → in_scope set.TableScope (is_in set.TdTh) (reopened n tag ∷ xs) ≡ in_scope set.TableScope (is_in set.TdTh) xs
+pub cell-reopened : (n : ℕ) (tag : Tag) (xs : List Open) → IsFormatting tag → in_scope set.TableScope
+    (is_in set.TdTh) (reopened n tag ∷ xs) ≡ in_scope set.TableScope (is_in set.TdTh) xs
 cell-reopened n tag xs h = rw (not_cell n tag h, not_bound n tag h) refl
 
 -- a mode that fits all the same once a formatting element is opened
 abbrev pub Flows : InsertionMode → Type 0
-Flows m = (n : ℕ) (tag : Tag) → IsFormatting tag → (original : Option InsertionMode) (xs : List Open) (head : Option ℕ) (modes : List InsertionMode)
-    → fits_mode m original xs head modes ≡ true → fits_head m xs ≡ true → (fits_mode m original (reopened n tag ∷ xs) head modes ≡ true) × (fits_head m (reopened n tag ∷ xs) ≡ true)
+Flows m = (n : ℕ) (tag : Tag) → IsFormatting tag → (original : Option InsertionMode) (xs : List Open)
+    (head : Option ℕ) (modes : List InsertionMode)
+    → fits_mode m original xs head modes ≡ true → fits_head m xs ≡ true
+    → (fits_mode m original (reopened n tag ∷ xs) head modes ≡ true) × (fits_head m (reopened n tag ∷ xs) ≡ true)
 
 -- a state is ready in a mode, which it has
 pub record ReadyIn (m : InsertionMode) (s : State) : Type 0 where
   pub mode : s.mode ≡ m
   pub ready : IsReady m s.orig_mode s.open_elems s.head_elem s.template_modes s.active_formatting s.context_elem s.ignore_lf s.has_ended
 
-one-Ready : (m : InsertionMode) → Flows m → (tag : Tag) → IsFormatting tag → (s : State) → ReadyIn m s → ReadyIn m (list_current tag (insert_element_for tag s))
+one-Ready : (m : InsertionMode) → Flows m → (tag : Tag) → IsFormatting tag → (s : State) → ReadyIn m s
+    → ReadyIn m (list_current tag (insert_element_for tag s))
 unfolding insert_element
 one-Ready m flows tag h s is =
     let both = flows (node_count s.forest) tag h s.orig_mode s.open_elems s.head_elem s.template_modes is.ready.fit is.ready.in_head in
@@ -75,14 +79,26 @@ one-Ready m flows tag h s is =
     }
 
 -- with entries of formatting elements in place of its own a state stays ready
-relisted : (m : InsertionMode) (entries : List Entry) → are_formatting entries ≡ true → (s : State) → ReadyIn m s → ReadyIn m (record s { active_formatting = entries })
-relisted m entries h s is = record { mode = is.mode; ready = record { fit = is.ready.fit; templates = is.ready.templates; in_head = is.ready.in_head; listed = h; kept_lf = is.ready.kept_lf; going = is.ready.going } }
+relisted : (m : InsertionMode) (entries : List Entry) → are_formatting entries ≡ true → (s : State) → ReadyIn m s
+    → ReadyIn m (record s { active_formatting = entries })
+relisted m entries h s is = record {
+  mode = is.mode;
+  ready = record {
+    fit = is.ready.fit;
+    templates = is.ready.templates;
+    in_head = is.ready.in_head;
+    listed = h;
+    kept_lf = is.ready.kept_lf;
+    going = is.ready.going;
+  };
+}
 
 choose-ReadyIn : (m : InsertionMode) (b : Bool) (x y : State) → ReadyIn m x → ReadyIn m y → ReadyIn m (choose b (λ _. x) (λ _. y))
 choose-ReadyIn m true x y h k = h
 choose-ReadyIn m false x y h k = k
 
-reopen-Ready : (m : InsertionMode) → Flows m → (entries : List Entry) → are_formatting entries ≡ true → (s : State) → ReadyIn m s → ReadyIn m (reopen entries s)
+reopen-Ready : (m : InsertionMode) → Flows m → (entries : List Entry) → are_formatting entries ≡ true → (s : State)
+    → ReadyIn m s → ReadyIn m (reopen entries s)
 reopen-Ready m flows [] h s is = relisted m [] refl s is
 reopen-Ready m flows (Marker ∷ entries) h s is = relisted m (Marker ∷ entries) h s is
 reopen-Ready m flows (Element n tag ∷ entries) h s is =

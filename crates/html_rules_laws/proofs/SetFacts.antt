@@ -16,27 +16,33 @@ abbrev pub all_among : List (List ℕ) → List (List ℕ) → Bool
 all_among [] names = true
 all_among (x ∷ xs) names = is_among x names && all_among xs names
 
-pub among-all : (name : List ℕ) (xs names : List (List ℕ)) → all_among xs names ≡ true → is_among name xs ≡ true → is_among name names ≡ true
+pub among-all : (name : List ℕ) (xs names : List (List ℕ)) → all_among xs names ≡ true → is_among name xs ≡ true
+    → is_among name names ≡ true
 among-all name [] names h k = absurd (true≢false (sym k))
 among-all name (x ∷ xs) names h k =
     let parts = and_parts (is_among x names) (all_among xs names) h in
     by (bytes_eq name x) refl k parts.0 (λ k. among-all name xs names parts.1 k)
   where
-    by : (b : Bool) → bytes_eq name x ≡ b → (b || is_among name xs) ≡ true → is_among x names ≡ true → (is_among name xs ≡ true → is_among name names ≡ true) → is_among name names ≡ true
+    by : (b : Bool) → bytes_eq name x ≡ b → (b || is_among name xs) ≡ true → is_among x names ≡ true
+        → (is_among name xs ≡ true → is_among name names ≡ true) → is_among name names ≡ true
     by true e k first rest = subst (λ y. is_among y names ≡ true) (sym ((bytes_eq-Decides name x).0 e)) first
     by false e k first rest = rest k
 
 -- whether a set has all that another has
 abbrev pub within : TagSet → TagSet → Bool
-within a b = all_among (names_of a) (names_of b) && (all_among (mathml_names_of a) (mathml_names_of b) && all_among (svg_names_of a) (svg_names_of b))
+within a b = all_among (names_of a) (names_of b)
+    && (all_among (mathml_names_of a) (mathml_names_of b) && all_among (svg_names_of a) (svg_names_of b))
 
 -- whether two sets have nothing in common
 abbrev pub apart : TagSet → TagSet → Bool
-apart a b = not (shares_name (names_of a) (names_of b)) && (not (shares_name (mathml_names_of a) (mathml_names_of b)) && not (shares_name (svg_names_of a) (svg_names_of b)))
+apart a b = not (shares_name (names_of a) (names_of b))
+    && (not (shares_name (mathml_names_of a) (mathml_names_of b)) && not (shares_name (svg_names_of a) (svg_names_of b)))
 
-in_by : (a b : TagSet) → within a b ≡ true → (namespace : Namespace) (name : List ℕ) → is_among name (names_in namespace a) ≡ true → is_among name (names_in namespace b) ≡ true
+in_by : (a b : TagSet) → within a b ≡ true → (namespace : Namespace) (name : List ℕ)
+    → is_among name (names_in namespace a) ≡ true → is_among name (names_in namespace b) ≡ true
 in_by a b w namespace name = by namespace where
-  html : (all_among (names_of a) (names_of b) ≡ true) × ((all_among (mathml_names_of a) (mathml_names_of b) && all_among (svg_names_of a) (svg_names_of b)) ≡ true)
+  html : (all_among (names_of a) (names_of b) ≡ true)
+      × ((all_among (mathml_names_of a) (mathml_names_of b) && all_among (svg_names_of a) (svg_names_of b)) ≡ true)
   html = and_parts (all_among (names_of a) (names_of b)) _ w
 
   others : (all_among (mathml_names_of a) (mathml_names_of b) ≡ true) × (all_among (svg_names_of a) (svg_names_of b) ≡ true)
@@ -57,9 +63,11 @@ out-within a b w x h = by (is_in a x) refl where
   by true e = absurd (true≢false (sym (in-within a b w x e) ∙ h))
   by false e = e
 
-out_by : (a b : TagSet) → apart a b ≡ true → (namespace : Namespace) (name : List ℕ) → is_among name (names_in namespace a) ≡ true → is_among name (names_in namespace b) ≡ false
+out_by : (a b : TagSet) → apart a b ≡ true → (namespace : Namespace) (name : List ℕ)
+    → is_among name (names_in namespace a) ≡ true → is_among name (names_in namespace b) ≡ false
 out_by a b w namespace name = by namespace where
-  html : (not (shares_name (names_of a) (names_of b)) ≡ true) × ((not (shares_name (mathml_names_of a) (mathml_names_of b)) && not (shares_name (svg_names_of a) (svg_names_of b))) ≡ true)
+  html : (not (shares_name (names_of a) (names_of b)) ≡ true)
+      × ((not (shares_name (mathml_names_of a) (mathml_names_of b)) && not (shares_name (svg_names_of a) (svg_names_of b))) ≡ true)
   html = and_parts (not (shares_name (names_of a) (names_of b))) _ w
 
   others : (not (shares_name (mathml_names_of a) (mathml_names_of b)) ≡ true) × (not (shares_name (svg_names_of a) (svg_names_of b)) ≡ true)

@@ -11,6 +11,9 @@ use Rattle.html_rules_laws.specs.Soundness.{IsOwn}
 
 -- no token of a text is refused, over a tree with the document on top, with whatever options
 pub record IsEachTextTaken : Type 0 where
-  pub document : (table : List Row) (opts : TokenizerOpts) (setting : Setting) (f : Forest) → IsTree f → above_of f 0 ≡ None → (text : List ℕ) → IsOk (document table opts setting f text)
-  pub fragment : (table : List Row) (opts : TokenizerOpts) (setting : Setting) (context : Open) (form : Option ℕ) (scripting : Bool) (f : Forest) → IsTree f → above_of f 0 ≡ None → IsOwn context.namespace → IfSome form (λ n. element_name (data_of f n) ≡ Some (element_name_of Html (codes "form"))) → (text : List ℕ)
+  pub document : (table : List Row) (opts : TokenizerOpts) (setting : Setting) (f : Forest) → IsTree f
+      → above_of f 0 ≡ None → (text : List ℕ) → IsOk (document table opts setting f text)
+  pub fragment : (table : List Row) (opts : TokenizerOpts) (setting : Setting) (context : Open) (form : Option ℕ)
+      (scripting : Bool) (f : Forest) → IsTree f → above_of f 0 ≡ None → IsOwn context.namespace
+      → IfSome form (λ n. element_name (data_of f n) ≡ Some (element_name_of Html (codes "form"))) → (text : List ℕ)
       → IsOk (fragment table opts setting context form scripting f text)

@@ -23,14 +23,19 @@ is_raw_place (InRaw kind) = true
 is_raw_place (InTag tag) = is_end_tag tag.kind
 is_raw_place p = false
 
--- Where a reading stands and the state that the rules have made of all before, item by item from where a document or a fragment begins, over
--- a tree with the document on top, with whatever options and whatever text.
+-- Where a reading stands and the state that the rules have made of all before, item by item from where a document or a fragment begins,
+-- over a tree with the document on top, with whatever options and whatever text.
 pub data Met (table : List Row) : Stand → State → Type 0 where
-  document : (opts : TokenizerOpts) (setting : Setting) (f : Forest) → IsTree f → above_of f 0 ≡ None → Met table (stand_of opts) (hushed (before_document setting f))
-  fragment : (opts : TokenizerOpts) (setting : Setting) (context : Open) (form : Option ℕ) (scripting : Bool) (f : Forest) → IsTree f → above_of f 0 ≡ None → IsOwn context.namespace
-      → IfSome form (λ n. element_name (data_of f n) ≡ Some (element_name_of Html (codes "form"))) → Met table (stand_of (record opts { initial_state = Some (tokenizer_state context scripting) })) (hushed (before_fragment setting context form f))
+  document : (opts : TokenizerOpts) (setting : Setting) (f : Forest) → IsTree f → above_of f 0 ≡ None
+      → Met table (stand_of opts) (hushed (before_document setting f))
+  fragment : (opts : TokenizerOpts) (setting : Setting) (context : Open) (form : Option ℕ) (scripting : Bool)
+      (f : Forest) → IsTree f → above_of f 0 ≡ None → IsOwn context.namespace
+      → IfSome form (λ n. element_name (data_of f n) ≡ Some (element_name_of Html (codes "form")))
+      → Met table (stand_of (record opts { initial_state = Some (tokenizer_state context scripting) }))
+      (hushed (before_fragment setting context form f))
   behind : (st : Stand) (s r : State) (c : ℕ) (t : List ℕ) (breaks : ℕ) (reply : Reply) → Met table st s
-      → said step (λ fault s. s) (item table (asks_cdata s) st c t).fault (item table (asks_cdata s) st c t).token breaks s ≡ Ok (r, reply) → Met table (next_stand (item table (asks_cdata s) st c t).next reply) r
+      → said step (λ fault s. s) (item table (asks_cdata s) st c t).fault (item table (asks_cdata s) st c t).token
+      breaks s ≡ Ok (r, reply) → Met table (next_stand (item table (asks_cdata s) st c t).next reply) r
 
 -- the current node is HTML's of the name of the last start tag
 abbrev pub is_last_opened : Option (List ℕ) → List Open → Bool

@@ -1,5 +1,6 @@
 -- How the open elements nest, and what each mode has of them.
-use Rattle.std.specs.Prelude.{◌≡◌, ℕ, Bool, true, false, ◌||◌, ◌&&◌, not, List, [], ◌∷◌, length, Option, Some, None, Ok, IfErr, IfOk, IfSome, codes}
+use Rattle.std.specs.Prelude.{◌≡◌, ℕ, Bool, true, false, ◌||◌, ◌&&◌, not, List, [], ◌∷◌, length, Option, Some, None, Ok, IfErr}
+use Rattle.std.specs.Prelude.{IfOk, IfSome, codes}
 use Rattle.markup.specs.Forest.{Forest, above_of, data_of, element_name}
 use Rattle.markup.specs.Named.{IsTree}
 use Rattle.html_tokens.specs.Sink.{Reply, Unfit}
@@ -15,7 +16,12 @@ use Rattle.html_rules.specs.Stack.{open_templates}
 use Rattle.html_rules.specs.State.{Open, State, is_in}
 use Rattle.html_rules.specs.Step.{step}
 use Rattle.html_rules.specs.declared.insertion_mode.InsertionMode.{InsertionMode}
-use Rattle.html_rules.specs.declared.insertion_mode.InsertionMode.TheVariants.{Initial, BeforeHtml, BeforeHead, InHead, InHeadNoscript, AfterHead, InBody, Text, InTable, InTableText, InCaption, InColumnGroup, InTableBody, InRow, InCell, InTemplate, AfterBody, InFrameset, AfterFrameset, AfterAfterBody, AfterAfterFrameset}
+use Rattle.html_rules.specs.declared.insertion_mode.InsertionMode.TheVariants.{Initial, BeforeHtml, BeforeHead, InHead}
+use Rattle.html_rules.specs.declared.insertion_mode.InsertionMode.TheVariants.{InHeadNoscript, AfterHead, InBody, Text, InTable}
+use Rattle.html_rules.specs.declared.insertion_mode.InsertionMode.TheVariants.{InTableText, InCaption, InColumnGroup}
+use Rattle.html_rules.specs.declared.insertion_mode.InsertionMode.TheVariants.{InTableBody, InRow, InCell, InTemplate}
+use Rattle.html_rules.specs.declared.insertion_mode.InsertionMode.TheVariants.{AfterBody, InFrameset, AfterFrameset}
+use Rattle.html_rules.specs.declared.insertion_mode.InsertionMode.TheVariants.{AfterAfterBody, AfterAfterFrameset}
 use Rattle.html_rules.specs.declared.tag_set.TagSet.{TagSet}
 use Rattle.html_rules.specs.declared.tag_set.TagSet.TheVariants as set
 use Rattle.html_rules_laws.specs.Held.{wanted}
@@ -250,14 +256,19 @@ pub record AreNestedStatesFit : Type 0 where
   pub fit : (s : State) → Sound s → IsNested s → is_fit s ≡ true
   -- the states before the first token are such, where a fragment's form is one
   pub document : (setting : Setting) (f : Forest) → IsNested (before_document setting f)
-  pub fragment : (setting : Setting) (context : Open) (form : Option ℕ) (f : Forest) → IsTree f → IfSome form (λ n. element_name (data_of f n) ≡ Some (element_name_of Html (codes "form"))) → IsNested (before_fragment setting context form f)
+  pub fragment : (setting : Setting) (context : Open) (form : Option ℕ) (f : Forest) → IsTree f
+      → IfSome form (λ n. element_name (data_of f n) ≡ Some (element_name_of Html (codes "form")))
+      → IsNested (before_fragment setting context form f)
   -- turns lead to such states
   pub turn : (t : Token) (s : State) → MayCome t s → IsNested s → IsNested (turn t s).state
 
 -- states to which tokens lead from those before a document or a fragment, over a tree with the document on top
 pub data Reached : State → Type 0 where
   document : (setting : Setting) (f : Forest) → IsTree f → above_of f 0 ≡ None → Reached (before_document setting f)
-  fragment : (setting : Setting) (context : Open) (form : Option ℕ) (f : Forest) → IsTree f → above_of f 0 ≡ None → IsOwn context.namespace → IfSome form (λ n. element_name (data_of f n) ≡ Some (element_name_of Html (codes "form"))) → Reached (before_fragment setting context form f)
+  fragment : (setting : Setting) (context : Open) (form : Option ℕ) (f : Forest) → IsTree f → above_of f 0 ≡ None
+      → IsOwn context.namespace
+      → IfSome form (λ n. element_name (data_of f n) ≡ Some (element_name_of Html (codes "form")))
+      → Reached (before_fragment setting context form f)
   token : (s r : State) (t : Token) (line : ℕ) (reply : Reply) → Reached s → step s t line ≡ Ok (r, reply) → Reached r
 
 pub record AreReachedStatesFit : Type 0 where

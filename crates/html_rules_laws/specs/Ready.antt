@@ -31,7 +31,8 @@ fits_head InHeadNoscript xs = is_over_head xs
 fits_head mode xs = true
 
 -- a state that fits, in which nothing else stands in the head, whose listed elements are formatting elements
-pub record IsReady (mode : InsertionMode) (original : Option InsertionMode) (xs : List Open) (head : Option ℕ) (modes : List InsertionMode) (entries : List Entry) (context : Option Open) (ignore_lf has_ended : Bool) : Type 0 where
+pub record IsReady (mode : InsertionMode) (original : Option InsertionMode) (xs : List Open) (head : Option ℕ)
+    (modes : List InsertionMode) (entries : List Entry) (context : Option Open) (ignore_lf has_ended : Bool) : Type 0 where
   pub fit : fits_mode mode original xs head modes ≡ true
   pub templates : has_template_modes modes xs context ≡ true
   pub in_head : fits_head mode xs ≡ true

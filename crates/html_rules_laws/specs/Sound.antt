@@ -7,7 +7,9 @@ use Rattle.html_rules.specs.Shape.{has_template_modes, is_at_root}
 use Rattle.html_rules.specs.Stack.{has_open}
 use Rattle.html_rules.specs.State.{Open, State, is_in}
 use Rattle.html_rules.specs.declared.insertion_mode.InsertionMode.{InsertionMode}
-use Rattle.html_rules.specs.declared.insertion_mode.InsertionMode.TheVariants.{Initial, BeforeHtml, BeforeHead, InHead, InHeadNoscript, Text, InTable, InTableText, InTableBody, InRow}
+use Rattle.html_rules.specs.declared.insertion_mode.InsertionMode.TheVariants.{Initial, BeforeHtml, BeforeHead, InHead}
+use Rattle.html_rules.specs.declared.insertion_mode.InsertionMode.TheVariants.{InHeadNoscript, Text, InTable, InTableText}
+use Rattle.html_rules.specs.declared.insertion_mode.InsertionMode.TheVariants.{InTableBody, InRow}
 use Rattle.html_rules.specs.declared.tag_set.TagSet.TheVariants as set
 use Rattle.html_rules_laws.specs.Placing.{are_general, is_in_head, stand_well}
 use Rattle.html_rules_laws.specs.Ready.{are_formatting}
@@ -84,4 +86,5 @@ pub record Sound (s : State) : Type 0 where
   pub head : has_its_head s.mode s.head_elem s.context_elem ≡ true
   pub original : is_later_original s.orig_mode ≡ true
   -- where each open template has its mode, and there is a root, all elements are where the mode wants them
-  pub placed : s.has_ended ≡ false → has_template_modes s.template_modes s.open_elems s.context_elem ≡ true → (is_later s.mode ≡ true → has_open set.Html s.open_elems ≡ true) → are_placed_in s.mode s.orig_mode s.open_elems ≡ true
+  pub placed : s.has_ended ≡ false → has_template_modes s.template_modes s.open_elems s.context_elem ≡ true
+      → (is_later s.mode ≡ true → has_open set.Html s.open_elems ≡ true) → are_placed_in s.mode s.orig_mode s.open_elems ≡ true

@@ -69,4 +69,5 @@ pub record AreActionsStanding : Type 0 where
   -- a start tag in foreign content, where a context has a namespace of its own
   pub foreign : (tag : Tag) (s : State) → IfSome s.context_elem (λ c. IsOwn c.namespace) → Standing s → Standing (foreign_start tag s)
   -- a head that is opened again, which stands above nothing that is open
-  pub head : (n : ℕ) (s : State) → s.head_elem ≡ Some n → element_name (data_of s.forest n) ≡ Some (element_name_of Html (codes "head")) → IsClear s.forest n s.open_elems → Standing s → Standing (push_head_elem s)
+  pub head : (n : ℕ) (s : State) → s.head_elem ≡ Some n → element_name (data_of s.forest n) ≡ Some
+      (element_name_of Html (codes "head")) → IsClear s.forest n s.open_elems → Standing s → Standing (push_head_elem s)

@@ -64,12 +64,16 @@ pub record Steady (s : State) : Type 0 where
 pub record AreStatesSteady : Type 0 where
   -- so are the states before the first token, over a tree with the document on top
   pub document : (setting : Setting) (f : Forest) → IsTree f → above_of f 0 ≡ None → Steady (before_document setting f)
-  pub fragment : (setting : Setting) (context : Open) (form : Option ℕ) (f : Forest) → IsTree f → above_of f 0 ≡ None → IsOwn context.namespace → Steady (before_fragment setting context form f)
+  pub fragment : (setting : Setting) (context : Open) (form : Option ℕ) (f : Forest) → IsTree f
+      → above_of f 0 ≡ None → IsOwn context.namespace → Steady (before_fragment setting context form f)
   -- every token and the end lead to such states
   pub step : (s : State) → Steady s → (t : Token) (line : ℕ) → IfOk (step s t line) (λ p. Steady p.0)
   pub ended : (s : State) → Steady s → Steady (ended s)
   -- within a token: it may come to such a state, and again to where a turn leads that takes it again
   pub begins : (s : State) → Steady s → s.has_ended ≡ false → is_fit s ≡ true → (t : Token) → MayCome t s
-  pub turn : (t : Token) (s : State) → MayCome t s → Held (turn t s).state × (Upright (turn t s).state × ((turn t s).ends ≡ Again → MayCome t (turn t s).state))
+  pub turn : (t : Token) (s : State) → MayCome t s → Held (turn t s).state
+      × (Upright (turn t s).state × ((turn t s).ends ≡ Again → MayCome t (turn t s).state))
   -- a head that is opened again is a `head`, and stands above nothing that is open
-  pub head : (t : Token) (s : State) → MayCome t s → is_head_start t ≡ true → s.mode ≡ AfterHead → IfSome s.head_elem (λ n. (element_name (data_of s.forest n) ≡ Some (element_name_of Html (codes "head"))) × IsClear s.forest n s.open_elems)
+  pub head : (t : Token) (s : State) → MayCome t s → is_head_start t ≡ true → s.mode ≡ AfterHead
+      → IfSome s.head_elem (λ n. (element_name (data_of s.forest n) ≡ Some (element_name_of Html (codes "head")))
+      × IsClear s.forest n s.open_elems)

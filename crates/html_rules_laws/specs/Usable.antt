@@ -24,4 +24,7 @@ pub record AreStatesUsable : Type 0 where
   pub sink : SinkLaws Usable step ended is_quiet
   -- the states before the first token are usable, over a tree with the document on top
   pub document : (setting : Setting) (f : Forest) → IsTree f → above_of f 0 ≡ None → Usable (hushed (before_document setting f))
-  pub fragment : (setting : Setting) (context : Open) (form : Option ℕ) (f : Forest) → IsTree f → above_of f 0 ≡ None → IsOwn context.namespace → IsNode f context.number → IfSome form (λ n. element_name (data_of f n) ≡ Some (element_name_of Html (codes "form"))) → Usable (hushed (before_fragment setting context form f))
+  pub fragment : (setting : Setting) (context : Open) (form : Option ℕ) (f : Forest) → IsTree f
+      → above_of f 0 ≡ None → IsOwn context.namespace → IsNode f context.number
+      → IfSome form (λ n. element_name (data_of f n) ≡ Some (element_name_of Html (codes "form")))
+      → Usable (hushed (before_fragment setting context form f))

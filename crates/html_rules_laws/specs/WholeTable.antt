@@ -5,12 +5,14 @@ use Rattle.html_tokens.specs.Tags.{named}
 use Rattle.html_tokens.specs.declared.tags.TagKind.{TagKind}
 use Rattle.html_tokens.specs.declared.tags.TagKind.TheVariants.{StartTag, EndTag}
 use Rattle.html_tokens.specs.declared.token.Token.{Token}
-use Rattle.html_tokens.specs.declared.token.Token.TheVariants.{DoctypeToken, TagToken, CommentToken, CharacterTokens, NullCharacterToken, EOFToken}
+use Rattle.html_tokens.specs.declared.token.Token.TheVariants.{DoctypeToken, TagToken, CommentToken, CharacterTokens}
+use Rattle.html_tokens.specs.declared.token.Token.TheVariants.{NullCharacterToken, EOFToken}
 use Rattle.html_rules.specs.Modes.Foreign.{in_foreign_content}
 use Rattle.html_rules.specs.Rules.{fits, most_modes, rows, using_rules_for}
 use Rattle.html_rules.specs.Sets.{names_of}
 use Rattle.html_rules.specs.State.{State}
-use Rattle.html_rules.specs.Table.{Row, Class, StartTags, EndTags, AnyStartTag, AnyEndTag, WhiteSpace, Character, Null, Comment, EndOfFile, AnythingElse, Condition, Always}
+use Rattle.html_rules.specs.Table.{Row, Class, StartTags, EndTags, AnyStartTag, AnyEndTag, WhiteSpace, Character, Null, Comment}
+use Rattle.html_rules.specs.Table.{EndOfFile, AnythingElse, Condition, Always}
 use Rattle.html_rules.specs.Tokens.{class_fits}
 use Rattle.html_rules.specs.declared.insertion_mode.InsertionMode.{InsertionMode}
 
@@ -36,7 +38,8 @@ other_name = codes "x-y"
 -- a token of each kind
 abbrev pub each_kind : List Token
 each_kind =
-    tag_named StartTag other_name ∷ tag_named EndTag other_name ∷ CharacterTokens (codes " ") ∷ CharacterTokens (codes "x") ∷ NullCharacterToken ∷ CommentToken [] ∷ EOFToken
+    tag_named StartTag other_name ∷ tag_named EndTag other_name ∷ CharacterTokens (codes " ") ∷
+    CharacterTokens (codes "x") ∷ NullCharacterToken ∷ CommentToken [] ∷ EOFToken
     ∷ DoctypeToken (record { name = None; public_id = None; system_id = None; force_quirks = false })
     ∷ []
 
@@ -71,4 +74,5 @@ IsEachRowReached = ((m : InsertionMode) → are_reached [] (rows m) ≡ true) ×
 
 -- the rules of a mode use those of others, and these those of others, but no further than `most_modes` allows
 abbrev pub IsEachUseEnding : Type 0
-IsEachUseEnding = (n : ℕ) (m : InsertionMode) (t : Token) (s : State) → using_rules_for (suc (suc (suc (suc n)))) m t s ≡ using_rules_for most_modes m t s
+IsEachUseEnding = (n : ℕ) (m : InsertionMode) (t : Token) (s : State) → using_rules_for (suc (suc (suc (suc n)))) m
+    t s ≡ using_rules_for most_modes m t s

@@ -69,8 +69,8 @@ pub fn each_text_has_a_document()
     ensures { IsEachTextTaken }
 {}
 
-/// While a text is read, from where a document or a fragment begins, the mode is "text" only where the tokenizer stands in raw text, or in an
-/// end tag there, and the last start tag has the name of the current node; and the state fits its mode.
+/// While a text is read, from where a document or a fragment begins, the mode is "text" only where the tokenizer stands in raw text, or
+/// in an end tag there, and the last start tag has the name of the current node; and the state fits its mode.
 pub fn text_mode_comes_with_raw_text()
     ensures { AreJoint }
 {}

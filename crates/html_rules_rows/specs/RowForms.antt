@@ -26,7 +26,11 @@ abbrev pub default_setting : Setting
 default_setting = record {
   opts = record { scripting_enabled = true; iframe_srcdoc = false; drop_doctype = false };
   quirks_mode = NoQuirks;
-  answers = record { integration_point = λ f n. integration_point_of (data_of f n); allows_shadow_roots = λ f n. true; attaches_shadow = λ f host template attributes. false };
+  answers = record {
+    integration_point = λ f n. integration_point_of (data_of f n);
+    allows_shadow_roots = λ f n. true;
+    attaches_shadow = λ f host template attributes. false;
+  };
 }
 
 -- what is written of the document of a text

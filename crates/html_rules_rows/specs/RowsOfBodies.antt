@@ -22,7 +22,8 @@ body_rows =
     ∷ row "</body><!" "<html><head></head><body></body><!----></html>"
     -- else
     ∷ body_row "</body><" "&lt;"
-    -- end of input; "after head", </body html br>; "before head", </head body html br>; "before html", </head body html br>; "in body", </body>; "in head", </body html br>
+    -- end of input; "after head", </body html br>; "before head", </head body html br>; "before html", </head body html br>; "in body",
+    -- </body>; "in head", </body html br>
     ∷ body_row "</body>" ""
     -- space
     ∷ body_row "</body> " " "

@@ -14,7 +14,12 @@ pub record DoctypeRow : Type 0 where
 
 -- by name, public and system identifier
 abbrev doctype : Option (List ℕ) → Option (List ℕ) → Option (List ℕ) → Bool → QuirksMode → DoctypeRow
-doctype name public_id system_id error quirks = record { doctype = record { name = name; public_id = public_id; system_id = system_id; force_quirks = false }; error = error; quirks = quirks }
+doctype name public_id system_id error quirks =
+    record {
+      doctype = record { name = name; public_id = public_id; system_id = system_id; force_quirks = false };
+      error = error;
+      quirks = quirks;
+    }
 
 abbrev forced : DoctypeRow → DoctypeRow
 forced r = record r { doctype = record r.doctype { force_quirks = true } }

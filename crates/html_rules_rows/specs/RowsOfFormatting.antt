@@ -13,7 +13,8 @@ formatting_rows =
     -- adoption current unlisted
     ∷ body_row "<b><b><b><b></b></b></b></b>" "<b><b><b><b></b></b></b></b>"
     -- adoption eight turns
-    ∷ body_row "<a><div><div><div><div><div><div><div><div><a>" "<a></a><div><a></a><div><a></a><div><a></a><div><a></a><div><a></a><div><a></a><div><a></a><div><a><a></a></a></div></div></div></div></div></div></div></div>"
+    ∷ body_row "<a><div><div><div><div><div><div><div><div><a>"
+    "<a></a><div><a></a><div><a></a><div><a></a><div><a></a><div><a></a><div><a></a><div><a></a><div><a><a></a></a></div></div></div></div></div></div></div></div>"
     -- adoption in place of F
     ∷ body_row "<a><div><a>" "<a></a><div><a></a><a></a></div>"
     -- adoption no B

@@ -21,7 +21,12 @@ abbrev in_html : String → String → String → FragmentRow
 in_html context input output = record { namespace = Html; context = codes context; input = codes input; output = codes output }
 
 abbrev in_other : Namespace → String → String → String → FragmentRow
-in_other namespace context input output = record { namespace = namespace; context = codes context; input = codes input; output = codes output }
+in_other namespace context input output = record {
+  namespace = namespace;
+  context = codes context;
+  input = codes input;
+  output = codes output;
+}
 
 -- a document with the context in its forest, which stands nowhere
 abbrev with_context : FragmentRow → Forest
@@ -35,7 +40,8 @@ inner_by root (Err refusal) = codes "refused"
 abbrev read_fragment : FragmentRow → List ℕ
 read_fragment r =
     let f = with_context r in
-    inner_by (node_count f) (fragment five default_options default_setting (record { number = 1; namespace = r.namespace; name = r.context }) None true f r.input)
+    inner_by (node_count f) (fragment five default_options default_setting
+    (record { number = 1; namespace = r.namespace; name = r.context }) None true f r.input)
 
 abbrev pub fragment_rows : List FragmentRow
 fragment_rows =

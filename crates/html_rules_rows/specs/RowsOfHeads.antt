@@ -55,17 +55,21 @@ head_rows =
     -- hint by charset
     ∷ row "<link charset>" "<html><head><link charset=\"\"></head><body></body></html>"
     -- hint by content; hint unquoted
-    ∷ row "<meta http-equiv=\"Content-Type\"content=charset=b>" "<html><head><meta http-equiv=\"Content-Type\" content=\"charset=b\"></head><body></body></html>"
+    ∷ row "<meta http-equiv=\"Content-Type\"content=charset=b>"
+    "<html><head><meta http-equiv=\"Content-Type\" content=\"charset=b\"></head><body></body></html>"
     -- http-equiv without hint
     ∷ row "<meta http-equiv=content-type>" "<html><head><meta http-equiv=\"content-type\"></head><body></body></html>"
     -- space
     ∷ row_of (codes "<script></script>" ++ 10 ∷ []) (codes "<html><head><script></script>" ++ 10 ∷ codes "</head><body></body></html>")
     -- hint nothing follows
-    ∷ row "<meta http-equiv=content-type content=\"charset=\">" "<html><head><meta http-equiv=\"content-type\" content=\"charset=\"></head><body></body></html>"
+    ∷ row "<meta http-equiv=content-type content=\"charset=\">"
+    "<html><head><meta http-equiv=\"content-type\" content=\"charset=\"></head><body></body></html>"
     -- hint quoted
-    ∷ row "<meta http-equiv=content-type content=charset=''>" "<html><head><meta http-equiv=\"content-type\" content=\"charset=''\"></head><body></body></html>"
+    ∷ row "<meta http-equiv=content-type content=charset=''>"
+    "<html><head><meta http-equiv=\"content-type\" content=\"charset=''\"></head><body></body></html>"
     -- hint without the closing quote
-    ∷ row "<link http-equiv=CONTENT-TYPE content=charset='>" "<html><head><link http-equiv=\"CONTENT-TYPE\" content=\"charset='\"></head><body></body></html>"
+    ∷ row "<link http-equiv=CONTENT-TYPE content=charset='>"
+    "<html><head><link http-equiv=\"CONTENT-TYPE\" content=\"charset='\"></head><body></body></html>"
     -- self-closing err
     ∷ body_row "<e/>" "<e></e>"
     ∷ []

@@ -7,8 +7,10 @@ page_rows =
     -- what is missing is there all the same
     body_row "" ""
     ∷ page_row "<p>a<br>b" "<p>a<br>b</p>"
-    ∷ row "<meta charset=\"UTF-8\" /><meta charset=\"UTF-8\" /> other stuff" "<html><head><meta charset=\"UTF-8\"><meta charset=\"UTF-8\"> </head><body>other stuff</body></html>"
-    ∷ row "<!DOCTYPE html><title>&lt;/title></title><a href=\"x&amp;y\">z" "<!DOCTYPE html><html><head><title>&lt;/title&gt;</title></head><body><a href=\"x&amp;y\">z</a></body></html>"
+    ∷ row "<meta charset=\"UTF-8\" /><meta charset=\"UTF-8\" /> other stuff"
+    "<html><head><meta charset=\"UTF-8\"><meta charset=\"UTF-8\"> </head><body>other stuff</body></html>"
+    ∷ row "<!DOCTYPE html><title>&lt;/title></title><a href=\"x&amp;y\">z"
+    "<!DOCTYPE html><html><head><title>&lt;/title&gt;</title></head><body><a href=\"x&amp;y\">z</a></body></html>"
     -- misnested formatting elements
     ∷ body_row "<p>1<b>2<i>3</b>4</i>5</p>" "<p>1<b>2<i>3</i></b><i>4</i>5</p>"
     ∷ page_row "<b>1<p>2</b>3</p>" "<b>1</b><p><b>2</b>3</p>"
@@ -38,10 +40,12 @@ page_rows =
     ∷ page_row "<table><tr><td><!-- c --></table>" "<table><tbody><tr><td><!-- c --></td></tr></tbody></table>"
     -- templates
     ∷ row "<!DOCTYPE html><template><p>a" "<!DOCTYPE html><html><head><template><p>a</p></template></head><body></body></html>"
-    ∷ row "<!DOCTYPE html><template><tr><td>a</template>b" "<!DOCTYPE html><html><head><template><tr><td>a</td></tr></template></head><body>b</body></html>"
+    ∷ row "<!DOCTYPE html><template><tr><td>a</template>b"
+    "<!DOCTYPE html><html><head><template><tr><td>a</td></tr></template></head><body>b</body></html>"
     -- foreign content
     ∷ page_row "<svg><![CDATA[a<b]]></svg>" "<svg>a&lt;b</svg>"
-    ∷ page_row "<svg viewbox=\"0\"><foreignobject>a</foreignobject><circle/></svg>b" "<svg viewBox=\"0\"><foreignObject>a</foreignObject><circle></circle></svg>b"
+    ∷ page_row "<svg viewbox=\"0\"><foreignobject>a</foreignobject><circle/></svg>b"
+    "<svg viewBox=\"0\"><foreignObject>a</foreignObject><circle></circle></svg>b"
     ∷ page_row "<svg><p>a" "<svg></svg><p>a</p>"
     ∷ page_row_of (codes "<svg>a" ++ 0 ∷ []) (codes "<svg>a" ++ 0xFFFD ∷ codes "</svg>")
     -- framesets
@@ -49,8 +53,12 @@ page_rows =
     ∷ row "<!DOCTYPE html><p><frameset>" "<!DOCTYPE html><html><head></head><frameset></frameset></html>"
     ∷ page_row "a<frameset>" "a"
     -- pages that are written as they are read
-    ∷ row "<!DOCTYPE html><html><head> <title></title></head> <body><ul> <li>a</li></ul></body></html>" "<!DOCTYPE html><html><head> <title></title></head> <body><ul> <li>a</li></ul></body></html>"
-    ∷ row "<!DOCTYPE html><html><head></head><body><p><a href=\"x\"><b>1</b></a></p><div><b><b><b><b>y</b></b></b></b>z</div></body></html>" "<!DOCTYPE html><html><head></head><body><p><a href=\"x\"><b>1</b></a></p><div><b><b><b><b>y</b></b></b></b>z</div></body></html>"
+    ∷ row "<!DOCTYPE html><html><head> <title></title></head> <body><ul> <li>a</li></ul></body></html>"
+    "<!DOCTYPE html><html><head> <title></title></head> <body><ul> <li>a</li></ul></body></html>"
+    ∷
+    row
+    "<!DOCTYPE html><html><head></head><body><p><a href=\"x\"><b>1</b></a></p><div><b><b><b><b>y</b></b></b></b>z</div></body></html>"
+    "<!DOCTYPE html><html><head></head><body><p><a href=\"x\"><b>1</b></a></p><div><b><b><b><b>y</b></b></b></b>z</div></body></html>"
     ∷ []
 
 abbrev pub ArePageRowsRead : Type 0

@@ -19,8 +19,12 @@ loud text = (codes text, false)
 abbrev pub quiet_rows : List (List ℕ × Bool)
 quiet_rows =
     quiet "<!DOCTYPE html><html><head> <title>a&lt;b</title></head> <body><ul> <li>a</li></ul></body></html>"
-    ∷ quiet "<!DOCTYPE html><html><head></head><body><p><a href=\"x\"><b>1</b></a></p><div><b><b><b><b>y</b></b></b></b>z</div></body></html>"
-    ∷ quiet "<!DOCTYPE html><html><head></head><body><h1>a</h1><table> <tbody><tr> <td>1</td><th>2</th></tr></tbody></table><ol><li>b<br>c</li></ol></body></html>"
+    ∷
+    quiet
+    "<!DOCTYPE html><html><head></head><body><p><a href=\"x\"><b>1</b></a></p><div><b><b><b><b>y</b></b></b></b>z</div></body></html>"
+    ∷
+    quiet
+    "<!DOCTYPE html><html><head></head><body><h1>a</h1><table> <tbody><tr> <td>1</td><th>2</th></tr></tbody></table><ol><li>b<br>c</li></ol></body></html>"
     -- tags that are left out, where the rules allow that
     ∷ quiet "<!DOCTYPE html><title>a</title><p>a<p>b<ul><li>c<li>d</ul>"
     ∷ quiet "<!DOCTYPE html><table><tr><td>a<td>b<tr><td>c</table>"

@@ -55,7 +55,9 @@ abbrev pub AreQuirksRowsRead : Type 0
 AreQuirksRowsRead =
     (quirks_read default_setting (codes "a") ≡ Quirks)
     × (quirks_read default_setting (codes "<!DOCTYPE html>a") ≡ NoQuirks)
-    × (quirks_read default_setting (codes "<!doctype html public \"-//W3C//DTD HTML 4.01 Transitional//EN\" \"http://www.w3.org/TR/html4/loose.dtd\">") ≡ LimitedQuirks)
+    × (quirks_read default_setting
+    (codes "<!doctype html public \"-//W3C//DTD HTML 4.01 Transitional//EN\" \"http://www.w3.org/TR/html4/loose.dtd\">")
+    ≡ LimitedQuirks)
     × (quirks_read default_setting (codes "<!DOCTYPE") ≡ Quirks)
     × (quirks_read without_doctype (codes "<!DOCTYPE html>a") ≡ NoQuirks)
     × (quirks_read in_srcdoc (codes "a") ≡ NoQuirks)

@@ -44,7 +44,8 @@ table_rows =
     -- <html>
     ∷ row "<template><COlgroUp><html>" "<html><head><template><colgroup></colgroup></template></head><body></body></html>"
     -- <template>; reset InColumnGroup
-    ∷ row "<template><colgroup><template>" "<html><head><template><colgroup><template></template></colgroup></template></head><body></body></html>"
+    ∷ row "<template><colgroup><template>"
+    "<html><head><template><colgroup><template></template></colgroup></template></head><body></body></html>"
     -- comment
     ∷ body_row "<table><colgroup><!" "<table><colgroup><!----></colgroup></table>"
     -- else

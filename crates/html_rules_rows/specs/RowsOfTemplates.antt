@@ -24,7 +24,8 @@ template_rows =
     -- reset AfterHead
     ∷ row "<head></head><html><template>" "<html><head><template></template></head><body></body></html>"
     -- reset InCaption
-    ∷ row "<template><caption><template>" "<html><head><template><caption><template></template></caption></template></head><body></body></html>"
+    ∷ row "<template><caption><template>"
+    "<html><head><template><caption><template></template></caption></template></head><body></body></html>"
     -- reset InCell
     ∷ body_row "<table><td><template>" "<table><tbody><tr><td><template></template></td></tr></tbody></table>"
     -- reset InHead
@@ -36,7 +37,8 @@ template_rows =
     -- reset InTableBody
     ∷ row "<template><thead><template>" "<html><head><template><thead><template></template></thead></template></head><body></body></html>"
     -- reset not HTML
-    ∷ body_row "<math><annotation-xml encoding=text/html><template>" "<math><annotation-xml encoding=\"text/html\"><template></template></annotation-xml></math>"
+    ∷ body_row "<math><annotation-xml encoding=text/html><template>"
+    "<math><annotation-xml encoding=\"text/html\"><template></template></annotation-xml></math>"
     ∷ []
 
 abbrev pub AreTemplateRowsRead : Type 0

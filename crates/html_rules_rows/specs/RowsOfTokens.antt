@@ -16,7 +16,8 @@ use Rattle.html_rules.specs.Stack.{process_end_tag_in_body}
 use Rattle.html_rules.specs.State.{State}
 use Rattle.html_rules.specs.Step.{ended, step, taken}
 use Rattle.html_rules.specs.declared.insertion_mode.InsertionMode.{InsertionMode}
-use Rattle.html_rules.specs.declared.insertion_mode.InsertionMode.TheVariants.{InBody, InHead, AfterHead, InRow, InCell, InTable, InTemplate, Text as TextMode}
+use Rattle.html_rules.specs.declared.insertion_mode.InsertionMode.TheVariants.{InBody, InHead, AfterHead, InRow, InCell}
+use Rattle.html_rules.specs.declared.insertion_mode.InsertionMode.TheVariants.{InTable, InTemplate, Text as TextMode}
 use Rattle.html_rules_rows.specs.RowForms.{default_setting}
 
 abbrev fresh : State
@@ -49,15 +50,18 @@ AreRepliesGiven =
     ≡ Ok (RawData Rcdata) ∷ Err InText ∷ Err InText ∷ Err InText ∷ go_on ∷ go_on ∷ go_on ∷ [])
     × (answers fresh (start "script" [] ∷ text "a" ∷ end "script" [] ∷ start "style" [] ∷ end "style" [] ∷ start "plaintext" [] ∷ [])
     ≡ Ok (RawData ScriptData) ∷ go_on ∷ Ok (Script 3) ∷ Ok (RawData Rawtext) ∷ go_on ∷ Ok Plaintext ∷ [])
-    × (answers fresh (start "meta" (at "charset" "x" ∷ []) ∷ start "meta" [] ∷ EOFToken ∷ []) ≡ Ok (EncodingIndicator (codes "x")) ∷ go_on ∷ go_on ∷ [])
+    × (answers fresh (start "meta" (at "charset" "x" ∷ []) ∷ start "meta" [] ∷ EOFToken ∷ []) ≡ Ok
+    (EncodingIndicator (codes "x")) ∷ go_on ∷ go_on ∷ [])
 
 -- after the end every token is refused, an error and an empty text too
 abbrev pub AreRefusedAtEnd : Type 0
-AreRefusedAtEnd = answers (ended (told fresh (EOFToken ∷ []))) (text "" ∷ text "a" ∷ start "p" [] ∷ EOFToken ∷ []) ≡ Err AfterEnd ∷ Err AfterEnd ∷ Err AfterEnd ∷ Err AfterEnd ∷ []
+AreRefusedAtEnd = answers (ended (told fresh (EOFToken ∷ []))) (text "" ∷ text "a" ∷ start "p" [] ∷ EOFToken ∷
+    []) ≡ Err AfterEnd ∷ Err AfterEnd ∷ Err AfterEnd ∷ Err AfterEnd ∷ []
 
 -- a state whose parts do not fit takes nothing but empty texts and errors
 abbrev refuses : State → Type 0
-refuses s = answers s (text "" ∷ text "a" ∷ start "p" [] ∷ comment "c" ∷ EOFToken ∷ []) ≡ go_on ∷ Err Unfit ∷ Err Unfit ∷ Err Unfit ∷ Err Unfit ∷ []
+refuses s = answers s (text "" ∷ text "a" ∷ start "p" [] ∷ comment "c" ∷ EOFToken ∷ []) ≡ go_on ∷ Err Unfit ∷
+    Err Unfit ∷ Err Unfit ∷ Err Unfit ∷ []
 
 -- html, and in it elements of these names, opened one after the other
 abbrev opened : List (List ℕ) → State → State
@@ -82,13 +86,16 @@ abbrev names_of : State → List (List ℕ)
 names_of s = map (λ x. x.name) s.open_elems
 
 -- an end tag of which nothing is open and nothing special either is an error; a table that stands nowhere has its fosterlings at the end
--- of the element below it; `</tbody>` in a row is dropped where no `tr` is in table scope; a cell is closed by a start tag only where one is
--- in table scope
+-- of the element below it; `</tbody>` in a row is dropped where no `tr` is in table scope; a cell is closed by a start tag only where one
+-- is in table scope
 abbrev pub AreUnmetArmsMeant : Type 0
 AreUnmetArmsMeant =
-    ((process_end_tag_in_body (codes "b") (record fresh { open_elems = record { number = 0; namespace = Html; name = codes "x" } ∷ [] })).forest.errors ≡ 1)
-    × (foster_place (open_element Html (codes "table") [] false (standing InTable (codes "div" ∷ []))).forest 1 (open_element Html (codes "table") [] false (standing InTable (codes "div" ∷ []))).open_elems ≡ Last 2)
-    × (names_of (settle (end "tbody" []) (standing InRow (codes "table" ∷ codes "tbody" ∷ []))).state ≡ codes "tbody" ∷ codes "table" ∷ codes "html" ∷ [])
+    ((process_end_tag_in_body (codes "b")
+    (record fresh { open_elems = record { number = 0; namespace = Html; name = codes "x" } ∷ [] })).forest.errors ≡ 1)
+    × (foster_place (open_element Html (codes "table") [] false (standing InTable (codes "div" ∷ []))).forest 1
+    (open_element Html (codes "table") [] false (standing InTable (codes "div" ∷ []))).open_elems ≡ Last 2)
+    × (names_of (settle (end "tbody" []) (standing InRow (codes "table" ∷ codes "tbody" ∷ []))).state ≡
+    codes "tbody" ∷ codes "table" ∷ codes "html" ∷ [])
     × ((settle (end "tbody" []) (standing InRow (codes "table" ∷ codes "tbody" ∷ []))).state.forest.errors ≡ 0)
     × ((settle (start "caption" []) (standing InCell (codes "table" ∷ []))).state.forest.errors ≡ 1)
 

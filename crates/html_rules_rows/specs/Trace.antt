@@ -59,7 +59,8 @@ place_of [] t s = 0
 place_of (r ∷ rs) t s = choose (fits r t s) (λ _. 0) (λ _. suc (place_of rs t s))
 
 abbrev pub met : Token → State → Met
-met t s = choose (is_foreign s t) (λ _. ("foreign content", place_of in_foreign_content t s)) (λ _. (name_of_mode s.mode, place_of (rows s.mode) t s))
+met t s = choose (is_foreign s t) (λ _. ("foreign content", place_of in_foreign_content t s))
+    (λ _. (name_of_mode s.mode, place_of (rows s.mode) t s))
 
 abbrev again : Ending → (Unit {0} → List Met) → List Met
 again Again more = more tt
@@ -99,7 +100,8 @@ trace_by (Err refusal) = []
 
 -- what the tokens of a page meet, in their order
 abbrev pub trace : String → List TokenMet
-trace text = trace_by (reading noting (λ fault p. p) (λ p. asks_cdata p.0) (λ p. (ended p.0, p.1)) five (stand_of default_options) 0 (hushed (before_document default_setting empty_forest), []) (normal_text true (codes text)))
+trace text = trace_by (reading noting (λ fault p. p) (λ p. asks_cdata p.0) (λ p. (ended p.0, p.1)) five
+    (stand_of default_options) 0 (hushed (before_document default_setting empty_forest), []) (normal_text true (codes text)))
 
 abbrev told : String → List Met → TokenMet
 told token turns = record { token = codes token; turns = turns }

@@ -1,5 +1,7 @@
 -- Escaping byte by byte, run by run, and what it has to do with escaping characters.
-use Rattle.std.proofs.Common.{◌≡◌, ◌≢◌, ◌∙◌, ℕ, zero, suc, ◌+◌, ◌-◌, ◌/◌, ◌%◌, ◌<◌, ◌≤◌, Bool, true, false, cond, List, [], ◌∷◌, ◌++◌, length, slice_index, take, drop, nat_eq, nat_lt, refl, sym, ap, arith, rules, append_assoc, encode_utf8_all, length-drop, inl, inr, ◌⊎◌}
+use Rattle.std.proofs.Common.{◌≡◌, ◌≢◌, ◌∙◌, ℕ, zero, suc, ◌+◌, ◌-◌, ◌/◌, ◌%◌, ◌<◌, ◌≤◌, Bool, true, false, cond, List, [], ◌∷◌}
+use Rattle.std.proofs.Common.{◌++◌, length, slice_index, take, drop, nat_eq, nat_lt, refl, sym, ap, arith, rules, append_assoc}
+use Rattle.std.proofs.Common.{encode_utf8_all, length-drop, inl, inr, ◌⊎◌}
 use Rattle.std.specs.Prelude.{◌||◌, ◌&&◌}
 use Rattle.std.proofs.lemmas.Bool.{cases_Bool, cases_eq, cases_lt, eq-eqb, ne_eqb}
 use Rattle.std.proofs.lemmas.Bool.Decides.{nat_tests}
@@ -16,7 +18,9 @@ drop_drop : (xs : List ℕ) (n m : ℕ) → drop m (drop n xs) ≡ drop (n + m) 
 drop_drop xs n m = search (rules, common_steps)
 
 -- bytes that are written as they are
-run_of : (mode : Mode) (n : ℕ) (bs : List ℕ) → n ≤ length bs → ((i : ℕ) → i < n → is_replaced mode (slice_index bs i) (slice_index bs (suc i)) ≡ false) → escape_bytes mode false bs ≡ take n bs ++ escape_bytes mode false (drop n bs)
+run_of : (mode : Mode) (n : ℕ) (bs : List ℕ) → n ≤ length bs
+    → ((i : ℕ) → i < n → is_replaced mode (slice_index bs i) (slice_index bs (suc i)) ≡ false)
+    → escape_bytes mode false bs ≡ take n bs ++ escape_bytes mode false (drop n bs)
 run_of mode zero bs within clear = refl
 run_of mode (suc n) [] within clear = absurd (omega arith)
 run_of mode (suc n) (b ∷ bs) within clear =
@@ -24,7 +28,8 @@ run_of mode (suc n) (b ∷ bs) within clear =
     rw first (ap (λ (xs : List ℕ). b ∷ xs) (run_of mode n bs (omega arith) (λ i less. clear (suc i) (omega arith))))
 
 -- a run up to the next place at which something is replaced
-pub escape_bytes-run : (mode : Mode) (bs : List ℕ) (start at : ℕ) → start ≤ at → IsNext (is_replaced mode) bs start at → escape_bytes mode false (drop start bs) ≡ take (at - start) (drop start bs) ++ escape_bytes mode false (drop at bs)
+pub escape_bytes-run : (mode : Mode) (bs : List ℕ) (start at : ℕ) → start ≤ at → IsNext (is_replaced mode) bs start
+    at → escape_bytes mode false (drop start bs) ≡ take (at - start) (drop start bs) ++ escape_bytes mode false (drop at bs)
 escape_bytes-run mode bs start at low is =
     let within = is.within in
     run_of mode (at - start) (drop start bs) (let n = length-drop start bs in omega arith) (λ i less.
@@ -32,7 +37,8 @@ escape_bytes-run mode bs start at low is =
     let behind = get_or-drop start bs (suc i) 0 in
     let next : start + suc i ≡ suc (start + i) = omega arith in
     rw (here, behind, next) (is.clear (start + i) (omega arith) (omega arith)))
-    ∙ ap (λ (xs : List ℕ). take (at - start) (drop start bs) ++ escape_bytes mode false xs) (drop_drop bs start (at - start) ∙ (let e : start + (at - start) ≡ at = omega arith in ap (λ (n : ℕ). drop n bs) e))
+    ∙ ap (λ (xs : List ℕ). take (at - start) (drop start bs) ++ escape_bytes mode false xs)
+    (drop_drop bs start (at - start) ∙ (let e : start + (at - start) ≡ at = omega arith in ap (λ (n : ℕ). drop n bs) e))
 
 lt-true : (a b : ℕ) → a < b → nat_lt a b ≡ true
 lt-true a b less = grind (arith, nat_tests)
@@ -41,11 +47,13 @@ lt-false : (a b : ℕ) → b ≤ a → nat_lt a b ≡ false
 lt-false a b more = grind (arith, nat_tests)
 
 -- a character that is escaped, with its second byte if it has one
-pub escape_bytes-reference : (mode : Mode) (bs : List ℕ) (at : ℕ) → at < length bs → is_replaced mode (slice_index bs at) (slice_index bs (suc at)) ≡ true
+pub escape_bytes-reference : (mode : Mode) (bs : List ℕ) (at : ℕ) → at < length bs
+    → is_replaced mode (slice_index bs at) (slice_index bs (suc at)) ≡ true
     → escape_bytes mode false (drop at bs) ≡ reference_of (slice_index bs at) ++ escape_bytes mode false (drop (place_after bs at) bs)
 escape_bytes-reference mode bs at below passes =
     rw (drop-cons bs at 0 below)
-    (let next : slice_index (drop (suc at) bs) 0 ≡ slice_index bs (suc at) = get_or-drop (suc at) bs 0 0 ∙ (let e : suc at + 0 ≡ suc at = omega arith in ap (slice_index bs) e) in
+    (let next : slice_index (drop (suc at) bs) 0 ≡ slice_index bs (suc at) = get_or-drop (suc at) bs 0 0
+    ∙ (let e : suc at + 0 ≡ suc at = omega arith in ap (slice_index bs) e) in
     rw (next, passes, lt-true at (length bs) below)
     (ap (λ (xs : List ℕ). reference_of (slice_index bs at) ++ xs) (behind (nat_eq (slice_index bs at) 0xC2))))
   where
@@ -66,22 +74,27 @@ pub escape_bytes-through : (mode : Mode) (bs : List ℕ) (start at : ℕ) → st
 escape_bytes-through mode bs start at low is =
     escape_bytes-run mode bs start at low is
     ∙ ap (λ (xs : List ℕ). take (at - start) (drop start bs) ++ xs) (elim (cases_Bool (nat_lt at (length bs))) [
-      | inl below ↦ let less : at < length bs = grind (arith, nat_tests) in escape_bytes-reference mode bs at less (is.passes less) ∙ rw below refl
+      | inl below ↦ let less : at < length bs = grind (arith, nat_tests) in escape_bytes-reference mode bs at less
+          (is.passes less) ∙ rw below refl
       | inr end ↦ rw end refl
     ])
-    ∙ sym (append_assoc (take (at - start) (drop start bs)) (cond (nat_lt at (length bs)) (reference_of (slice_index bs at)) []) (escape_bytes mode false (drop (place_after bs at) bs)))
+    ∙ sym (append_assoc (take (at - start) (drop start bs))
+    (cond (nat_lt at (length bs)) (reference_of (slice_index bs at)) []) (escape_bytes mode false (drop (place_after bs at) bs)))
 
 and_false : (b : Bool) → (b && false) ≡ false
 and_false true = refl
 and_false false = refl
 
-unreplaced : (mode : Mode) (b next : ℕ) → b ≢ 0x3C → b ≢ 0x3E → b ≢ 0x26 → (in_value mode && nat_eq b 0x22) ≡ false → (nat_eq b 0xC2 && nat_eq next 0xA0) ≡ false → is_replaced mode b next ≡ false
+unreplaced : (mode : Mode) (b next : ℕ) → b ≢ 0x3C → b ≢ 0x3E → b ≢ 0x26 → (in_value mode && nat_eq b 0x22) ≡ false
+    → (nat_eq b 0xC2 && nat_eq next 0xA0) ≡ false → is_replaced mode b next ≡ false
 unreplaced mode b next lt gt amp quote space = rw (ne_eqb b 0x3C lt, ne_eqb b 0x3E gt, ne_eqb b 0x26 amp, quote, space) refl
 
 -- a byte of a longer character
-as_is : (mode : Mode) (b : ℕ) (t : List ℕ) → 128 ≤ b → (b ≡ 0xC2 → slice_index t 0 ≡ 0xA0 → ⊥) → escape_bytes mode false (b ∷ t) ≡ b ∷ escape_bytes mode false t
+as_is : (mode : Mode) (b : ℕ) (t : List ℕ) → 128 ≤ b → (b ≡ 0xC2 → slice_index t 0 ≡ 0xA0 → ⊥)
+    → escape_bytes mode false (b ∷ t) ≡ b ∷ escape_bytes mode false t
 as_is mode b t high apart =
-    rw (unreplaced mode b (slice_index t 0) (omega arith) (omega arith) (omega arith) (rw (ne_eqb b 0x22 (omega arith)) (and_false (in_value mode))) space) refl
+    rw (unreplaced mode b (slice_index t 0) (omega arith) (omega arith) (omega arith)
+    (rw (ne_eqb b 0x22 (omega arith)) (and_false (in_value mode))) space) refl
   where
     space : (nat_eq b 0xC2 && nat_eq (slice_index t 0) 0xA0) ≡ false
     space =
@@ -129,16 +142,24 @@ pub record IsUnescaped (c : ℕ) : Type 0 where
 
 pub escaped-plain : (mode : Mode) (c : ℕ) → IsUnescaped c → escaped_in mode c ≡ c ∷ []
 escaped-plain InText c is = rw (ne_eqb c 0x26 is.amp, ne_eqb c 0x3C is.lt, ne_eqb c 0x3E is.gt, ne_eqb c 0xA0 is.space) refl
-escaped-plain InValue c is = rw (ne_eqb c 0x22 is.quote, ne_eqb c 0x26 is.amp, ne_eqb c 0x3C is.lt, ne_eqb c 0x3E is.gt, ne_eqb c 0xA0 is.space) refl
+escaped-plain InValue c is = rw (
+  ne_eqb c 0x22 is.quote,
+  ne_eqb c 0x26 is.amp,
+  ne_eqb c 0x3C is.lt,
+  ne_eqb c 0x3E is.gt,
+  ne_eqb c 0xA0 is.space,
+) refl
 
 -- its bytes are written as they are
-bytes-plain : (mode : Mode) (c : ℕ) (t : List ℕ) → IsUnescaped c → escape_bytes mode false (encode c ++ t) ≡ encode c ++ escape_bytes mode false t
+bytes-plain : (mode : Mode) (c : ℕ) (t : List ℕ) → IsUnescaped c → escape_bytes mode false (encode c ++ t) ≡ encode
+    c ++ escape_bytes mode false t
 unfolding encode
 bytes-plain mode c t is =
     elim (cases_lt c 128) [
       | inl one ↦
           rw (lt-true c 128 one)
-          (rw (unreplaced mode c (slice_index t 0) is.lt is.gt is.amp (rw (ne_eqb c 0x22 is.quote) (and_false (in_value mode))) (rw (ne_eqb c 0xC2 (omega arith)) refl)) refl)
+          (rw (unreplaced mode c (slice_index t 0) is.lt is.gt is.amp
+          (rw (ne_eqb c 0x22 is.quote) (and_false (in_value mode))) (rw (ne_eqb c 0xC2 (omega arith)) refl)) refl)
       | inr more ↦ elim (cases_lt c 2048) [
         | inl two ↦
             rw (lt-false c 128 more, lt-true c 2048 two)
@@ -147,12 +168,14 @@ bytes-plain mode c t is =
         | inr longer ↦ elim (cases_lt c 65536) [
           | inl three ↦
               rw (lt-false c 128 more, lt-false c 2048 longer, lt-true c 65536 three)
-              (as_is mode (224 + c / 4096) (next (c / 64) ∷ next c ∷ t) (omega arith) (λ (lead : 224 + c / 4096 ≡ 194) _. absurd (omega arith))
+              (as_is mode (224 + c / 4096) (next (c / 64) ∷ next c ∷ t) (omega arith)
+              (λ (lead : 224 + c / 4096 ≡ 194) _. absurd (omega arith))
               ∙ ap (λ (xs : List ℕ). (224 + c / 4096) ∷ xs) (behind (c / 64) (next c ∷ t)
               ∙ ap (λ (xs : List ℕ). next (c / 64) ∷ xs) (behind c t)))
           | inr four ↦
               rw (lt-false c 128 more, lt-false c 2048 longer, lt-false c 65536 four)
-              (as_is mode (240 + c / 262144) (next (c / 4096) ∷ next (c / 64) ∷ next c ∷ t) (omega arith) (λ (lead : 240 + c / 262144 ≡ 194) _. absurd (omega arith))
+              (as_is mode (240 + c / 262144) (next (c / 4096) ∷ next (c / 64) ∷ next c ∷ t) (omega arith)
+              (λ (lead : 240 + c / 262144 ≡ 194) _. absurd (omega arith))
               ∙ ap (λ (xs : List ℕ). (240 + c / 262144) ∷ xs) (behind (c / 4096) (next (c / 64) ∷ next c ∷ t)
               ∙ ap (λ (xs : List ℕ). next (c / 4096) ∷ xs) (behind (c / 64) (next c ∷ t)
               ∙ ap (λ (xs : List ℕ). next (c / 64) ∷ xs) (behind c t))))
@@ -168,7 +191,8 @@ bytes-plain mode c t is =
 
 of_plain : (mode : Mode) (c : ℕ) (t : List ℕ) → IsUnescaped c → OfChar mode c t
 of_plain mode c t is =
-    bytes-plain mode c t is ∙ ap (λ (xs : List ℕ). xs ++ escape_bytes mode false t) (sym (append-nil (encode c)) ∙ ap encode_utf8_all (sym (escaped-plain mode c is)))
+    bytes-plain mode c t is ∙ ap (λ (xs : List ℕ). xs ++ escape_bytes mode false t)
+    (sym (append-nil (encode c)) ∙ ap encode_utf8_all (sym (escaped-plain mode c is)))
 
 of_char : (mode : Mode) (c : ℕ) (t : List ℕ) → OfChar mode c t
 of_char mode c t =
@@ -210,14 +234,21 @@ place_after-within mode bs start at is =
         elim (cases_eq n 0xA0) [
           | inl same ↦ same
           | inr other ↦
-              let none : is_replaced mode b n ≡ false = unreplaced mode b n (omega arith) (omega arith) (omega arith) (rw (ne_eqb b 0x22 (omega arith)) (and_false (in_value mode))) (rw (ne_eqb n 0xA0 other) (and_false (nat_eq b 0xC2))) in
+              let none : is_replaced mode b n ≡ false = unreplaced mode b n (omega arith) (omega arith)
+              (omega arith) (rw (ne_eqb b 0x22 (omega arith)) (and_false (in_value mode)))
+              (rw (ne_eqb n 0xA0 other) (and_false (nat_eq b 0xC2))) in
               absurd cc
         ]
 
-    by_lead : is_replaced mode (slice_index bs at) (slice_index bs (suc at)) ≡ true → at < length bs → (slice_index bs at ≡ 0xC2) ⊎ (slice_index bs at ≢ 0xC2) → cond (nat_eq (slice_index bs at) 0xC2) (at + 2) (at + 1) ≤ length bs
+    by_lead : is_replaced mode (slice_index bs at) (slice_index bs (suc at)) ≡ true → at < length bs
+        → (slice_index bs at ≡ 0xC2) ⊎ (slice_index bs at ≢ 0xC2) → cond (nat_eq (slice_index bs at) 0xC2) (at + 2) (at + 1) ≤ length bs
     by_lead passes below (inl lead) =
         let is_second : slice_index bs (suc at) ≡ 0xA0 = second mode (slice_index bs at) (slice_index bs (suc at)) passes lead in
-        let there : suc at < length bs = elim (cases_lt (suc at) (length bs)) [ inl within ↦ within | inr past ↦ absurd (let none : slice_index bs (suc at) ≡ 0 = get_or_past bs (suc at) 0 past in omega arith) ] in
+        let there : suc at < length bs = elim (cases_lt (suc at) (length bs)) [
+          | inl within ↦ within
+          | inr past ↦
+              absurd (let none : slice_index bs (suc at) ≡ 0 = get_or_past bs (suc at) 0 past in omega arith)
+        ] in
         rw (eq-eqb (slice_index bs at) 0xC2 lead) (omega arith)
     by_lead passes below (inr other) = rw (ne_eqb (slice_index bs at) 0xC2 other) (omega arith)
 

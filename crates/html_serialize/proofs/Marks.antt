@@ -1,5 +1,6 @@
 -- Which of sixteen bytes may begin an escaped character.
-use Rattle.std.proofs.Common.{◌≡◌, ◌∙◌, ℕ, suc, ◌+◌, ◌*◌, ◌%◌, ◌^◌, ◌<◌, ◌≤◌, Bool, true, false, ◌||◌, List, [], ◌∷◌, cond, eqb, length, map, replicate, slice_index, refl, sym, ap, arith, w8, inl, inr}
+use Rattle.std.proofs.Common.{◌≡◌, ◌∙◌, ℕ, suc, ◌+◌, ◌*◌, ◌%◌, ◌^◌, ◌<◌, ◌≤◌, Bool, true, false, ◌||◌, List, [], ◌∷◌, cond, eqb}
+use Rattle.std.proofs.Common.{length, map, replicate, slice_index, refl, sym, ap, arith, w8, inl, inr}
 use Rattle.std.specs.Simd.Lanes.{zip2, sel_l, mask_l, top}
 use Rattle.std.proofs.lemmas.Bool.{cases_eq, cases_lt, or_parts}
 use Rattle.std.proofs.lemmas.List.{length-map}
@@ -63,7 +64,9 @@ marked quote x =
 
 -- the mask of the lanes that are 0, where those that may begin an escaped character are made 0
 pub mask_marked : (n quote : ℕ) (xs : List ℕ) → length xs ≡ n → n ≤ 64
-    → mask_l (map (top 7) (zip2 (λ a b. cond (eqb a b) 255 0) (clear n 0xC2 (clear n quote (clear n 0x26 (clear n 0x3E (clear n 0x3C xs))))) (replicate n 0))) % 2 ^ 64 ≡ mask_l (map (is_marked quote) xs)
+    → mask_l (map (top 7) (zip2 (λ a b. cond (eqb a b) 255 0)
+    (clear n 0xC2 (clear n quote (clear n 0x26 (clear n 0x3E (clear n 0x3C xs))))) (replicate n 0))) % 2 ^
+    64 ≡ mask_l (map (is_marked quote) xs)
 mask_marked n quote xs long small =
     let one = clear_lanes n 0x3C xs long in
     let two = clear_more n 0x3E (cleared 0x3C) xs (clear n 0x3C xs) long one in
@@ -123,5 +126,6 @@ IsClear-one mode bytes from at is below none = record {
 }
 
 pub IsNext-here : (mode : Mode) (bytes : List ℕ) (from at : ℕ) → IsClear mode bytes from at
-    → (at < length bytes → is_replaced mode (slice_index bytes at) (slice_index bytes (suc at)) ≡ true) → IsNext (is_replaced mode) bytes from at
+    → (at < length bytes → is_replaced mode (slice_index bytes at) (slice_index bytes (suc at)) ≡ true)
+    → IsNext (is_replaced mode) bytes from at
 IsNext-here mode bytes from at is passes = record { within = is.within; passes = passes; clear = is.clear }

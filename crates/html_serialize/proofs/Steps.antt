@@ -12,7 +12,8 @@ IsOk-from : {A : Type 0} (behind : Result A SerializeFault) (x : A) → behind �
 IsOk-from behind x is = rw is refl
 
 -- bytes were put once the stack was as it is after the call
-pub Does-puts : {R : Type 0} (behind : Result (List Entry) SerializeFault) (bytes : List ℕ) (stack stack' : List Entry) (told told' : WriterView) (result : Result R SerializeFault)
+pub Does-puts : {R : Type 0} (behind : Result (List Entry) SerializeFault) (bytes : List ℕ)
+    (stack stack' : List Entry) (told told' : WriterView) (result : Result R SerializeFault)
     → behind ≡ Ok stack' → Puts told bytes result told' → Does behind bytes stack told result stack' told'
 Does-puts behind bytes stack stack' told told' (Ok _) is puts = (is, puts)
 Does-puts behind bytes stack stack' told told' (Err Write) is puts = (IsOk-from behind stack' is, puts.1)
@@ -30,18 +31,21 @@ pub answered-failed : (s : Serializing) (call : Call) → s.failed ≡ true → 
 unfolding refuses step
 answered-failed s call failed = record { refused = rw failed refl; same = refl }
 
-pub step-ok : (s : Serializing) (call : Call) (stack : List Entry) → s.failed ≡ false → stack_after s call ≡ Ok stack → step s call ≡ Ok (with_stack_after s call stack)
+pub step-ok : (s : Serializing) (call : Call) (stack : List Entry) → s.failed ≡ false
+    → stack_after s call ≡ Ok stack → step s call ≡ Ok (with_stack_after s call stack)
 unfolding step
 step-ok s call stack well is = rw (well, is) refl
 
-unchanged : (s : Serializing) (stack' : List Entry) (told' : WriterView) (failed' : Bool) → s.failed ≡ false → failed' ≡ false → stack' ≡ s.stack → told' ≡ s.told → record s { stack = stack'; told = told'; failed = failed' } ≡ s
+unchanged : (s : Serializing) (stack' : List Entry) (told' : WriterView) (failed' : Bool) → s.failed ≡ false
+    → failed' ≡ false → stack' ≡ s.stack → told' ≡ s.told → record s { stack = stack'; told = told'; failed = failed' } ≡ s
 unchanged s stack' told' failed' well fatal same_stack same_told =
     ap (λ (x : List Entry). record s { stack = x; told = told'; failed = failed' }) same_stack
     ∙ ap (λ (x : WriterView). record s { told = x; failed = failed' }) same_told
     ∙ ap (λ (x : Bool). record s { failed = x }) (fatal ∙ sym well)
 
 -- a call's answer, by what it left of the stack and of what the writer tells
-pub answered : {R : Type 0} (s : Serializing) (call : Call) (stack' : List Entry) (told' : WriterView) (failed' : Bool) (result : Result R SerializeFault)
+pub answered : {R : Type 0} (s : Serializing) (call : Call) (stack' : List Entry) (told' : WriterView)
+    (failed' : Bool) (result : Result R SerializeFault)
     → s.failed ≡ false → failed' ≡ is_fatal result → (result ≡ Err Memory → may_grow call ≡ true)
     → Does (stack_after s call) (bytes_of s call) s.stack s.told result stack' told'
     → Answers step refuses s call result (record s { stack = stack'; told = told'; failed = failed' })
@@ -52,7 +56,13 @@ answered s call stack' told' failed' (Err Write) well fatal grows does =
     record { behind = with_stack_after s call behind.0; taken = step-ok s call behind.0 well behind.1; broke = does.1; failed = fatal }
 answered s call stack' told' failed' (Err Memory) well fatal grows does =
     let behind = given (stack_after s call) does.0 in
-    record { grows = grows refl; behind = with_stack_after s call behind.0; taken = step-ok s call behind.0 well behind.1; same = does.1; failed = fatal }
+    record {
+      grows = grows refl;
+      behind = with_stack_after s call behind.0;
+      taken = step-ok s call behind.0 well behind.1;
+      same = does.1;
+      failed = fatal;
+    }
 answered s call stack' told' failed' (Err NoParent) well fatal grows does = record {
   refused = rw (well, does.0) refl;
   same = unchanged s stack' told' failed' well fatal does.1 does.2;
@@ -67,7 +77,8 @@ answered s call stack' told' failed' (Err Failed) well fatal grows does = record
 }
 
 -- the same of a call that takes no memory
-pub answered-none : {R : Type 0} (s : Serializing) (call : Call) (stack' : List Entry) (told' : WriterView) (failed' : Bool) (result : Result R SerializeFault)
+pub answered-none : {R : Type 0} (s : Serializing) (call : Call) (stack' : List Entry) (told' : WriterView)
+    (failed' : Bool) (result : Result R SerializeFault)
     → s.failed ≡ false → failed' ≡ is_fatal result → IfErr result (λ fault. fault ≢ Memory)
     → Does (stack_after s call) (bytes_of s call) s.stack s.told result stack' told'
     → Answers step refuses s call result (record s { stack = stack'; told = told'; failed = failed' })

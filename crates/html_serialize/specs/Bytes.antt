@@ -1,5 +1,6 @@
 -- Escaping, byte by byte: in UTF-8, U+00A0 is the bytes C2 and A0, and each other character that is escaped is one byte.
-use Rattle.std.specs.Prelude.{◌≡◌, ℕ, suc, ◌+◌, ◌-◌, ◌<◌, ◌≤◌, nat_lt, take, drop, Bool, true, false, cond, ◌&&◌, ◌||◌, List, [], ◌∷◌, ◌++◌, codes, length, nat_eq, slice_index}
+use Rattle.std.specs.Prelude.{◌≡◌, ℕ, suc, ◌+◌, ◌-◌, ◌<◌, ◌≤◌, nat_lt, take, drop, Bool, true, false, cond, ◌&&◌, ◌||◌, List}
+use Rattle.std.specs.Prelude.{[], ◌∷◌, ◌++◌, codes, length, nat_eq, slice_index}
 use Rattle.markup.specs.Escape.{Mode}
 use Rattle.markup.specs.Escape.Mode.{InText, InValue}
 use Rattle.html_serialize.specs.declared.escape.Escaping.{Escaping}
@@ -37,14 +38,17 @@ is_replaced mode b next = is_markup b || is_other mode b next
 -- what a character that is escaped is written as, by its first byte
 abbrev pub reference_of : ℕ → List ℕ
 reference_of b =
-    cond (nat_eq b 0x3C) (codes "&lt;") (cond (nat_eq b 0x3E) (codes "&gt;") (cond (nat_eq b 0x26) (codes "&amp;") (cond (nat_eq b 0x22) (codes "&quot;") (codes "&nbsp;"))))
+    cond (nat_eq b 0x3C) (codes "&lt;")
+    (cond (nat_eq b 0x3E) (codes "&gt;")
+    (cond (nat_eq b 0x26) (codes "&amp;") (cond (nat_eq b 0x22) (codes "&quot;") (codes "&nbsp;"))))
 
 -- bytes escaped, where the first of them was done with the byte before it or not
 abbrev pub escape_bytes : Mode → Bool → List ℕ → List ℕ
 escape_bytes mode done [] = []
 escape_bytes mode true (b ∷ bs) = escape_bytes mode false bs
 escape_bytes mode false (b ∷ bs) =
-    cond (is_replaced mode b (slice_index bs 0)) (reference_of b) (b ∷ []) ++ escape_bytes mode (is_replaced mode b (slice_index bs 0) && nat_eq b 0xC2) bs
+    cond (is_replaced mode b (slice_index bs 0)) (reference_of b) (b ∷ []) ++ escape_bytes mode
+    (is_replaced mode b (slice_index bs 0) && nat_eq b 0xC2) bs
 
 -- from a place on, no byte passes a test before the next place, and that one does, if it is not the end
 pub record IsNext (test : ℕ → ℕ → Bool) (bytes : List ℕ) (from next : ℕ) : Type 0 where
@@ -60,7 +64,8 @@ pub record IsClear (mode : Mode) (bytes : List ℕ) (from at : ℕ) : Type 0 whe
 
 -- the bytes from one place up to another, and what the character there is written as, if it is not the end
 abbrev pub written_through : List ℕ → ℕ → ℕ → List ℕ
-written_through bytes start at = take (at - start) (drop start bytes) ++ cond (nat_lt at (length bytes)) (reference_of (slice_index bytes at)) []
+written_through bytes start at = take (at - start) (drop start bytes) ++ cond (nat_lt at (length bytes))
+    (reference_of (slice_index bytes at)) []
 
 -- the place after an escaped character, if it is not the end
 abbrev pub place_after : List ℕ → ℕ → ℕ

@@ -1,5 +1,6 @@
 -- The serializer as a state, and what each call makes of it (HTML Standard, section 13.3).
-use Rattle.std.specs.Prelude.{◌≡◌, ℕ, ◌≤◌, Bool, true, false, cond, List, [], ◌∷◌, Option, Some, None, Result, Ok, Err, IsOk, length, take, encode_utf8_all}
+use Rattle.std.specs.Prelude.{◌≡◌, ℕ, ◌≤◌, Bool, true, false, cond, List, [], ◌∷◌, Option, Some, None, Result, Ok, Err, IsOk}
+use Rattle.std.specs.Prelude.{length, take, encode_utf8_all}
 use Rattle.markup.specs.Calls.{Call, Walks}
 use Rattle.markup.specs.Calls.Call.{StartElem, EndElem, WriteText, WriteComment, WriteDoctype, WriteProcessingInstruction}
 use Rattle.markup.specs.Escape.{written_comment, written_doctype, written_instruction}
@@ -38,7 +39,13 @@ entry_for scripting IncludeNode = default_entry
 entry_for scripting (ChildrenOnly name) = first_entry scripting name
 
 abbrev pub started : Bool → Bool → TraversalScope → WriterView → Serializing
-started scripting creates scope told = record { scripting = scripting; creates = creates; stack = entry_for scripting scope ∷ []; told = told; failed = false }
+started scripting creates scope told = record {
+  scripting = scripting;
+  creates = creates;
+  stack = entry_for scripting scope ∷ [];
+  told = told;
+  failed = false;
+}
 
 abbrev pub first_of : List Entry → Option Entry
 first_of [] = None
@@ -65,7 +72,8 @@ without_last false [] = Err NoElemInfo
 
 -- the stack after a call
 abbrev pub stack_after : Serializing → Call → Result (List Entry) SerializeFault
-stack_after s (StartElem name attributes) = map_ok (λ stack. entry_under s.scripting (top_of stack) name ∷ stack) (with_parent s.creates s.stack)
+stack_after s (StartElem name attributes) = map_ok (λ stack. entry_under s.scripting (top_of stack) name ∷ stack)
+    (with_parent s.creates s.stack)
 stack_after s (EndElem name) = without_last s.creates s.stack
 stack_after s (WriteText text) = with_parent s.creates s.stack
 stack_after s _ = Ok s.stack
@@ -96,7 +104,8 @@ Takes behind old (Err Memory) new = IsOk behind
 Takes behind old (Err fault) new = (behind ≡ Err fault) × (new ≡ old)
 
 -- what a call leaves of the stack and of what the writer tells, by the stack after it and its bytes
-abbrev pub Does : {R : Type 0} → Result (List Entry) SerializeFault → List ℕ → List Entry → WriterView → Result R SerializeFault → List Entry → WriterView → Type 0
+abbrev pub Does : {R : Type 0} → Result (List Entry) SerializeFault → List ℕ → List Entry → WriterView
+    → Result R SerializeFault → List Entry → WriterView → Type 0
 Does behind bytes stack told (Ok _) stack' told' = (behind ≡ Ok stack') × (told' ≡ with_bytes told bytes)
 Does behind bytes stack told (Err Write) stack' told' = IsOk behind × Broke told bytes told'
 Does behind bytes stack told (Err Memory) stack' told' = IsOk behind × (told' ≡ told)

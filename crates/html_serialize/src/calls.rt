@@ -40,7 +40,8 @@ fn open(
     known: Option<KnownName>,
 ) -> Result<ElemInfo, SerializeFault>
     requires { IsKnownAs name.now.local known }
-    ensures { Takes (map_ok (λ stack. entry_under scripting (top_of stack) name.now ∷ stack) (with_parent creates stack.old)) stack.old result stack.new }
+    ensures { Takes (map_ok (λ stack. entry_under scripting (top_of stack) name.now ∷ stack)
+        (with_parent creates stack.old)) stack.old result stack.new }
 {
     let under = parent(stack, creates)?;
     stack.push(entry_under(scripting, under, name, known))?;
@@ -73,7 +74,9 @@ pub(crate) fn start_elem<Wr: Target>(
     name: &QualName,
     attrs: &[Attribute],
 ) -> Result<(), SerializeFault>
-    ensures does { Does (map_ok (λ stack. entry_under scripting (top_of stack) name.now ∷ stack) (with_parent creates stack.old)) (encode_utf8_all (start_under (top_of stack.old) name.now attrs.now)) stack.old (told_by Wr.written Wr.failures writer.old) result stack.new (told_by Wr.written Wr.failures writer.new) }
+    ensures does { Does (map_ok (λ stack. entry_under scripting (top_of stack) name.now ∷ stack)
+        (with_parent creates stack.old)) (encode_utf8_all (start_under (top_of stack.old) name.now attrs.now))
+        stack.old (told_by Wr.written Wr.failures writer.old) result stack.new (told_by Wr.written Wr.failures writer.new) }
     ensures same_references { Wr.references writer.new ≡ Wr.references writer.old }
 {
     let known = name.local.known();
@@ -91,7 +94,8 @@ pub(crate) fn end_elem<Wr: Target>(
     creates: bool,
     name: &QualName,
 ) -> Result<(), SerializeFault>
-    ensures does { Does (without_last creates stack.old) (encode_utf8_all (end_of (top_of stack.old) name.now)) stack.old (told_by Wr.written Wr.failures writer.old) result stack.new (told_by Wr.written Wr.failures writer.new) }
+    ensures does { Does (without_last creates stack.old) (encode_utf8_all (end_of (top_of stack.old) name.now))
+        stack.old (told_by Wr.written Wr.failures writer.old) result stack.new (told_by Wr.written Wr.failures writer.new) }
     ensures no_memory { IfErr result (λ fault. fault ≢ Memory) }
     ensures same_references { Wr.references writer.new ≡ Wr.references writer.old }
 {
@@ -112,7 +116,9 @@ pub(crate) fn write_text<Wr: Target>(
     creates: bool,
     text: &str,
 ) -> Result<(), SerializeFault>
-    ensures does { Does (with_parent creates stack.old) (encode_utf8_all (text_under (top_of stack.old) (chars text.now))) stack.old (told_by Wr.written Wr.failures writer.old) result stack.new (told_by Wr.written Wr.failures writer.new) }
+    ensures does { Does (with_parent creates stack.old)
+        (encode_utf8_all (text_under (top_of stack.old) (chars text.now))) stack.old
+        (told_by Wr.written Wr.failures writer.old) result stack.new (told_by Wr.written Wr.failures writer.new) }
     ensures same_references { Wr.references writer.new ≡ Wr.references writer.old }
 {
     let under = parent(stack, creates)?;

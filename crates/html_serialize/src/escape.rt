@@ -3,7 +3,8 @@ ghost use Rattle.std.specs.Prelude.{◌≡◌, ◌≤◌, ◌<◌, ◌+◌, ℕ,
 ghost use Rattle.std.specs.Str.{chars};
 ghost use Rattle.std.specs.Simd.Lanes.{mask_l};
 ghost use Rattle.markup.specs.Escape.{escape_in};
-ghost use Rattle.html_serialize.specs.Bytes.{IsClear, IsNext, escape_bytes, is_marked, is_replaced, mode_of, place_after, quote_of, reference_of, written_through};
+ghost use Rattle.html_serialize.specs.Bytes.{IsClear, IsNext, escape_bytes, is_marked, is_replaced, mode_of, place_after};
+ghost use Rattle.html_serialize.specs.Bytes.{quote_of, reference_of, written_through};
 ghost use Rattle.html_serialize.specs.Puts.{Puts, told_by};
 
 use crate::put::put;
@@ -131,7 +132,8 @@ fn put_through<Wr: Target>(
     requires start { start ≤ at }
     requires at { at ≤ length bytes.now }
     ensures place { IfOk result (λ place. place ≡ place_after bytes.now at) }
-    ensures puts { Puts (told_by Wr.written Wr.failures writer.old) (written_through bytes.now start at) result (told_by Wr.written Wr.failures writer.new) }
+    ensures puts { Puts (told_by Wr.written Wr.failures writer.old) (written_through bytes.now start at) result
+        (told_by Wr.written Wr.failures writer.new) }
     ensures same_references { Wr.references writer.new ≡ Wr.references writer.old }
 {
     put(writer, &bytes[start..at])?;
@@ -149,7 +151,8 @@ fn put_escaped_bytes<Wr: Target>(
     bytes: &[u8],
     escaping: Escaping,
 ) -> Result<(), SerializeFault>
-    ensures puts { Puts (told_by Wr.written Wr.failures writer.old) (escape_bytes (mode_of escaping) false bytes.now) result (told_by Wr.written Wr.failures writer.new) }
+    ensures puts { Puts (told_by Wr.written Wr.failures writer.old)
+        (escape_bytes (mode_of escaping) false bytes.now) result (told_by Wr.written Wr.failures writer.new) }
     ensures same_references { Wr.references writer.new ≡ Wr.references writer.old }
 {
     let mut start = 0;
@@ -166,7 +169,8 @@ pub(crate) fn put_escaped<Wr: Target>(
     text: &str,
     escaping: Escaping,
 ) -> Result<(), SerializeFault>
-    ensures puts { Puts (told_by Wr.written Wr.failures writer.old) (encode_utf8_all (escape_in (mode_of escaping) (chars text.now))) result (told_by Wr.written Wr.failures writer.new) }
+    ensures puts { Puts (told_by Wr.written Wr.failures writer.old)
+        (encode_utf8_all (escape_in (mode_of escaping) (chars text.now))) result (told_by Wr.written Wr.failures writer.new) }
     ensures same_references { Wr.references writer.new ≡ Wr.references writer.old }
 {
     put_escaped_bytes(writer, text.as_bytes(), escaping)

@@ -3,7 +3,8 @@ ghost use Rattle.std.specs.Prelude.{◌≡◌, ℕ, List, [], IfSome, encode_utf
 ghost use Rattle.markup.specs.Escape.{attribute_prefix, end_tag};
 ghost use Rattle.markup.specs.KnownNames.{IsNameAt};
 ghost use Rattle.markup.specs.Trees.{entry_under, is_html};
-ghost use Rattle.html_serialize.specs.KnownTags.{IsKnownAs, IsMannerOf, attributes, bare_tag, before_value, end_tags, is_raw_in, is_void_in, manners, start_tags};
+ghost use Rattle.html_serialize.specs.KnownTags.{IsKnownAs, IsMannerOf, attributes, bare_tag, before_value, end_tags};
+ghost use Rattle.html_serialize.specs.KnownTags.{is_raw_in, is_void_in, manners, start_tags};
 ghost use Rattle.html_serialize.specs.Serializing.{entry_for};
 
 use crate::entries::ElemInfo;

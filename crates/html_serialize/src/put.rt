@@ -34,7 +34,8 @@ pub(crate) fn put_three<'a, Wr: Target>(
     second: &'a str,
     third: &'a str,
 ) -> Result<(), SerializeFault>
-    ensures puts { Puts (told_by Wr.written Wr.failures writer.old) (first.now ++ (second.now ++ third.now)) result (told_by Wr.written Wr.failures writer.new) }
+    ensures puts { Puts (told_by Wr.written Wr.failures writer.old) (first.now ++ (second.now ++ third.now)) result
+        (told_by Wr.written Wr.failures writer.new) }
     ensures same_references { Wr.references writer.new ≡ Wr.references writer.old }
 {
     put_all(writer, &[first, second, third])
@@ -49,7 +50,8 @@ pub(crate) fn put_five<'a, Wr: Target>(
     fourth: &'a str,
     fifth: &'a str,
 ) -> Result<(), SerializeFault>
-    ensures puts { Puts (told_by Wr.written Wr.failures writer.old) (first.now ++ (second.now ++ (third.now ++ (fourth.now ++ fifth.now)))) result (told_by Wr.written Wr.failures writer.new) }
+    ensures puts { Puts (told_by Wr.written Wr.failures writer.old)
+        (first.now ++ (second.now ++ (third.now ++ (fourth.now ++ fifth.now)))) result (told_by Wr.written Wr.failures writer.new) }
     ensures same_references { Wr.references writer.new ≡ Wr.references writer.old }
 {
     put_all(writer, &[first, second, third, fourth, fifth])

@@ -61,7 +61,10 @@ impl<Wr: Target + Drop> HtmlSerializer<Wr> {
         writer: Wr,
         opts: SerializeOpts,
     ) -> Result<HtmlSerializer<Wr>, SerializeFault>
-        ensures started { IfOk result (λ made. serializing_by Wr.written Wr.failures made.writer made.scripting_enabled made.create_missing_parent made.stack made.failed ≡ started opts.scripting_enabled opts.create_missing_parent opts.traversal_scope (told_by Wr.written Wr.failures writer)) }
+        ensures started { IfOk result
+            (λ made. serializing_by Wr.written Wr.failures made.writer made.scripting_enabled
+            made.create_missing_parent made.stack made.failed ≡ started opts.scripting_enabled
+            opts.create_missing_parent opts.traversal_scope (told_by Wr.written Wr.failures writer)) }
         ensures writer { IfOk result (λ made. made.writer ≡ writer) }
         ensures fault { IfErr result (λ fault. fault ≡ Memory) }
     {
@@ -83,7 +86,10 @@ impl<Wr: Target> HtmlSerializer<Wr> {
         writer: Wr,
         opts: SerializeOpts,
     ) -> Result<HtmlSerializer<Wr>, Wr>
-        ensures started { IfOk result (λ made. serializing_by Wr.written Wr.failures made.writer made.scripting_enabled made.create_missing_parent made.stack made.failed ≡ started opts.scripting_enabled opts.create_missing_parent opts.traversal_scope (told_by Wr.written Wr.failures writer)) }
+        ensures started { IfOk result
+            (λ made. serializing_by Wr.written Wr.failures made.writer made.scripting_enabled
+            made.create_missing_parent made.stack made.failed ≡ started opts.scripting_enabled
+            opts.create_missing_parent opts.traversal_scope (told_by Wr.written Wr.failures writer)) }
         ensures writer { IfOk result (λ made. made.writer ≡ writer) }
         ensures back { IfErr result (λ back. back ≡ writer) }
     {
@@ -205,7 +211,9 @@ fn walk<Wr: Target, T: Serialize>(
     node: &T,
     opts: SerializeOpts,
 ) -> Walked<Wr>
-    ensures serializes { Serializes opts.scripting_enabled opts.create_missing_parent opts.traversal_scope (T.calls node.now opts.traversal_scope) (told_by Wr.written Wr.failures writer) result.answer (told_by Wr.written Wr.failures result.writer) }
+    ensures serializes { Serializes opts.scripting_enabled opts.create_missing_parent opts.traversal_scope
+        (T.calls node.now opts.traversal_scope) (told_by Wr.written Wr.failures writer) result.answer
+        (told_by Wr.written Wr.failures result.writer) }
     ensures same_references { Wr.references result.writer ≡ Wr.references writer }
 {
     let SerializeOpts {
@@ -241,8 +249,12 @@ pub fn serialize<Wr: Target, T: Serialize>(
     node: &T,
     opts: SerializeOpts,
 ) -> Result<(), SerializeFault>
-    ensures text { (trees : Trees) → T.calls node.now opts.traversal_scope ≡ calls_of trees → Writes (bytes_in opts.scripting_enabled opts.traversal_scope trees) (told_by Wr.written Wr.failures writer.old) result (told_by Wr.written Wr.failures writer.new) }
-    ensures serializes { Serializes opts.scripting_enabled opts.create_missing_parent opts.traversal_scope (T.calls node.now opts.traversal_scope) (told_by Wr.written Wr.failures writer.old) result (told_by Wr.written Wr.failures writer.new) }
+    ensures text { (trees : Trees) → T.calls node.now opts.traversal_scope ≡ calls_of trees
+        → Writes (bytes_in opts.scripting_enabled opts.traversal_scope trees)
+        (told_by Wr.written Wr.failures writer.old) result (told_by Wr.written Wr.failures writer.new) }
+    ensures serializes { Serializes opts.scripting_enabled opts.create_missing_parent opts.traversal_scope
+        (T.calls node.now opts.traversal_scope) (told_by Wr.written Wr.failures writer.old) result
+        (told_by Wr.written Wr.failures writer.new) }
     ensures same_references { Wr.references writer.new ≡ Wr.references writer.old }
 {
     walk(alloc, writer, node, opts).answer

@@ -13,7 +13,8 @@ use markup::{Attribute, KnownName, QualName, SerializeFault};
 
 /// Writes the name of an attribute after a space, and what stands between it and the value.
 fn put_attribute_name<Wr: Target>(writer: &mut Wr, name: &QualName) -> Result<(), SerializeFault>
-    ensures puts { Puts (told_by Wr.written Wr.failures writer.old) (attribute_front name.now) result (told_by Wr.written Wr.failures writer.new) }
+    ensures puts { Puts (told_by Wr.written Wr.failures writer.old) (attribute_front name.now) result
+        (told_by Wr.written Wr.failures writer.new) }
     ensures same_references { Wr.references writer.new ≡ Wr.references writer.old }
 {
     match known_attribute(name) {
@@ -27,7 +28,8 @@ fn put_attribute_name<Wr: Target>(writer: &mut Wr, name: &QualName) -> Result<()
 
 /// Writes an attribute, after a space.
 fn put_attribute<Wr: Target>(writer: &mut Wr, attribute: &Attribute) -> Result<(), SerializeFault>
-    ensures puts { Puts (told_by Wr.written Wr.failures writer.old) (encode_utf8_all (written_attribute attribute.now)) result (told_by Wr.written Wr.failures writer.new) }
+    ensures puts { Puts (told_by Wr.written Wr.failures writer.old)
+        (encode_utf8_all (written_attribute attribute.now)) result (told_by Wr.written Wr.failures writer.new) }
     ensures same_references { Wr.references writer.new ≡ Wr.references writer.old }
 {
     put_attribute_name(writer, &attribute.name)?;
@@ -37,7 +39,8 @@ fn put_attribute<Wr: Target>(writer: &mut Wr, attribute: &Attribute) -> Result<(
 
 /// Writes attributes, each after a space.
 fn put_attributes<Wr: Target>(writer: &mut Wr, attrs: &[Attribute]) -> Result<(), SerializeFault>
-    ensures puts { Puts (told_by Wr.written Wr.failures writer.old) (encode_utf8_all (written_attributes attrs.now)) result (told_by Wr.written Wr.failures writer.new) }
+    ensures puts { Puts (told_by Wr.written Wr.failures writer.old) (encode_utf8_all (written_attributes attrs.now))
+        result (told_by Wr.written Wr.failures writer.new) }
     ensures same_references { Wr.references writer.new ≡ Wr.references writer.old }
 {
     for attribute in attrs {
@@ -53,7 +56,9 @@ fn put_known_start_tag<Wr: Target>(
     attrs: &[Attribute],
 ) -> Result<(), SerializeFault>
     requires { bare.now ≡ front_of bare.now ++ codes ">" }
-    ensures puts { Puts (told_by Wr.written Wr.failures writer.old) (front_of bare.now ++ (encode_utf8_all (written_attributes attrs.now) ++ codes ">")) result (told_by Wr.written Wr.failures writer.new) }
+    ensures puts { Puts (told_by Wr.written Wr.failures writer.old)
+        (front_of bare.now ++ (encode_utf8_all (written_attributes attrs.now) ++ codes ">")) result
+        (told_by Wr.written Wr.failures writer.new) }
     ensures same_references { Wr.references writer.new ≡ Wr.references writer.old }
 {
     if attrs.is_empty() {
@@ -70,7 +75,8 @@ fn put_other_start_tag<Wr: Target>(
     name: &QualName,
     attrs: &[Attribute],
 ) -> Result<(), SerializeFault>
-    ensures puts { Puts (told_by Wr.written Wr.failures writer.old) (encode_utf8_all (start_tag name.now.local attrs.now)) result (told_by Wr.written Wr.failures writer.new) }
+    ensures puts { Puts (told_by Wr.written Wr.failures writer.old)
+        (encode_utf8_all (start_tag name.now.local attrs.now)) result (told_by Wr.written Wr.failures writer.new) }
     ensures same_references { Wr.references writer.new ≡ Wr.references writer.old }
 {
     put_three(writer, "<", name.local.as_str(), "")?;
@@ -86,7 +92,8 @@ pub(crate) fn put_start_tag<Wr: Target>(
     attrs: &[Attribute],
 ) -> Result<(), SerializeFault>
     requires { IfSome known (λ known. IsNameAt known.place name.now.local) }
-    ensures puts { Puts (told_by Wr.written Wr.failures writer.old) (encode_utf8_all (start_tag name.now.local attrs.now)) result (told_by Wr.written Wr.failures writer.new) }
+    ensures puts { Puts (told_by Wr.written Wr.failures writer.old)
+        (encode_utf8_all (start_tag name.now.local attrs.now)) result (told_by Wr.written Wr.failures writer.new) }
     ensures same_references { Wr.references writer.new ≡ Wr.references writer.old }
 {
     match known {

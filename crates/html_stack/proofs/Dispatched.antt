@@ -5,7 +5,8 @@ use Rattle.std.specs.Str.{bytes_eq}
 use Rattle.markup.specs.Forest.{Forest, IsNode}
 use Rattle.markup.specs.TreeLaws.{with_errors}
 use Rattle.html_tokens.specs.declared.token.Token.{Token}
-use Rattle.html_tokens.specs.declared.token.Token.TheVariants.{DoctypeToken, TagToken, CommentToken, CharacterTokens, NullCharacterToken, EOFToken, ParseError}
+use Rattle.html_tokens.specs.declared.token.Token.TheVariants.{DoctypeToken, TagToken, CommentToken, CharacterTokens}
+use Rattle.html_tokens.specs.declared.token.Token.TheVariants.{NullCharacterToken, EOFToken, ParseError}
 use Rattle.html_rules.specs.ForeignContent.{is_foreign, is_foreign_at, is_html_element, is_html_there}
 use Rattle.html_rules.specs.Sets.{is_among, names_of}
 use Rattle.html_rules.specs.State.{Open, State, adjusted_by, adjusted_current_node, is_in}
@@ -40,14 +41,26 @@ nowhere : (m v a : Bool) → ((m && false) || (v && false) || (a && false)) ≡ 
 nowhere m v a = rw (and-false m, and-false v, and-false a) refl
 
 -- whether HTML's rules hold for a token in an element, by the token's shape
-there-by-shape : (s : State) (x : Open) (t : Token) (shape : TokenShape) → HasShape t shape → (t ≡ EOFToken → ⊥) → is_html_there s x t ≡ is_html_for (point_at s x.number) x shape
-there-by-shape s x (CharacterTokens text) Text h e = rw (and-true (is_in set.MathmlTextIntegrationPoint x), and-true (is_in set.SvgHtmlIntegrationPoint x)) refl
-there-by-shape s x NullCharacterToken Text h e = rw (and-true (is_in set.MathmlTextIntegrationPoint x), and-true (is_in set.SvgHtmlIntegrationPoint x)) refl
-there-by-shape s x (TagToken tag) (StartTag class name) h e = rw (h.0, h.1, svg-name name.now, and-true (is_in set.SvgHtmlIntegrationPoint x)) refl
-there-by-shape s x (TagToken tag) Other h e = rw h (nowhere (is_in set.MathmlTextIntegrationPoint x) (is_in set.SvgHtmlIntegrationPoint x) (is_in set.AnnotationXml x))
-there-by-shape s x (CommentToken text) Other h e = nowhere (is_in set.MathmlTextIntegrationPoint x) (is_in set.SvgHtmlIntegrationPoint x) (is_in set.AnnotationXml x)
-there-by-shape s x (DoctypeToken doctype) Other h e = nowhere (is_in set.MathmlTextIntegrationPoint x) (is_in set.SvgHtmlIntegrationPoint x) (is_in set.AnnotationXml x)
-there-by-shape s x (ParseError message) Other h e = nowhere (is_in set.MathmlTextIntegrationPoint x) (is_in set.SvgHtmlIntegrationPoint x) (is_in set.AnnotationXml x)
+there-by-shape : (s : State) (x : Open) (t : Token) (shape : TokenShape) → HasShape t shape → (t ≡ EOFToken → ⊥)
+    → is_html_there s x t ≡ is_html_for (point_at s x.number) x shape
+there-by-shape s x (CharacterTokens text) Text h e = rw (
+  and-true (is_in set.MathmlTextIntegrationPoint x),
+  and-true (is_in set.SvgHtmlIntegrationPoint x),
+) refl
+there-by-shape s x NullCharacterToken Text h e = rw (
+  and-true (is_in set.MathmlTextIntegrationPoint x),
+  and-true (is_in set.SvgHtmlIntegrationPoint x),
+) refl
+there-by-shape s x (TagToken tag) (StartTag class name) h e =
+    rw (h.0, h.1, svg-name name.now, and-true (is_in set.SvgHtmlIntegrationPoint x)) refl
+there-by-shape s x (TagToken tag) Other h e =
+    rw h (nowhere (is_in set.MathmlTextIntegrationPoint x) (is_in set.SvgHtmlIntegrationPoint x) (is_in set.AnnotationXml x))
+there-by-shape s x (CommentToken text) Other h e = nowhere (is_in set.MathmlTextIntegrationPoint x)
+    (is_in set.SvgHtmlIntegrationPoint x) (is_in set.AnnotationXml x)
+there-by-shape s x (DoctypeToken doctype) Other h e = nowhere (is_in set.MathmlTextIntegrationPoint x)
+    (is_in set.SvgHtmlIntegrationPoint x) (is_in set.AnnotationXml x)
+there-by-shape s x (ParseError message) Other h e = nowhere (is_in set.MathmlTextIntegrationPoint x)
+    (is_in set.SvgHtmlIntegrationPoint x) (is_in set.AnnotationXml x)
 there-by-shape s x EOFToken EndOfFile h e = absurd (e refl)
 there-by-shape s x t shape h e = absurd h
 
@@ -61,11 +74,13 @@ before-end s NullCharacterToken e = refl
 before-end s (ParseError message) e = refl
 before-end s EOFToken e = absurd (e refl)
 
-at-node : (s : State) (o : Option Open) (t : Token) (shape : TokenShape) → HasShape t shape → (t ≡ EOFToken → ⊥) → is_foreign_at s o t ≡ is_foreign_for (point_at s) o shape
+at-node : (s : State) (o : Option Open) (t : Token) (shape : TokenShape) → HasShape t shape → (t ≡ EOFToken → ⊥)
+    → is_foreign_at s o t ≡ is_foreign_for (point_at s) o shape
 at-node s None t shape h e = refl
 at-node s (Some x) t shape h e = ap (λ b. not (is_html_element x) && not b) (there-by-shape s x t shape h e)
 
-token-by-shape : (s : State) (o : Option Open) (t : Token) (shape : TokenShape) → adjusted_current_node s ≡ o → HasShape t shape → (t ≡ EOFToken → ⊥) → is_foreign s t ≡ is_foreign_for (point_at s) o shape
+token-by-shape : (s : State) (o : Option Open) (t : Token) (shape : TokenShape) → adjusted_current_node s ≡ o
+    → HasShape t shape → (t ≡ EOFToken → ⊥) → is_foreign s t ≡ is_foreign_for (point_at s) o shape
 token-by-shape s o t shape at h e = before-end s t e ∙ (ap (λ p. is_foreign_at s p t) at ∙ at-node s o t shape h e)
 
 at-end : (s : State) (o : Option Open) → is_foreign s EOFToken ≡ is_foreign_for (point_at s) o EndOfFile
@@ -74,11 +89,13 @@ at-end s None = refl
 at-end s (Some x) = sym (and-false (not (is_html_element x)))
 
 -- whether the rules of foreign content hold for a token, by its shape and by the adjusted current node
-pub foreign-by-shape : (s : State) (o : Option Open) (t : Token) (shape : TokenShape) → adjusted_current_node s ≡ o → HasShape t shape → is_foreign s t ≡ is_foreign_for (point_at s) o shape
+pub foreign-by-shape : (s : State) (o : Option Open) (t : Token) (shape : TokenShape) → adjusted_current_node s ≡ o
+    → HasShape t shape → is_foreign s t ≡ is_foreign_for (point_at s) o shape
 foreign-by-shape s o EOFToken EndOfFile at h = at-end s o
 foreign-by-shape s o (CharacterTokens text) Text at h = token-by-shape s o (CharacterTokens text) Text at h (λ e. absurd cc)
 foreign-by-shape s o NullCharacterToken Text at h = token-by-shape s o NullCharacterToken Text at h (λ e. absurd cc)
-foreign-by-shape s o (TagToken tag) (StartTag class name) at h = token-by-shape s o (TagToken tag) (StartTag class name) at h (λ e. absurd cc)
+foreign-by-shape s o (TagToken tag) (StartTag class name) at h = token-by-shape s o (TagToken tag)
+    (StartTag class name) at h (λ e. absurd cc)
 foreign-by-shape s o (TagToken tag) Other at h = token-by-shape s o (TagToken tag) Other at h (λ e. absurd cc)
 foreign-by-shape s o (CommentToken text) Other at h = token-by-shape s o (CommentToken text) Other at h (λ e. absurd cc)
 foreign-by-shape s o (DoctypeToken doctype) Other at h = token-by-shape s o (DoctypeToken doctype) Other at h (λ e. absurd cc)
@@ -86,7 +103,8 @@ foreign-by-shape s o (ParseError message) Other at h = token-by-shape s o (Parse
 foreign-by-shape s o t shape at h = absurd h
 
 -- the adjusted current node is a node
-pub adjusted-IsNode : (f : Forest) (context : Option Open) (xs : List Open) (y : Open) → AreOpened f xs → IfSome context (λ c. IsNode f c.number) → adjusted_by context xs ≡ Some y → IsNode f y.number
+pub adjusted-IsNode : (f : Forest) (context : Option Open) (xs : List Open) (y : Open) → AreOpened f xs
+    → IfSome context (λ c. IsNode f c.number) → adjusted_by context xs ≡ Some y → IsNode f y.number
 adjusted-IsNode f None [] y opened node e = absurd cc
 adjusted-IsNode f (Some c) [] y opened node e = absurd cc
 adjusted-IsNode f None (x ∷ xs) y opened node e = let same : x ≡ y = cc in rw (← same) (opened-IsNode f x opened.0)

@@ -31,7 +31,8 @@ root-alone first name (x ∷ []) l = refl
 root-alone first name (x ∷ y ∷ ys) l = absurd (omega arith)
 
 -- none but the root is left
-pub end-none : {H : Type 0} (name : List ℕ) (xs : List (OpenElement H)) (first : Bool) (i : ℕ) → IsEndWalked name xs first i → i ≤ 1 → (node : H → ℕ) → foreign_end_from true name (opens_of node xs) ≡ Dropped
+pub end-none : {H : Type 0} (name : List ℕ) (xs : List (OpenElement H)) (first : Bool) (i : ℕ)
+    → IsEndWalked name xs first i → i ≤ 1 → (node : H → ℕ) → foreign_end_from true name (opens_of node xs) ≡ Dropped
 end-none name xs first i is l node =
     let few : length (opens_of node (take i xs)) ≤ 1 = rw (length-reverse, length-map, length-take) (omega (arith, is.within)) in
     is.same node ∙ root-alone first name (opens_of node (take i xs)) few
@@ -39,51 +40,70 @@ end-none name xs first i is l node =
 some-left : {H : Type 0} (node : H → ℕ) (xs : List (OpenElement H)) (k : ℕ) → 0 < k → k ≤ length xs → 0 < length (opens_of node (take k xs))
 some-left node xs k some within = rw (length-reverse, length-map, length-take) (omega (arith, some, within))
 
-fails-on : (first : Bool) (name : List ℕ) (x : Open) (rest : List Open) → 0 < length rest → false ≡ (not first && is_html_element x) → false ≡ is_named_any_case name x → foreign_end_from first name (x ∷ rest) ≡ foreign_end_from false name rest
+fails-on : (first : Bool) (name : List ℕ) (x : Open) (rest : List Open) → 0 < length rest
+    → false ≡ (not first && is_html_element x) → false ≡ is_named_any_case name x → foreign_end_from first name
+    (x ∷ rest) ≡ foreign_end_from false name rest
 fails-on first name x [] some html named = absurd (omega (arith, some))
 fails-on first name x (y ∷ ys) some html named = rw (← html, ← named) refl
 
 -- one element further
-pub end-step : {H : Type 0} (name : List ℕ) (xs : List (OpenElement H)) (first : Bool) (i k : ℕ) (x : OpenElement H) → IsEndWalked name xs first i → i ≡ suc k → 0 < k → x ≡ get_or xs k x
-    → ((node : H → ℕ) → false ≡ (not first && is_html_element (open_of node x))) → ((node : H → ℕ) → false ≡ is_named_any_case name (open_of node x)) → IsEndWalked name xs false k
+pub end-step : {H : Type 0} (name : List ℕ) (xs : List (OpenElement H)) (first : Bool) (i k : ℕ) (x : OpenElement H)
+    → IsEndWalked name xs first i → i ≡ suc k → 0 < k → x ≡ get_or xs k x
+    → ((node : H → ℕ) → false ≡ (not first && is_html_element (open_of node x)))
+    → ((node : H → ℕ) → false ≡ is_named_any_case name (open_of node x)) → IsEndWalked name xs false k
 end-step name xs first i k x is e some here html named = record {
   within = omega (arith, is.within, e);
   same = λ node.
       is.same node
       ∙ ap (foreign_end_from first name) (at (open_of node) xs i k x e (omega (arith, is.within, e)) here)
-      ∙ fails-on first name (open_of node x) (opens_of node (take k xs)) (some-left node xs k some (omega (arith, is.within, e))) (html node) (named node);
+      ∙ fails-on first name (open_of node x) (opens_of node (take k xs))
+      (some-left node xs k some (omega (arith, is.within, e))) (html node) (named node);
 }
 
-skips : (name : List ℕ) (x : Open) (ys : List Open) → (is_html x.namespace || named_any_case name (known_as x)) ≡ false → foreign_end_from false name (x ∷ ys) ≡ foreign_end_from false name ys
+skips : (name : List ℕ) (x : Open) (ys : List Open) → (is_html x.namespace || named_any_case name (known_as x)) ≡
+    false → foreign_end_from false name (x ∷ ys) ≡ foreign_end_from false name ys
 skips name x [] none = refl
-skips name x (y ∷ ys) none = rw (or-left (is_html x.namespace) (named_any_case name (known_as x)) none, or-right (is_html x.namespace) (named_any_case name (known_as x)) none) refl
+skips name x (y ∷ ys) none = rw (
+  or-left (is_html x.namespace) (named_any_case name (known_as x)) none,
+  or-right (is_html x.namespace) (named_any_case name (known_as x)) none,
+) refl
 
-html-on : (first : Bool) (name : List ℕ) (x : Open) (rest : List Open) → 0 < length rest → true ≡ (not first && is_html_element x) → foreign_end_from first name (x ∷ rest) ≡ AsInMode
+html-on : (first : Bool) (name : List ℕ) (x : Open) (rest : List Open) → 0 < length rest
+    → true ≡ (not first && is_html_element x) → foreign_end_from first name (x ∷ rest) ≡ AsInMode
 html-on first name x [] some html = absurd (omega (arith, some))
 html-on first name x (y ∷ ys) some html = rw (← html) refl
 
-named-on : (first : Bool) (name : List ℕ) (x : Open) (rest : List Open) → 0 < length rest → false ≡ (not first && is_html_element x) → true ≡ is_named_any_case name x → foreign_end_from first name (x ∷ rest) ≡ Closed rest
+named-on : (first : Bool) (name : List ℕ) (x : Open) (rest : List Open) → 0 < length rest
+    → false ≡ (not first && is_html_element x) → true ≡ is_named_any_case name x → foreign_end_from first name (x ∷ rest) ≡ Closed rest
 named-on first name x [] some html named = absurd (omega (arith, some))
 named-on first name x (y ∷ ys) some html named = rw (← html, ← named) refl
 
 -- the walk ends at an HTML element
-pub end-html : {H : Type 0} (name : List ℕ) (xs : List (OpenElement H)) (first : Bool) (i k : ℕ) (x : OpenElement H) → IsEndWalked name xs first i → i ≡ suc k → 0 < k → x ≡ get_or xs k x
-    → ((node : H → ℕ) → true ≡ (not first && is_html_element (open_of node x))) → (node : H → ℕ) → foreign_end_from true name (opens_of node xs) ≡ AsInMode
+pub end-html : {H : Type 0} (name : List ℕ) (xs : List (OpenElement H)) (first : Bool) (i k : ℕ) (x : OpenElement H)
+    → IsEndWalked name xs first i → i ≡ suc k → 0 < k → x ≡ get_or xs k x
+    → ((node : H → ℕ) → true ≡ (not first && is_html_element (open_of node x))) → (node : H → ℕ)
+    → foreign_end_from true name (opens_of node xs) ≡ AsInMode
 end-html name xs first i k x is e some here html node =
     is.same node
     ∙ ap (foreign_end_from first name) (at (open_of node) xs i k x e (omega (arith, is.within, e)) here)
     ∙ html-on first name (open_of node x) (opens_of node (take k xs)) (some-left node xs k some (omega (arith, is.within, e))) (html node)
 
 -- or at one of the name
-pub end-named : {H : Type 0} (name : List ℕ) (xs : List (OpenElement H)) (first : Bool) (i k : ℕ) (x : OpenElement H) → IsEndWalked name xs first i → i ≡ suc k → 0 < k → x ≡ get_or xs k x
-    → ((node : H → ℕ) → false ≡ (not first && is_html_element (open_of node x))) → ((node : H → ℕ) → true ≡ is_named_any_case name (open_of node x)) → (node : H → ℕ) → foreign_end_from true name (opens_of node xs) ≡ Closed (opens_of node (take k xs))
+pub end-named : {H : Type 0} (name : List ℕ) (xs : List (OpenElement H)) (first : Bool) (i k : ℕ)
+    (x : OpenElement H) → IsEndWalked name xs first i → i ≡ suc k → 0 < k → x ≡ get_or xs k x
+    → ((node : H → ℕ) → false ≡ (not first && is_html_element (open_of node x)))
+    → ((node : H → ℕ) → true ≡ is_named_any_case name (open_of node x)) → (node : H → ℕ)
+    → foreign_end_from true name (opens_of node xs) ≡ Closed (opens_of node (take k xs))
 end-named name xs first i k x is e some here html named node =
     is.same node
     ∙ ap (foreign_end_from first name) (at (open_of node) xs i k x e (omega (arith, is.within, e)) here)
-    ∙ named-on first name (open_of node x) (opens_of node (take k xs)) (some-left node xs k some (omega (arith, is.within, e))) (html node) (named node)
+    ∙ named-on first name (open_of node x) (opens_of node (take k xs))
+    (some-left node xs k some (omega (arith, is.within, e))) (html node) (named node)
 
 -- those beyond a place are passed over, where none of them has the name or is HTML's
-pub end-skip : {H : Type 0} (name : List ℕ) (xs : List (OpenElement H)) (k reach m : ℕ) → IsEndWalked name xs false k → m ≡ min k reach → NoneFrom (λ x. is_html x.namespace || named_any_case name x) (named xs) reach → IsEndWalked name xs false m
+pub end-skip : {H : Type 0} (name : List ℕ) (xs : List (OpenElement H)) (k reach m : ℕ)
+    → IsEndWalked name xs false k → m ≡ min k reach → NoneFrom (λ x. is_html x.namespace || named_any_case name x)
+    (named xs) reach → IsEndWalked name xs false m
 end-skip name xs k reach m is e none =
     let below : m ≤ k = rw e (omega arith) in
     let none-part : NoneFrom (λ x. is_html x.namespace || named_any_case name x) (named (take k xs)) m = λ j x above less.
@@ -95,12 +115,15 @@ end-skip name xs k reach m is e none =
       within = omega (arith, is.within, below);
       same = λ node.
           is.same node
-          ∙ sym (same-answer (foreign_end_from false name) (λ x. is_html x.namespace || named_any_case name x) (skips name) (opens_of node (take m (take k xs))) (opens_of node (take k xs)) (beyond node (λ x. is_html x.namespace || named_any_case name x) (take k xs) m none-part))
+          ∙ sym (same-answer (foreign_end_from false name) (λ x. is_html x.namespace || named_any_case name x)
+          (skips name) (opens_of node (take m (take k xs))) (opens_of node (take k xs))
+          (beyond node (λ x. is_html x.namespace || named_any_case name x) (take k xs) m none-part))
           ∙ ap (λ ys. foreign_end_from false name (opens_of node ys)) (take-take m k xs below);
     }
 
 -- an end, by elements as they lie and by open elements
-pub ends-same : {H : Type 0} (node : H → ℕ) (items : List (OpenElement H)) (end : Found) → end_of node items end ≡ ends_at (opens_of node items) end
+pub ends-same : {H : Type 0} (node : H → ℕ) (items : List (OpenElement H)) (end : Found)
+    → end_of node items end ≡ ends_at (opens_of node items) end
 ends-same node items found.Dropped = refl
 ends-same node items found.AsInMode = refl
 ends-same node items (found.Closed count) = rw (reverse-reverse, take-map) refl

@@ -12,14 +12,16 @@ use Rattle.html_rules.specs.declared.tag_set.TagSet.{TagSet}
 use Rattle.html_names.proofs.UnknownNames.{unknown-among}
 use Rattle.html_stack.specs.Wanted.{IsOfHtml}
 
-html-of : (items : TagSet) (namespace : Namespace) (name : List ℕ) → IsOfHtml items → is_among name (names_in namespace items) ≡ true → namespace ≡ Html
+html-of : (items : TagSet) (namespace : Namespace) (name : List ℕ) → IsOfHtml items
+    → is_among name (names_in namespace items) ≡ true → namespace ≡ Html
 html-of items Html name of h = refl
 html-of items MathMl name of h = absurd (let no : is_among name [] ≡ true = rw of.no_mathml at h in cc)
 html-of items Svg name of h = absurd (let no : is_among name [] ≡ true = rw of.no_svg at h in cc)
 html-of items (Other uri) name of h = absurd cc
 
 pub item-known : (items : TagSet) (x : Open) (found : Option (List ℕ)) (o : Option KnownName)
-    → IfSome o (λ known. (x.namespace ≡ Html) × IsNameAt known.place x.name) → IfNone o (x.namespace ≡ Html → list_any (bytes_eq x.name) names ≡ false)
+    → IfSome o (λ known. (x.namespace ≡ Html) × IsNameAt known.place x.name)
+    → IfNone o (x.namespace ≡ Html → list_any (bytes_eq x.name) names ≡ false)
     → IsOfHtml items → is_in items x ≡ true → found ≡ Some x.name
     → MatchOption o (found ≡ None) (λ known. (known.place < length names) × (found ≡ Some (get_or names known.place [])))
 item-known items x found (Some known) some none of is e = (some.1.within, e ∙ ap Some (sym some.1.there))

@@ -10,7 +10,8 @@ use Rattle.html_stack.proofs.States.{some_state}
 pub kept-by : (step : State → State) → Keeps step → (foster : Bool) (old new : Stacked) (f g : Forest)
     → ((s : State) → s.foster_parenting ≡ foster → joined s new g ≡ step (joined s old f))
     → IsStanding f old.open_elems old.active_formatting → IsStanding g new.open_elems new.active_formatting
-kept-by step keeps foster old new f g e is = subst (λ s. Standing s) (sym (e (some_state foster) refl)) (keeps (joined (some_state foster) old f) is)
+kept-by step keeps foster old new f g e is = subst (λ s. Standing s) (sym (e (some_state foster) refl))
+    (keeps (joined (some_state foster) old f) is)
 
 -- where foster parenting does not matter
 pub kept-always : (step : State → State) → Keeps step → (old new : Stacked) (f g : Forest)

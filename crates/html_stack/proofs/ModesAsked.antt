@@ -18,11 +18,13 @@ pub html-without : (head : Option ℕ) → is_some head ≡ false → mode_of_ht
 html-without None h = refl
 html-without (Some n) h = absurd cc
 
-pub context-mode : (s : State) (o : Option Open) (name : Bor Named) (mode : InsertionMode) → ((number : ℕ) → MayAsk s (named_open number name.now) (Some mode)) → IsContext o (Some name) → mode_of_context s o ≡ mode
+pub context-mode : (s : State) (o : Option Open) (name : Bor Named) (mode : InsertionMode)
+    → ((number : ℕ) → MayAsk s (named_open number name.now) (Some mode)) → IsContext o (Some name) → mode_of_context s o ≡ mode
 context-mode s None name mode asks is = absurd is
 context-mode s (Some c) name mode asks is = rw (is.0, is.1) (asks c.number (λ _. InBody))
 
-pub context-none : (s : State) (o : Option Open) (name : Bor Named) → ((number : ℕ) → MayAsk s (named_open number name.now) None) → IsContext o (Some name) → mode_of_context s o ≡ InBody
+pub context-none : (s : State) (o : Option Open) (name : Bor Named)
+    → ((number : ℕ) → MayAsk s (named_open number name.now) None) → IsContext o (Some name) → mode_of_context s o ≡ InBody
 context-none s None name asks is = absurd is
 context-none s (Some c) name asks is = rw (is.0, is.1) (asks c.number (λ _. InBody))
 
@@ -30,11 +32,14 @@ context-none s (Some c) name asks is = rw (is.0, is.1) (asks c.number (λ _. InB
 pub open-cell : (s : State) (x : Open) (xs : List Open) → is_in set.TdTh x ≡ true → mode_of_open s (x ∷ xs) ≡ InCell
 open-cell s x xs cell = rw cell refl
 
-pub open-head : (s : State) (x : Open) (xs : List Open) → is_in set.TdTh x ≡ false → is_in set.Head x ≡ true → mode_of_open s (x ∷ xs) ≡ InHead
+pub open-head : (s : State) (x : Open) (xs : List Open) → is_in set.TdTh x ≡ false → is_in set.Head x ≡ true
+    → mode_of_open s (x ∷ xs) ≡ InHead
 open-head s x xs cell head = rw (cell, head) refl
 
-pub open-html : (s : State) (x : Open) (xs : List Open) → is_in set.TdTh x ≡ false → is_in set.Head x ≡ false → is_in set.Html x ≡ true → mode_of_open s (x ∷ xs) ≡ mode_of_context s s.context_elem
+pub open-html : (s : State) (x : Open) (xs : List Open) → is_in set.TdTh x ≡ false → is_in set.Head x ≡ false
+    → is_in set.Html x ≡ true → mode_of_open s (x ∷ xs) ≡ mode_of_context s s.context_elem
 open-html s x xs cell head html = rw (cell, head, html) refl
 
-pub open-other : (s : State) (x : Open) (xs : List Open) → is_in set.TdTh x ≡ false → is_in set.Head x ≡ false → is_in set.Html x ≡ false → mode_of_open s (x ∷ xs) ≡ mode_of s x (λ _. mode_of_open s xs)
+pub open-other : (s : State) (x : Open) (xs : List Open) → is_in set.TdTh x ≡ false → is_in set.Head x ≡ false
+    → is_in set.Html x ≡ false → mode_of_open s (x ∷ xs) ≡ mode_of s x (λ _. mode_of_open s xs)
 open-other s x xs cell head html = rw (cell, head, html) refl

@@ -11,7 +11,8 @@ ok-both (Ok x) f h k = f h k
 ok-both (Err e) f h k = tt
 
 -- what holds of either outcome
-pub either-on : {T E X : Type 0} (P : X → Type 0) (r : Result T E) (x after before : X) → OnOk r (x ≡ after) → OnErr r (x ≡ before) → P after → P before → P x
+pub either-on : {T E X : Type 0} (P : X → Type 0) (r : Result T E) (x after before : X) → OnOk r (x ≡ after)
+    → OnErr r (x ≡ before) → P after → P before → P x
 either-on P (Ok v) x after before h k p q = subst P (sym h) p
 either-on P (Err e) x after before h k p q = subst P (sym k) q
 

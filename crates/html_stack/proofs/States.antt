@@ -23,5 +23,9 @@ some_state foster = record {
   context_elem = None;
   has_ended = false;
   opts = record { scripting_enabled = false; iframe_srcdoc = false; drop_doctype = false };
-  answers = record { integration_point = λ f n. false; allows_shadow_roots = λ f n. true; attaches_shadow = λ f host template attributes. false };
+  answers = record {
+    integration_point = λ f n. false;
+    allows_shadow_roots = λ f n. true;
+    attaches_shadow = λ f host template attributes. false;
+  };
 }

@@ -1,17 +1,21 @@
 -- What a turn of the adoption agency with a furthest block asks of the tree, and what stands in the midst of it.
-use Rattle.std.proofs.Common.{◌≡◌, ◌∙◌, ℕ, suc, ◌+◌, ◌<◌, Bool, false, List, [], ◌∷◌, ◌++◌, length, take, drop, get_or, map, reverse, Option, Some, None, refl, sym, ap, subst, arith, add-one, append_assoc, eq-zero-or-pos, inl, inr, eq-eqb, length-take-le, true≢false}
+use Rattle.std.proofs.Common.{◌≡◌, ◌∙◌, ℕ, suc, ◌+◌, ◌<◌, Bool, false, List, [], ◌∷◌, ◌++◌, length, take, drop, get_or, map}
+use Rattle.std.proofs.Common.{reverse, Option, Some, None, refl, sym, ap, subst, arith, add-one, append_assoc, eq-zero-or-pos}
+use Rattle.std.proofs.Common.{inl, inr, eq-eqb, length-take-le, true≢false}
 use Rattle.std.specs.Prelude.{nat_eq, slice_range, MatchOption}
 use Rattle.std.specs.List.{list_any}
 use Rattle.std.proofs.lemmas.List.{get_or_default, get_or-take, length-map, length-reverse, map-append, reverse-append}
 use Rattle.std.proofs.lemmas.Slice.{between_is}
-use Rattle.markup.specs.Forest.{Above, Forest, Last, reparent_children, IsLoose, IsParent, IsPlace, data_of, element_name, holds_children, node_count, parent_at, put, remove}
+use Rattle.markup.specs.Forest.{Above, Forest, Last, reparent_children, IsLoose, IsParent, IsPlace, data_of, element_name}
+use Rattle.markup.specs.Forest.{holds_children, node_count, parent_at, put, remove}
 use Rattle.markup.specs.Named.{IsTree}
 use Rattle.markup.proofs.Forests.{IsRemoved-remove}
 use Rattle.markup.proofs.PutTexts.{IsParent-element, element-IsNode}
 use Rattle.markup.proofs.Trees.{IsTree-remove}
 use Rattle.markup.proofs.Walks.{Above-less}
 use Rattle.html_tokens.specs.declared.tags.Tag.{Tag}
-use Rattle.html_rules.specs.Adoption.{Walk, adopt, begin_walk, between, is_number, opened_after, opened_before, opened_for, relist, walk, with_copy}
+use Rattle.html_rules.specs.Adoption.{Walk, adopt, begin_walk, between, is_number, opened_after, opened_before, opened_for}
+use Rattle.html_rules.specs.Adoption.{relist, walk, with_copy}
 use Rattle.html_rules.specs.Formatting.{Listed, put_after, without_entry}
 use Rattle.html_rules.specs.Names.{element_name_of}
 use Rattle.html_rules.specs.Places.{place_for}
@@ -48,22 +52,32 @@ pub first-is : {X : Type 0} (xs : List X) (x : X) → 0 < length xs → (y : X) 
 first-is [] x some = absurd (omega arith)
 first-is (y ∷ ys) x some = (y, ys, refl, refl)
 
-pub opened-index : {H : Type 0} (f : Forest) (node : H → ℕ) (xs : List (OpenElement H)) (i : ℕ) (d : OpenElement H) → AreOpened f (opens_of node xs) → i < length xs → IsOpened f (open_of node (get_or xs i d))
-opened-index f node xs i d h less = (opened-at f node xs (suc i) i (get_or xs i d) h refl less (get_or_default xs i d (get_or xs i d) less)).0
+pub opened-index : {H : Type 0} (f : Forest) (node : H → ℕ) (xs : List (OpenElement H)) (i : ℕ) (d : OpenElement H)
+    → AreOpened f (opens_of node xs) → i < length xs → IsOpened f (open_of node (get_or xs i d))
+opened-index f node xs i d h less =
+    (opened-at f node xs (suc i) i (get_or xs i d) h refl less (get_or_default xs i d (get_or xs i d) less)).0
 
 -- the walk, and the place for what is before the formatting element
-pub record IsAdoption {H : Type 0} (node : H → ℕ) (f0 : Forest) (xs : List (OpenElement H)) (entries : List Entry) (from to : ℕ) (d : OpenElement H) (foster : Bool) (w : Walk) : Type 0 where
+pub record IsAdoption {H : Type 0} (node : H → ℕ) (f0 : Forest) (xs : List (OpenElement H)) (entries : List Entry)
+    (from to : ℕ) (d : OpenElement H) (foster : Bool) (w : Walk) : Type 0 where
   pub named : IsOpened f0 (open_of node (get_or xs to d))
   pub standing : IsStanding f0 (opens_of node xs) entries
   pub within : to < length xs
   pub walked : Walked f0 (node (get_or xs to d).handle) w
-  pub at : IsPlace (remove w.forest w.last_node) (place_for foster (remove w.forest w.last_node) (opens_of node xs) (current_node (opens_of node (take from xs))))
-  pub there : parent_at (place_for foster (remove w.forest w.last_node) (opens_of node xs) (current_node (opens_of node (take from xs)))) < node_count f0
-  pub out : Above f0 (node (get_or xs to d).handle) (parent_at (place_for foster (remove w.forest w.last_node) (opens_of node xs) (current_node (opens_of node (take from xs))))) → ⊥
-  pub none : NoneAbove f0 (opens_of node (drop (suc to) xs)) (parent_at (place_for foster (remove w.forest w.last_node) (opens_of node xs) (current_node (opens_of node (take from xs)))))
+  pub at : IsPlace (remove w.forest w.last_node) (place_for foster (remove w.forest w.last_node) (opens_of node xs)
+      (current_node (opens_of node (take from xs))))
+  pub there : parent_at (place_for foster (remove w.forest w.last_node) (opens_of node xs)
+      (current_node (opens_of node (take from xs)))) < node_count f0
+  pub out : Above f0 (node (get_or xs to d).handle)
+      (parent_at (place_for foster (remove w.forest w.last_node) (opens_of node xs) (current_node (opens_of node (take from xs))))) → ⊥
+  pub none : NoneAbove f0 (opens_of node (drop (suc to) xs))
+      (parent_at (place_for foster (remove w.forest w.last_node) (opens_of node xs) (current_node (opens_of node (take from xs)))))
 
-pub adoption : {H : Type 0} (node : H → ℕ) (f0 : Forest) (xs : List (OpenElement H)) (entries : List Entry) (from to : ℕ) (d : OpenElement H) (foster : Bool) (tag : Tag) (w : Walk) → IsStanding f0 (opens_of node xs) entries → from < to → to < length xs → IsTurn node xs entries from to tag d
-    → w ≡ walk 3 (opens_of node (slice_range xs (from + 1) to)) (begun f0 (node (get_or xs to d).handle) entries) → IsAdoption node f0 xs entries from to d foster w
+pub adoption : {H : Type 0} (node : H → ℕ) (f0 : Forest) (xs : List (OpenElement H)) (entries : List Entry)
+    (from to : ℕ) (d : OpenElement H) (foster : Bool) (tag : Tag) (w : Walk)
+    → IsStanding f0 (opens_of node xs) entries → from < to → to < length xs → IsTurn node xs entries from to tag d
+    → w ≡ walk 3 (opens_of node (slice_range xs (from + 1) to)) (begun f0 (node (get_or xs to d).handle) entries)
+    → IsAdoption node f0 xs entries from to d foster w
 adoption {H} node f0 xs entries from to d foster tag w is order within turn e =
     let ys : List Open = opens_of node (slice_range xs (from + 1) to) in
     let n : ℕ = node (get_or xs from d).handle in
@@ -81,14 +95,28 @@ adoption {H} node f0 xs entries from to d foster tag w is order within turn e =
       standing = is;
       within = within;
       walked = walk-Walked f0 block.number 3 ys (begun f0 block.number entries) (opened-Walked f0 block entries is.tree is.listed named);
-      at = subst (λ zs. IsPlace (remove (walk 3 ys (begun f0 block.number entries)).forest (walk 3 ys (begun f0 block.number entries)).last_node) (place_for foster (remove (walk 3 ys (begun f0 block.number entries)).forest (walk 3 ys (begun f0 block.number entries)).last_node) (opens_of node xs) (current_node zs))) before h.at;
-      there = subst (λ zs. parent_at (place_for foster (remove (walk 3 ys (begun f0 block.number entries)).forest (walk 3 ys (begun f0 block.number entries)).last_node) (opens_of node xs) (current_node zs)) < node_count f0) before h.outer.there;
-      out = subst (λ zs. Above f0 block.number (parent_at (place_for foster (remove (walk 3 ys (begun f0 block.number entries)).forest (walk 3 ys (begun f0 block.number entries)).last_node) (opens_of node xs) (current_node zs))) → ⊥) before h.outer.under;
-      none = subst (λ us. NoneAbove f0 us (parent_at (place_for foster (remove (walk 3 ys (begun f0 block.number entries)).forest (walk 3 ys (begun f0 block.number entries)).last_node) (opens_of node xs) (current_node (opens_of node (take from xs)))))) after
-          (subst (λ zs. NoneAbove f0 (opened_after block.number (opens_of node xs)) (parent_at (place_for foster (remove (walk 3 ys (begun f0 block.number entries)).forest (walk 3 ys (begun f0 block.number entries)).last_node) (opens_of node xs) (current_node zs)))) before h.outer.none);
+      at = subst (λ zs. IsPlace (remove (walk 3 ys (begun f0 block.number entries)).forest
+          (walk 3 ys (begun f0 block.number entries)).last_node)
+          (place_for foster (remove (walk 3 ys (begun f0 block.number entries)).forest
+          (walk 3 ys (begun f0 block.number entries)).last_node) (opens_of node xs) (current_node zs))) before h.at;
+      there = subst (λ zs. parent_at
+          (place_for foster (remove (walk 3 ys (begun f0 block.number entries)).forest
+          (walk 3 ys (begun f0 block.number entries)).last_node) (opens_of node xs) (current_node zs)) <
+          node_count f0) before h.outer.there;
+      out = subst (λ zs. Above f0 block.number
+          (parent_at (place_for foster (remove (walk 3 ys (begun f0 block.number entries)).forest
+          (walk 3 ys (begun f0 block.number entries)).last_node) (opens_of node xs) (current_node zs))) → ⊥) before h.outer.under;
+      none = subst (λ us. NoneAbove f0 us
+          (parent_at (place_for foster (remove (walk 3 ys (begun f0 block.number entries)).forest
+          (walk 3 ys (begun f0 block.number entries)).last_node) (opens_of node xs)
+          (current_node (opens_of node (take from xs)))))) after
+          (subst (λ zs. NoneAbove f0 (opened_after block.number (opens_of node xs))
+          (parent_at (place_for foster (remove (walk 3 ys (begun f0 block.number entries)).forest
+          (walk 3 ys (begun f0 block.number entries)).last_node) (opens_of node xs) (current_node zs)))) before h.outer.none);
     })
 
-module _ {H : Type 0} (node : H → ℕ) (f0 : Forest) (xs : List (OpenElement H)) (entries : List Entry) (from to : ℕ) (d : OpenElement H) (foster : Bool) (w : Walk) (is : IsAdoption node f0 xs entries from to d foster w) where
+module _ {H : Type 0} (node : H → ℕ) (f0 : Forest) (xs : List (OpenElement H)) (entries : List Entry) (from to : ℕ)
+    (d : OpenElement H) (foster : Bool) (w : Walk) (is : IsAdoption node f0 xs entries from to d foster w) where
   -- the open elements are elements still
   pub still-opened : AreOpened w.forest (opens_of node xs)
   still-opened = named-opened f0 w.forest (opens_of node xs) is.walked.names is.standing.opened
@@ -96,71 +124,118 @@ module _ {H : Type 0} (node : H → ℕ) (f0 : Forest) (xs : List (OpenElement H
   pub removed-opened : AreOpened (remove w.forest w.last_node) (opens_of node xs)
   removed-opened =
       let rr = IsRemoved-remove w.forest w.last_node is.walked.tree.forest in
-      named-opened w.forest (remove w.forest w.last_node) (opens_of node xs) (record { names = λ k name e. ap element_name (rr.same_data k) ∙ e; holds = λ k at. record { there = let less = at.there in let count = rr.count in omega arith; holds = ap holds_children (rr.same_data k) ∙ at.holds } }) still-opened
+      named-opened w.forest (remove w.forest w.last_node) (opens_of node xs)
+      (record {
+        names = λ k name e. ap element_name (rr.same_data k) ∙ e;
+        holds = λ k at. record {
+          there = let less = at.there in let count = rr.count in omega arith;
+          holds = ap holds_children (rr.same_data k) ∙ at.holds;
+        };
+      }) still-opened
 
   pub removed-tree : IsTree (remove w.forest w.last_node)
   removed-tree = IsTree-remove w.forest w.last_node is.walked.tree
 
   -- the last node may be put there
-  pub last-loose : IsLoose (remove w.forest w.last_node) (parent_at (place_for foster (remove w.forest w.last_node) (opens_of node xs) (current_node (opens_of node (take from xs))))) w.last_node
+  pub last-loose : IsLoose (remove w.forest w.last_node)
+      (parent_at (place_for foster (remove w.forest w.last_node) (opens_of node xs)
+      (current_node (opens_of node (take from xs))))) w.last_node
   last-loose =
       let rr = IsRemoved-remove w.forest w.last_node is.walked.tree.forest in
-      let q : ℕ = parent_at (place_for foster (remove w.forest w.last_node) (opens_of node xs) (current_node (opens_of node (take from xs)))) in
+      let q : ℕ = parent_at (place_for foster (remove w.forest w.last_node) (opens_of node xs)
+      (current_node (opens_of node (take from xs)))) in
       record {
         there = let there = is.walked.there in let count = rr.count in omega arith;
         no_parent = rr.free is.walked.plain;
-        not_above = λ up. last-out f0 (node (get_or xs to d).handle) w is.walked q is.there is.out (Above-less w.forest (remove w.forest w.last_node) rr.less w.last_node q up);
+        not_above = λ up. last-out f0 (node (get_or xs to d).handle) w is.walked q is.there is.out
+            (Above-less w.forest (remove w.forest w.last_node) rr.less w.last_node q up);
       }
 
   pub walk-stands : IsStanding w.forest (opens_of node xs) w.active_formatting
   walk-stands = walked-Standing f0 (open_of node (get_or xs to d)) w (opens_of node xs) entries is.named is.walked is.standing
 
   pub removed-stands : IsStanding (remove w.forest w.last_node) (opens_of node xs) w.active_formatting
-  removed-stands = changed-Standing w.forest (remove w.forest w.last_node) (opens_of node xs) w.active_formatting (stays-removed w.forest w.forest w.last_node (record { tree = is.walked.tree; names = record { names = λ k name e. e; holds = λ k at. at }; above = λ a k less up. up })) walk-stands
+  removed-stands = changed-Standing w.forest (remove w.forest w.last_node) (opens_of node xs) w.active_formatting
+      (stays-removed w.forest w.forest w.last_node
+      (record {
+        tree = is.walked.tree;
+        names = record { names = λ k name e. e; holds = λ k at. at };
+        above = λ a k less up. up;
+      })) walk-stands
 
   -- after the put
-  pub is-placed : Placed f0 (put (remove w.forest w.last_node) (place_for foster (remove w.forest w.last_node) (opens_of node xs) (current_node (opens_of node (take from xs)))) w.last_node) (node (get_or xs to d).handle)
-      (parent_at (place_for foster (remove w.forest w.last_node) (opens_of node xs) (current_node (opens_of node (take from xs))))) w.copies w.active_formatting
-  is-placed = walked-Placed f0 (node (get_or xs to d).handle) w (place_for foster (remove w.forest w.last_node) (opens_of node xs) (current_node (opens_of node (take from xs)))) is.walked is.at is.there is.out
+  pub is-placed : Placed f0
+      (put (remove w.forest w.last_node) (place_for foster (remove w.forest w.last_node) (opens_of node xs)
+      (current_node (opens_of node (take from xs)))) w.last_node) (node (get_or xs to d).handle)
+      (parent_at (place_for foster (remove w.forest w.last_node) (opens_of node xs)
+      (current_node (opens_of node (take from xs))))) w.copies w.active_formatting
+  is-placed = walked-Placed f0 (node (get_or xs to d).handle) w
+      (place_for foster (remove w.forest w.last_node) (opens_of node xs)
+      (current_node (opens_of node (take from xs)))) is.walked is.at is.there is.out
 
-  pub placed-stands : IsStanding (put (remove w.forest w.last_node) (place_for foster (remove w.forest w.last_node) (opens_of node xs) (current_node (opens_of node (take from xs)))) w.last_node) (opens_of node xs) w.active_formatting
+  pub placed-stands : IsStanding
+      (put (remove w.forest w.last_node) (place_for foster (remove w.forest w.last_node) (opens_of node xs)
+      (current_node (opens_of node (take from xs)))) w.last_node) (opens_of node xs) w.active_formatting
   placed-stands =
-      let g : Forest = put (remove w.forest w.last_node) (place_for foster (remove w.forest w.last_node) (opens_of node xs) (current_node (opens_of node (take from xs)))) w.last_node in
+      let g : Forest = put (remove w.forest w.last_node)
+      (place_for foster (remove w.forest w.last_node) (opens_of node xs) (current_node (opens_of node (take from xs)))) w.last_node in
       let split = split-at (open_of node) xs to d is.within in
-      let q : ℕ = parent_at (place_for foster (remove w.forest w.last_node) (opens_of node xs) (current_node (opens_of node (take from xs)))) in
+      let q : ℕ = parent_at (place_for foster (remove w.forest w.last_node) (opens_of node xs)
+      (current_node (opens_of node (take from xs)))) in
       subst (λ zs. IsStanding g zs w.active_formatting) (sym split)
-      (placed-Standing f0 g (open_of node (get_or xs to d)) q w.copies entries w.active_formatting (opens_of node (drop (suc to) xs)) (opens_of node (take to xs)) is-placed is.out is.none is.named (subst (λ zs. IsStanding f0 zs entries) split is.standing))
+      (placed-Standing f0 g (open_of node (get_or xs to d)) q w.copies entries w.active_formatting
+      (opens_of node (drop (suc to) xs)) (opens_of node (take to xs)) is-placed is.out is.none is.named
+      (subst (λ zs. IsStanding f0 zs entries) split is.standing))
 
-  pub block-movable : IsMovable (put (remove w.forest w.last_node) (place_for foster (remove w.forest w.last_node) (opens_of node xs) (current_node (opens_of node (take from xs)))) w.last_node) (node (get_or xs to d).handle)
+  pub block-movable : IsMovable
+      (put (remove w.forest w.last_node) (place_for foster (remove w.forest w.last_node) (opens_of node xs)
+      (current_node (opens_of node (take from xs)))) w.last_node) (node (get_or xs to d).handle)
   block-movable =
       let placed = is-placed in
-      let g : Forest = put (remove w.forest w.last_node) (place_for foster (remove w.forest w.last_node) (opens_of node xs) (current_node (opens_of node (take from xs)))) w.last_node in
+      let g : Forest = put (remove w.forest w.last_node)
+      (place_for foster (remove w.forest w.last_node) (opens_of node xs) (current_node (opens_of node (take from xs)))) w.last_node in
       let block : Open = open_of node (get_or xs to d) in
       let named = placed.names.names block.number (element_name_of block.namespace block.name) is.named.named in
-      record { tree = placed.tree; there = element-IsNode g block.number (element_name_of block.namespace block.name) named; plain = element-plain (data_of g block.number) (element_name_of block.namespace block.name) named }
+      record {
+        tree = placed.tree;
+        there = element-IsNode g block.number (element_name_of block.namespace block.name) named;
+        plain = element-plain (data_of g block.number) (element_name_of block.namespace block.name) named;
+      }
 
-  pub block-parent : IsParent (put (remove w.forest w.last_node) (place_for foster (remove w.forest w.last_node) (opens_of node xs) (current_node (opens_of node (take from xs)))) w.last_node) (node (get_or xs to d).handle)
+  pub block-parent : IsParent
+      (put (remove w.forest w.last_node) (place_for foster (remove w.forest w.last_node) (opens_of node xs)
+      (current_node (opens_of node (take from xs)))) w.last_node) (node (get_or xs to d).handle)
   block-parent =
       let placed = is-placed in
-      let g : Forest = put (remove w.forest w.last_node) (place_for foster (remove w.forest w.last_node) (opens_of node xs) (current_node (opens_of node (take from xs)))) w.last_node in
+      let g : Forest = put (remove w.forest w.last_node)
+      (place_for foster (remove w.forest w.last_node) (opens_of node xs) (current_node (opens_of node (take from xs)))) w.last_node in
       let block : Open = open_of node (get_or xs to d) in
-      IsParent-element g block.number (element_name_of block.namespace block.name) (placed.names.names block.number (element_name_of block.namespace block.name) is.named.named)
+      IsParent-element g block.number (element_name_of block.namespace block.name)
+      (placed.names.names block.number (element_name_of block.namespace block.name) is.named.named)
 
 -- what the turn leaves
 
 pub none-of : (n : ℕ) (xs : List Open) → list_any (is_number n) xs ≡ false → NoneIs n xs
 none-of n [] h = tt
-none-of n (x ∷ xs) h = ((λ same. true≢false (sym (eq-eqb x.number n same) ∙ or-left (nat_eq x.number n) (list_any (is_number n) xs) h)), none-of n xs (or-right (nat_eq x.number n) (list_any (is_number n) xs) h))
+none-of n (x ∷ xs) h = (
+  (λ same. true≢false (sym (eq-eqb x.number n same) ∙ or-left (nat_eq x.number n)
+      (list_any (is_number n) xs) h)),
+  none-of n xs (or-right (nat_eq x.number n) (list_any (is_number n) xs) h),
+)
 
-pub none-between : {H : Type 0} (f : Forest) (node : H → ℕ) (xs : List (OpenElement H)) (from to : ℕ) (d : OpenElement H) → IsApart f (opens_of node xs) → from < to → to < length xs → NoneIs (node (get_or xs from d).handle) (opens_of node (slice_range xs (from + 1) to))
+pub none-between : {H : Type 0} (f : Forest) (node : H → ℕ) (xs : List (OpenElement H)) (from to : ℕ)
+    (d : OpenElement H) → IsApart f (opens_of node xs) → from < to → to < length xs
+    → NoneIs (node (get_or xs from d).handle) (opens_of node (slice_range xs (from + 1) to))
 none-between f node xs from to d apart less within =
     let ys : List _ = take to xs in
     let size : length ys ≡ to = length-take-le to xs (omega arith) in
     let same : get_or ys from d ≡ get_or xs from d = get_or-take to xs from d less in
     let found = found-at f node ys from d (apart-take f node xs to apart) (omega arith) in
     let none = none-of (node (get_or ys from d).handle) (opens_of node (drop (suc from) ys)) found.newer in
-    let moved : opens_of node (drop (suc from) ys) ≡ opens_of node (slice_range xs (from + 1) to) = ap (λ k. opens_of node (drop k ys)) (sym (add-one from)) ∙ ap (λ zs. opens_of node zs) (sym (between_is xs (from + 1) to)) in
-    subst (λ k. NoneIs k (opens_of node (slice_range xs (from + 1) to))) (ap (λ x. node (handle_of x)) same) (subst (λ zs. NoneIs (node (get_or ys from d).handle) zs) moved none)
+    let moved : opens_of node (drop (suc from) ys) ≡ opens_of node (slice_range xs (from + 1) to) =
+    ap (λ k. opens_of node (drop k ys)) (sym (add-one from)) ∙ ap (λ zs. opens_of node zs) (sym (between_is xs (from + 1) to)) in
+    subst (λ k. NoneIs k (opens_of node (slice_range xs (from + 1) to))) (ap (λ x. node (handle_of x)) same)
+    (subst (λ zs. NoneIs (node (get_or ys from d).handle) zs) moved none)
 
 map-back : {X Y : Type 0} (f : X → Y) (xs : List X) → reverse (map f (reverse xs)) ≡ map f xs
 map-back f [] = refl
@@ -175,7 +250,8 @@ opens-append node xs ys = ap reverse (map-append (open_of node) xs ys) ∙ rever
 
 -- the stack, as it is rebuilt
 pub rebuilt : {H : Type 0} (node : H → ℕ) (before copies after : List (OpenElement H)) (b l : OpenElement H)
-    → opens_of node (before ++ (reverse copies ++ b ∷ l ∷ after)) ≡ opens_of node after ++ (open_of node l ∷ open_of node b ∷ map (open_of node) copies) ++ opens_of node before
+    → opens_of node (before ++ (reverse copies ++ b ∷ l ∷ after)) ≡ opens_of node after
+    ++ (open_of node l ∷ open_of node b ∷ map (open_of node) copies) ++ opens_of node before
 rebuilt node before copies after b l =
     opens-append node before (reverse copies ++ b ∷ l ∷ after)
     ∙ ap (λ zs. zs ++ opens_of node before)
@@ -185,10 +261,13 @@ rebuilt node before copies after b l =
     ∙ ap (λ zs. opens_of node after ++ (open_of node l ∷ open_of node b ∷ zs)) (map-back (open_of node) copies))
 
 -- the list, as it is left
-pub relisted-is : {H : Type 0} (node : H → ℕ) (n new : ℕ) (tag : Tag) (first : Option H) (copies : List (OpenElement H)) (old now : List Entry)
-    → MatchOption first (copies ≡ []) (λ h. (x : OpenElement H) × (xs : List (OpenElement H)) × (copies ≡ x ∷ xs) × (h ≡ x.handle)) → NoneIs n (map (open_of node) copies) → IsRelisted node n new tag first old now
+pub relisted-is : {H : Type 0} (node : H → ℕ) (n new : ℕ) (tag : Tag) (first : Option H)
+    (copies : List (OpenElement H)) (old now : List Entry)
+    → MatchOption first (copies ≡ []) (λ h. (x : OpenElement H) × (xs : List (OpenElement H)) × (copies ≡ x ∷ xs)
+    × (h ≡ x.handle)) → NoneIs n (map (open_of node) copies) → IsRelisted node n new tag first old now
     → now ≡ relist n (Element new tag) (map (open_of node) copies) old
-relisted-is node n new tag None copies old now none ne is = is ∙ sym (ap (λ cs. relist n (Element new tag) (map (open_of node) cs) old) none)
+relisted-is node n new tag None copies old now none ne is = is
+    ∙ sym (ap (λ cs. relist n (Element new tag) (map (open_of node) cs) old) none)
 relisted-is node n new tag (Some h) copies old now some ne is =
     let x = some.0 in
     let e : copies ≡ x ∷ some.1 = some.2 in
@@ -203,14 +282,20 @@ copies-new f0 f n [] less h = tt
 copies-new f0 f n (x ∷ xs) less h = ((λ same. let late = h.0.0 in absurd (omega arith)), copies-new f0 f n xs less h.1)
 
 -- the turn of the rules
-pub turned-is : {H : Type 0} (node : H → ℕ) (f0 : Forest) (xs : List (OpenElement H)) (entries : List Entry) (from to : ℕ) (d : OpenElement H) (foster : Bool) (tag : Tag) (w : Walk) (s : State) (g1 g3 : Forest) (opens : List Open) (others : List Entry)
+pub turned-is : {H : Type 0} (node : H → ℕ) (f0 : Forest) (xs : List (OpenElement H)) (entries : List Entry)
+    (from to : ℕ) (d : OpenElement H) (foster : Bool) (tag : Tag) (w : Walk) (s : State) (g1 g3 : Forest)
+    (opens : List Open) (others : List Entry)
     → IsStanding f0 (opens_of node xs) entries → from < to → to < length xs → s.foster_parenting ≡ foster
     → w ≡ walk 3 (opens_of node (slice_range xs (from + 1) to)) (begun f0 (node (get_or xs to d).handle) entries)
-    → g1 ≡ put (remove w.forest w.last_node) (place_for foster (remove w.forest w.last_node) (opens_of node xs) (current_node (opens_of node (take from xs)))) w.last_node
-    → g3 ≡ put (reparent_children (with_copy g1 tag) (node (get_or xs to d).handle) (node_count g1)) (Last (node (get_or xs to d).handle)) (node_count g1)
+    → g1 ≡ put (remove w.forest w.last_node) (place_for foster (remove w.forest w.last_node) (opens_of node xs)
+    (current_node (opens_of node (take from xs)))) w.last_node
+    → g3 ≡ put (reparent_children (with_copy g1 tag) (node (get_or xs to d).handle) (node_count g1))
+    (Last (node (get_or xs to d).handle)) (node_count g1)
     → others ≡ relist (node (get_or xs from d).handle) (Element (node_count g1) tag) w.copies w.active_formatting
-    → opens ≡ opens_of node (drop (suc to) xs) ++ (opened_for g1 tag ∷ open_of node (get_or xs to d) ∷ w.copies) ++ opens_of node (take from xs)
-    → with_all s g3 opens others ≡ turned (with_all s f0 (opens_of node xs) entries) (record { number = node (get_or xs from d).handle; tag = tag }) (open_of node (get_or xs to d))
+    → opens ≡ opens_of node (drop (suc to) xs) ++ (opened_for g1 tag ∷ open_of node (get_or xs to d) ∷ w.copies)
+    ++ opens_of node (take from xs)
+    → with_all s g3 opens others ≡ turned (with_all s f0 (opens_of node xs) entries)
+    (record { number = node (get_or xs from d).handle; tag = tag }) (open_of node (get_or xs to d))
 turned-is {H} node f0 xs entries from to d foster tag w s g1 g3 opens others is order within on e put_is forest_is others_is opens_is =
     let n : ℕ = node (get_or xs from d).handle in
     let block : Open = open_of node (get_or xs to d) in
@@ -219,17 +304,26 @@ turned-is {H} node f0 xs entries from to d foster tag w s g1 g3 opens others is 
     let before = before-place node n xs from d (found-at f0 node xs from d is.apart (omega arith)) in
     let after = after-place node block.number xs to d (found-at f0 node xs to d is.apart within) in
     let r : Forest = remove w.forest w.last_node in
-    let walked : w ≡ walk 3 (between fe block t) (begin_walk block t) = e ∙ ap (λ ys. walk 3 ys (begun f0 block.number entries)) (sym (between-places f0 node xs from to d is.apart order within)) in
-    let placed : g1 ≡ put r (place_for s.foster_parenting r (opens_of node xs) (current_node (opened_before n (opens_of node xs)))) w.last_node =
+    let walked : w ≡ walk 3 (between fe block t) (begin_walk block t) = e
+    ∙ ap (λ ys. walk 3 ys (begun f0 block.number entries)) (sym (between-places f0 node xs from to d is.apart order within)) in
+    let placed : g1 ≡ put r (place_for s.foster_parenting r (opens_of node xs)
+    (current_node (opened_before n (opens_of node xs)))) w.last_node =
     put_is
     ∙ ap (λ b. put r (place_for b r (opens_of node xs) (current_node (opens_of node (take from xs)))) w.last_node) (sym on)
     ∙ ap (λ zs. put r (place_for s.foster_parenting r (opens_of node xs) (current_node zs)) w.last_node) (sym before) in
-    let a : g3 ≡ (adopt fe block w t).forest = forest_is ∙ ap (λ h. put (reparent_children (with_copy h tag) block.number (node_count h)) (Last block.number) (node_count h)) placed in
+    let a : g3 ≡ (adopt fe block w t).forest = forest_is
+    ∙ ap (λ h. put (reparent_children (with_copy h tag) block.number (node_count h)) (Last block.number) (node_count h)) placed in
     let b : opens ≡ (adopt fe block w t).open_elems =
     opens_is
     ∙ ap (λ h. opens_of node (drop (suc to) xs) ++ (opened_for h tag ∷ block ∷ w.copies) ++ opens_of node (take from xs)) placed
-    ∙ ap (λ zs. zs ++ (opened_for (put r (place_for s.foster_parenting r (opens_of node xs) (current_node (opened_before n (opens_of node xs)))) w.last_node) tag ∷ block ∷ w.copies) ++ opens_of node (take from xs)) (sym after)
-    ∙ ap (λ zs. opened_after block.number (opens_of node xs) ++ (opened_for (put r (place_for s.foster_parenting r (opens_of node xs) (current_node (opened_before n (opens_of node xs)))) w.last_node) tag ∷ block ∷ w.copies) ++ zs) (sym before) in
-    let c : others ≡ (adopt fe block w t).active_formatting = others_is ∙ ap (λ h. relist n (Element (node_count h) tag) w.copies w.active_formatting) placed in
+    ∙ ap (λ zs. zs ++ (opened_for
+    (put r (place_for s.foster_parenting r (opens_of node xs)
+    (current_node (opened_before n (opens_of node xs)))) w.last_node) tag ∷ block ∷ w.copies)
+    ++ opens_of node (take from xs)) (sym after)
+    ∙ ap (λ zs. opened_after block.number (opens_of node xs)
+    ++ (opened_for (put r (place_for s.foster_parenting r (opens_of node xs)
+    (current_node (opened_before n (opens_of node xs)))) w.last_node) tag ∷ block ∷ w.copies) ++ zs) (sym before) in
+    let c : others ≡ (adopt fe block w t).active_formatting = others_is
+    ∙ ap (λ h. relist n (Element (node_count h) tag) w.copies w.active_formatting) placed in
     let all : with_all s g3 opens others ≡ adopt fe block w t = λ j. with_all s (a j) (b j) (c j) in
     all ∙ ap (λ v. adopt fe block v t) walked

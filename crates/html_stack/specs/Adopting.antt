@@ -2,7 +2,8 @@
 use Rattle.std.specs.Prelude.{◌≡◌, ◌≢◌, ◌<◌, ℕ, Bool, true, false, length, slice_index_or, List, map, Option, Some, None}
 use Rattle.markup.specs.Forest.{Forest, Last, add_error, data_of, is_contents, node_count, put, remove, reparent_children}
 use Rattle.markup.specs.Named.{IsTree}
-use Rattle.html_rules.specs.Adoption.{Turned, Walk, adopt, adopt_listed, begin_walk, between, furthest_block, is_number, listed_as, opened_after, walk}
+use Rattle.html_rules.specs.Adoption.{Turned, Walk, adopt, adopt_listed, begin_walk, between, furthest_block, is_number}
+use Rattle.html_rules.specs.Adoption.{listed_as, opened_after, walk}
 use Rattle.html_rules.specs.Choice.{choose}
 use Rattle.html_rules.specs.Stack.{in_scope}
 use Rattle.html_rules.specs.declared.tag_set.TagSet.TheVariants as set
@@ -20,7 +21,12 @@ use Rattle.html_stack.specs.declared.inserting.new_element.NewElement.{NewElemen
 
 -- what the walk has come to
 abbrev pub walk_of : {H : Type 0} → (H → ℕ) → Forest → List (FormatEntry H) → Copies H → Walk
-walk_of node f entries copies = record { forest = f; active_formatting = entries_of node entries; copies = map (open_of node) copies.elements.items; last_node = node copies.last }
+walk_of node f entries copies = record {
+  forest = f;
+  active_formatting = entries_of node entries;
+  copies = map (open_of node) copies.elements.items;
+  last_node = node copies.last;
+}
 
 -- a node that may leave its parent and be put elsewhere
 pub record IsMovable (f : Forest) (n : ℕ) : Type 0 where
@@ -46,10 +52,13 @@ IsRelisted node n new tag None old now = now ≡ with_in_place n (Element new ta
 IsRelisted node n new tag (Some first) old now = node first ≢ n → now ≡ without_entry n (put_after (node first) (Element new tag) old)
 
 -- a formatting element and its furthest block, by their places
-pub record IsTurn {H : Type 0} (node : H → ℕ) (elements : List (OpenElement H)) (entries : List Entry) (from to : ℕ) (tag : Tag) (d : OpenElement H) : Type 0 where
-  pub listed : listed_as (node (slice_index_or elements from d).handle) entries ≡ Some (record { number = node (slice_index_or elements from d).handle; tag = tag })
+pub record IsTurn {H : Type 0} (node : H → ℕ) (elements : List (OpenElement H)) (entries : List Entry) (from to : ℕ)
+    (tag : Tag) (d : OpenElement H) : Type 0 where
+  pub listed : listed_as (node (slice_index_or elements from d).handle) entries ≡ Some
+      (record { number = node (slice_index_or elements from d).handle; tag = tag })
   pub scope : in_scope set.DefaultScope (is_number (node (slice_index_or elements from d).handle)) (opens_of node elements) ≡ true
-  pub block : furthest_block (opened_after (node (slice_index_or elements from d).handle) (opens_of node elements)) ≡ Some (open_of node (slice_index_or elements to d))
+  pub block : furthest_block (opened_after (node (slice_index_or elements from d).handle) (opens_of node elements))
+      ≡ Some (open_of node (slice_index_or elements to d))
 
 -- a state with another tree, other open elements and another list
 abbrev pub with_all : State → Forest → List Open → List Entry → State
@@ -60,7 +69,8 @@ abbrev pub turned : State → Listed → Open → State
 turned s formatting_element block = adopt formatting_element block (walk 3 (between formatting_element block s) (begin_walk block s)) s
 
 -- an entry, by its place, is the last since the last marker that was made for a tag of some name
-pub record IsFormatting {H : Type 0} (node : H → ℕ) (name : List ℕ) (entries : List (FormatEntry H)) (place : ℕ) (handle : H) (tag : Tag) : Type 0 where
+pub record IsFormatting {H : Type 0} (node : H → ℕ) (name : List ℕ) (entries : List (FormatEntry H)) (place : ℕ)
+    (handle : H) (tag : Tag) : Type 0 where
   pub within : place < length entries
   pub entry : slice_index_or entries place held.Marker ≡ held.Element handle tag
   pub found : last_named name (entries_of node entries) ≡ Some (record { number = node handle; tag = tag })
@@ -81,4 +91,5 @@ came_to goes_on s = record { state = s; goes_on = goes_on }
 
 -- what a turn makes of a tree, open elements and a list, with the entry of an element
 abbrev pub IsTurnOf : Bool → ℕ → Bool → Forest → List Open → List Entry → Forest → List Open → List Entry → Type 0
-IsTurnOf foster n goes_on f xs entries g ys others = (name : List ℕ) (s : State) → s.foster_parenting ≡ foster → came_to goes_on (with_all s g ys others) ≡ adopt_listed (listed_as n entries) name (with_all s f xs entries)
+IsTurnOf foster n goes_on f xs entries g ys others = (name : List ℕ) (s : State) → s.foster_parenting ≡ foster
+    → came_to goes_on (with_all s g ys others) ≡ adopt_listed (listed_as n entries) name (with_all s f xs entries)

@@ -5,4 +5,8 @@ use Rattle.markup.specs.declared.attributes.Attribute.{Attribute}
 use Rattle.html_rules.specs.State.{Answers}
 
 abbrev pub answers_of : (Forest → ℕ → Bool) → (Forest → ℕ → Bool) → (Forest → ℕ → ℕ → List Attribute → Bool) → Answers
-answers_of integration_point allows_shadow_roots attaches_shadow = record { integration_point = integration_point; allows_shadow_roots = allows_shadow_roots; attaches_shadow = attaches_shadow }
+answers_of integration_point allows_shadow_roots attaches_shadow = record {
+  integration_point = integration_point;
+  allows_shadow_roots = allows_shadow_roots;
+  attaches_shadow = attaches_shadow;
+}

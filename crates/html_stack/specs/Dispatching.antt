@@ -1,7 +1,8 @@
 -- What decides whether the rules of foreign content hold for a token.
 use Rattle.std.specs.Prelude.{◌≡◌, ℕ, Bool, true, false, ◌||◌, ◌&&◌, not, Option, Some, None, ⊤}
 use Rattle.html_tokens.specs.declared.token.Token.{Token}
-use Rattle.html_tokens.specs.declared.token.Token.TheVariants.{DoctypeToken, TagToken, CommentToken, CharacterTokens, NullCharacterToken, EOFToken, ParseError}
+use Rattle.html_tokens.specs.declared.token.Token.TheVariants.{DoctypeToken, TagToken, CommentToken, CharacterTokens}
+use Rattle.html_tokens.specs.declared.token.Token.TheVariants.{NullCharacterToken, EOFToken, ParseError}
 use Rattle.html_rules.specs.ForeignContent.{is_html_element, is_start_tag}
 use Rattle.html_rules.specs.Names.{Html}
 use Rattle.html_rules.specs.Sets.{is_among, names_of}
@@ -30,7 +31,8 @@ HasShape t shape = ⊥
 
 -- whether a token goes by HTML's rules in an element, by whether the sink says that HTML may stand in it
 abbrev pub is_html_for : Bool → Open → TokenShape → Bool
-is_html_for point x Text = is_in set.MathmlTextIntegrationPoint x || is_in set.SvgHtmlIntegrationPoint x || (is_in set.AnnotationXml x && point)
+is_html_for point x Text = is_in set.MathmlTextIntegrationPoint x || is_in set.SvgHtmlIntegrationPoint x
+    || (is_in set.AnnotationXml x && point)
 is_html_for point x (StartTag class name) =
     (is_in set.MathmlTextIntegrationPoint x && not (is_among name.now (names_of set.MglyphMalignmark)))
     || is_in set.SvgHtmlIntegrationPoint x

@@ -1,5 +1,6 @@
 -- What a walk from the newest back finds: a place, counted from the oldest, as elements and entries lie.
-use Rattle.std.specs.Prelude.{◌≡◌, ◌<◌, ℕ, suc, Bool, true, false, List, length, map, reverse, drop, slice_index_or, Option, Some, None, is_some}
+use Rattle.std.specs.Prelude.{◌≡◌, ◌<◌, ℕ, suc, Bool, true, false, List, length, map, reverse, drop, slice_index_or, Option}
+use Rattle.std.specs.Prelude.{Some, None, is_some}
 use Rattle.std.specs.List.{list_any, remove}
 use Rattle.html_tokens.specs.declared.tags.Tag.{Tag}
 use Rattle.html_rules.specs.Adoption.{furthest_block}

@@ -1,5 +1,6 @@
 -- What is noted of many open elements. Places are counted from the root.
-use Rattle.std.specs.Prelude.{◌≡◌, ◌++◌, ◌<◌, ◌≤◌, ℕ, suc, Bool, true, false, ◌||◌, ◌&&◌, not, cond, List, length, map, slice_index_or, unwrap_or}
+use Rattle.std.specs.Prelude.{◌≡◌, ◌++◌, ◌<◌, ◌≤◌, ℕ, suc, Bool, true, false, ◌||◌, ◌&&◌, not, cond, List, length, map}
+use Rattle.std.specs.Prelude.{slice_index_or, unwrap_or}
 use Rattle.std.specs.List.{list_any}
 use Rattle.std.specs.BTreeMap as tree
 use Rattle.std.specs.Char.{to_ascii_lowercase}
@@ -26,7 +27,9 @@ is_of set x = is_among x.name (names_in x.namespace set)
 
 -- whether an element may ask for an insertion mode
 abbrev pub asks_mode : Named → Bool
-asks_mode x = is_of set.TdTh x || is_of set.Head x || is_of set.Html x || is_of set.Tr x || is_of set.TbodyTfootThead x || is_of set.Caption x || is_of set.Colgroup x || is_of set.Table x || is_of set.Template x || is_of set.Body x || is_of set.Frameset x
+asks_mode x = is_of set.TdTh x || is_of set.Head x || is_of set.Html x || is_of set.Tr x
+    || is_of set.TbodyTfootThead x || is_of set.Caption x || is_of set.Colgroup x || is_of set.Table x
+    || is_of set.Template x || is_of set.Body x || is_of set.Frameset x
 
 -- whether an element passes a test
 abbrev pub bears : Sign → Named → Bool
@@ -67,7 +70,8 @@ is_same_space false html = not html
 
 -- so much is said of a name of HTML, or of another, from now on, and the same as before of all others
 abbrev pub Says : Bool → List ℕ → ℕ → Tops → Tops → Type 0
-Says html name top old new = (of_html : Bool) (other : List ℕ) → said new of_html other ≡ cond (is_same_space html of_html && bytes_eq name other) top (said old of_html other)
+Says html name top old new = (of_html : Bool) (other : List ℕ) → said new of_html other ≡ cond
+    (is_same_space html of_html && bytes_eq name other) top (said old of_html other)
 
 -- the same is said of all
 abbrev pub SaysSame : Tops → Tops → Type 0
@@ -75,7 +79,8 @@ SaysSame old new = (of_html : Bool) (other : List ℕ) → said new of_html othe
 
 -- tests that one of the noted elements from one place up to another passes are among these
 abbrev pub Covers : List Note → ℕ → ℕ → Signs → Type 0
-Covers notes from to signs = (k : ℕ) (n : Note) (sign : Sign) → from ≤ k → k < to → has (slice_index_or notes k n).own sign ≡ true → has signs sign ≡ true
+Covers notes from to signs = (k : ℕ) (n : Note) (sign : Sign) → from ≤ k → k < to
+    → has (slice_index_or notes k n).own sign ≡ true → has signs sign ≡ true
 
 -- a note is of the elements from a place up to and with its own
 pub record IsRange (notes : List Note) (i : ℕ) (note : Note) : Type 0 where
@@ -98,7 +103,8 @@ pub record IsSameKey (one other : Note) : Type 0 where
 -- no noted element of a name stands at the place that is said of it, or above; and none that is below another at what was said before
 pub record AreTops (notes : List Note) (tops : Tops) : Type 0 where
   pub top : (j : ℕ) (n : Note) → j < length notes → j < said tops (slice_index_or notes j n).own.is_html (slice_index_or notes j n).name
-  pub below : (i j : ℕ) (n : Note) → j < i → i < length notes → IsSameKey (slice_index_or notes i n) (slice_index_or notes j n) → j < (slice_index_or notes i n).below
+  pub below : (i j : ℕ) (n : Note) → j < i → i < length notes → IsSameKey (slice_index_or notes i n)
+      (slice_index_or notes j n) → j < (slice_index_or notes i n).below
 
 -- no note from a place on is of an element that passes a test
 abbrev pub NoneNoted : Sign → List Note → ℕ → Type 0
@@ -107,7 +113,8 @@ NoneNoted sign notes from = (k : ℕ) (n : Note) → from ≤ k → k < length n
 -- the notes are of the elements that were opened first
 pub record IsNoted (xs : List Named) (depths : Depths) : Type 0 where
   pub within : length depths.notes.items ≤ length xs
-  pub notes : (i : ℕ) (x : Named) (n : Note) → i < length depths.notes.items → IsNoteOf (slice_index_or xs i x) (slice_index_or depths.notes.items i n)
+  pub notes : (i : ℕ) (x : Named) (n : Note) → i < length depths.notes.items → IsNoteOf (slice_index_or xs i x)
+      (slice_index_or depths.notes.items i n)
   pub ranges : AreRanges depths.notes.items
   pub tops : AreTops depths.notes.items depths.tops
 

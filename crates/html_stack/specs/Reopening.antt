@@ -31,7 +31,9 @@ pub record IsDivided (xs : List Open) (entries : List Entry) (count : ℕ) : Typ
 -- an entry's element was inserted again, and the entry stands for the new one
 pub record IsAgain (foster : Bool) (old new : Stacked) (f g : Forest) (newer : List Entry) (tag : Tag) (older : List Entry) : Type 0 where
   pub entries : new.active_formatting ≡ newer ++ Element (node_count f) tag ∷ older
-  pub step : (s : State) → s.foster_parenting ≡ foster → joined s (record new { active_formatting = Element (node_count f) tag ∷ older }) g ≡ list_current tag (insert_element_for tag (joined s (record old { active_formatting = older }) f))
+  pub step : (s : State) → s.foster_parenting ≡ foster
+      → joined s (record new { active_formatting = Element (node_count f) tag ∷ older }) g ≡ list_current tag
+      (insert_element_for tag (joined s (record old { active_formatting = older }) f))
 
 -- an entry with so many older ones has a tag
 pub record HasEntry (entries : List Entry) (place : ℕ) (tag : Tag) : Type 0 where
@@ -43,5 +45,6 @@ pub record HasEntry (entries : List Entry) (place : ℕ) (tag : Tag) : Type 0 wh
 
 -- a tag is that of an entry, or there is a marker
 abbrev pub IsSaidAt : List Entry → ℕ → Option Tag → Type 0
-IsSaidAt entries place None = (newer older : List Entry) (n : ℕ) (tag : Tag) → entries ≡ newer ++ Element n tag ∷ older → length older ≡ place → ⊥
+IsSaidAt entries place None = (newer older : List Entry) (n : ℕ) (tag : Tag) → entries ≡ newer ++ Element n tag ∷
+    older → length older ≡ place → ⊥
 IsSaidAt entries place (Some tag) = HasEntry entries place tag

@@ -35,7 +35,12 @@ is_mark Mark = true
 
 -- a state of the rules with this stack and this tree in place of its own
 abbrev pub joined : State → Stacked → Forest → State
-joined s stack f = record s { forest = f; open_elems = stack.open_elems; active_formatting = stack.active_formatting; template_modes = stack.template_modes }
+joined s stack f = record s {
+  forest = f;
+  open_elems = stack.open_elems;
+  active_formatting = stack.active_formatting;
+  template_modes = stack.template_modes;
+}
 
 -- what a step of the rules does to a state is done to a stack and its tree
 abbrev pub Performs : (State → State) → Stacked → Stacked → Forest → Forest → Type 0

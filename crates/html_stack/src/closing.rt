@@ -2,7 +2,8 @@
 ghost use Rattle.std.specs.Prelude.{◌≡◌};
 ghost use Rattle.html_names.specs.Classes.{IsClassOf};
 ghost use Rattle.html_rules.specs.Names.{Html};
-ghost use Rattle.html_rules.specs.Stack.{check_body_end, close_item, close_p_element, close_p_element_in_button_scope, expect_to_close, pop_but_root, process_end_tag_in_body};
+ghost use Rattle.html_rules.specs.Stack.{check_body_end, close_item, close_p_element, close_p_element_in_button_scope};
+ghost use Rattle.html_rules.specs.Stack.{expect_to_close, pop_but_root, process_end_tag_in_body};
 ghost use Rattle.html_rules.specs.State.{State, is_in, is_named};
 ghost use Rattle.html_rules_laws.specs.Soundness.{AreOpened};
 ghost use Rattle.html_stack.specs.Stacks.{joined, Performs};
@@ -57,8 +58,8 @@ impl<Sink: TreeSink> Stack<Sink> {
         }
     }
 
-    /// Closes the item that a new one ends: the nearest `li`, or of `dd` and `dt`, if no special element other than `address`, `div` and `p`
-    /// stands before it (HTML Standard, section 13.2.6.4.7, start tags `li`, `dd` and `dt`).
+    /// Closes the item that a new one ends: the nearest `li`, or of `dd` and `dt`, if no special element other than `address`, `div` and
+    /// `p` stands before it (HTML Standard, section 13.2.6.4.7, start tags `li`, `dd` and `dt`).
     #[tactic(auto, unfolding(html_rules::specs::Stack::close_item, html_rules::specs::Stack::generate_implied_end_except))]
     pub fn close_item(&mut self, sink: &mut Sink, items: TagSet)
         requires items { IsOfHtml items }

@@ -3,7 +3,8 @@ ghost use Rattle.std.specs.Prelude.{◌≡◌, ◌<◌, ◌≤◌, ◌||◌, Lis
 ghost use Rattle.html_rules.specs.Names.{is_html};
 ghost use Rattle.html_rules.specs.State.{named_in};
 ghost use Rattle.html_names.specs.ElementNames.{Named};
-ghost use Rattle.html_stack.specs.Noted.{AreRanges, Covers, IsAt, IsNext, IsNoted, NoneFrom, NoneNoted, bears, has, is_foreign_named, named, named_any_case};
+ghost use Rattle.html_stack.specs.Noted.{AreRanges, Covers, IsAt, IsNext, IsNoted, NoneFrom, NoneNoted, bears, has};
+ghost use Rattle.html_stack.specs.Noted.{is_foreign_named, named, named_any_case};
 
 use crate::entries::OpenElement;
 use crate::signs::{Sign, Signs};
@@ -222,7 +223,8 @@ impl Depths {
     pub(crate) fn reach(&self, count: usize, one: Sign, other: Sign) -> usize
         requires { AreRanges self.now.notes.items }
         ensures within { result ≤ count }
-        ensures beyond { (xs : List Named) → length xs ≡ count → IsNoted xs self.now → NoneFrom (λ x. bears one x || bears other x) xs result }
+        ensures beyond { (xs : List Named) → length xs ≡ count → IsNoted xs self.now
+            → NoneFrom (λ x. bears one x || bears other x) xs result }
     {
         if self.notes.len() == count {
             reach(self.notes.as_slice(), one, other)
@@ -233,7 +235,8 @@ impl Depths {
 
     /// How many elements there are at most up to the last HTML element of a name, where all of so many are noted.
     fn reach_html(&self, alloc: Global, count: usize, name: &LocalName) -> usize
-        ensures { (xs : List Named) → length xs ≡ count → length self.now.notes.items ≡ count → IsNoted xs self.now → NoneFrom (λ x. named_in x.namespace x.name name.now) xs result }
+        ensures { (xs : List Named) → length xs ≡ count → length self.now.notes.items ≡ count → IsNoted xs self.now
+            → NoneFrom (λ x. named_in x.namespace x.name name.now) xs result }
     {
         match Text::from_str(alloc, name.as_str()) {
             Ok(name) => self.tops.get(true, &name),
@@ -243,7 +246,8 @@ impl Depths {
 
     /// How many elements there are at most up to the last of a name, in any case, that is none of HTML's, where all of so many are noted.
     fn reach_foreign(&self, alloc: Global, count: usize, name: &LocalName) -> usize
-        ensures { (xs : List Named) → length xs ≡ count → length self.now.notes.items ≡ count → IsNoted xs self.now → NoneFrom (is_foreign_named name.now) xs result }
+        ensures { (xs : List Named) → length xs ≡ count → length self.now.notes.items ≡ count → IsNoted xs self.now
+            → NoneFrom (is_foreign_named name.now) xs result }
     {
         let mut lowered = Text::empty(alloc);
         match lowered.push_lowered(name.as_str()) {
@@ -262,7 +266,8 @@ impl Depths {
     ) -> usize
         requires { AreRanges self.now.notes.items }
         ensures within { result ≤ count }
-        ensures beyond { (xs : List Named) → length xs ≡ count → IsNoted xs self.now → NoneFrom (λ x. bears sign x || named_in x.namespace x.name name.now) xs result }
+        ensures beyond { (xs : List Named) → length xs ≡ count → IsNoted xs self.now
+            → NoneFrom (λ x. bears sign x || named_in x.namespace x.name name.now) xs result }
     {
         if self.notes.len() != count {
             return count;
@@ -276,7 +281,8 @@ impl Depths {
     pub(crate) fn reach_foreign_end(&self, alloc: Global, count: usize, name: &LocalName) -> usize
         requires { AreRanges self.now.notes.items }
         ensures within { result ≤ count }
-        ensures beyond { (xs : List Named) → length xs ≡ count → IsNoted xs self.now → NoneFrom (λ x. is_html x.namespace || named_any_case name.now x) xs result }
+        ensures beyond { (xs : List Named) → length xs ≡ count → IsNoted xs self.now
+            → NoneFrom (λ x. is_html x.namespace || named_any_case name.now x) xs result }
     {
         if self.notes.len() != count {
             return count;

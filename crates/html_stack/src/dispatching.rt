@@ -40,7 +40,8 @@ fn is_html_for<Sink: TreeSink>(
 ) -> bool
     requires shape { IsShaped shape }
     requires node { IsNode (Sink.forest sink.now) (Sink.node element.now.handle) }
-    ensures { result ≡ is_html_for (Sink.integration_point (with_errors 0 (Sink.forest sink.now)) (Sink.node element.now.handle)) (open_of Sink.node element.now) shape.entry }
+    ensures { result ≡ is_html_for (Sink.integration_point (with_errors 0 (Sink.forest sink.now))
+        (Sink.node element.now.handle)) (open_of Sink.node element.now) shape.entry }
 {
     match shape {
         TokenShape::Text => {
@@ -72,7 +73,8 @@ fn is_foreign_for<Sink: TreeSink>(
     requires shape { IsShaped shape }
     requires opened { AreOpened (Sink.forest sink.now) (opens_of Sink.node elements.now) }
     requires context { IfSome (context_of Sink.node context) (λ x. IsNode (Sink.forest sink.now) x.number) }
-    ensures { result ≡ is_foreign_for (Sink.integration_point (with_errors 0 (Sink.forest sink.now))) (adjusted_by (context_of Sink.node context.entry) (opens_of Sink.node elements.now)) shape.entry }
+    ensures { result ≡ is_foreign_for (Sink.integration_point (with_errors 0 (Sink.forest sink.now)))
+        (adjusted_by (context_of Sink.node context.entry) (opens_of Sink.node elements.now)) shape.entry }
 {
     match adjusted(elements, context) {
         None => false,
@@ -92,7 +94,9 @@ impl<Sink: TreeSink> Stack<Sink> {
         requires shape { IsShaped shape }
         requires opened { AreOpened (Sink.forest sink.now) self.now.open_elems }
         requires context { IfSome (context_of Sink.node context) (λ x. IsNode (Sink.forest sink.now) x.number) }
-        ensures { (s : State) (t : Token) → s.forest ≡ Sink.forest sink.now → s.open_elems ≡ self.now.open_elems → s.context_elem ≡ context_of Sink.node context.entry → s.answers ≡ answers_of Sink.integration_point Sink.allows_shadow_roots Sink.attaches_shadow → HasShape t shape.entry → result ≡ is_foreign s t }
+        ensures { (s : State) (t : Token) → s.forest ≡ Sink.forest sink.now → s.open_elems ≡ self.now.open_elems
+            → s.context_elem ≡ context_of Sink.node context.entry → s.answers ≡ answers_of Sink.integration_point
+            Sink.allows_shadow_roots Sink.attaches_shadow → HasShape t shape.entry → result ≡ is_foreign s t }
     {
         is_foreign_for(sink, self.open_elems(), context, shape)
     }

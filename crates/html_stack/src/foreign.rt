@@ -22,7 +22,9 @@ pub fn adjusted<'a, Handle>(
     elements: &'a [OpenElement<Handle>],
     context: Option<&'a OpenElement<Handle>>,
 ) -> Option<&'a OpenElement<Handle>>
-    ensures { (node : Handle → ℕ) → MatchOption result (adjusted_by (context_of node context.entry) (opens_of node elements.now) ≡ None) (λ x. adjusted_by (context_of node context.entry) (opens_of node elements.now) ≡ Some (open_of node x.now)) }
+    ensures { (node : Handle → ℕ) → MatchOption result
+        (adjusted_by (context_of node context.entry) (opens_of node elements.now) ≡ None)
+        (λ x. adjusted_by (context_of node context.entry) (opens_of node elements.now) ≡ Some (open_of node x.now)) }
 {
     let count = elements.len();
     if count == 0 {
@@ -36,7 +38,8 @@ pub fn adjusted<'a, Handle>(
 
 /// The element of foreign content that a tag makes.
 fn foreign_element(alloc: Global, namespace: Namespace, tag: Tag) -> Result<NewElement, ParseFault>
-    ensures of { IfOk result (λ made. IsFor (namespace_of namespace) tag.name (adjust_attributes (namespace_of namespace) tag.attrs) tag.had_duplicate_attributes made) }
+    ensures of { IfOk result (λ made. IsFor (namespace_of namespace) tag.name
+        (adjust_attributes (namespace_of namespace) tag.attrs) tag.had_duplicate_attributes made) }
     ensures is { IfOk result (λ made. IsNew made) }
     ensures fault { IfErr result (λ fault. fault ≡ Memory) }
 {
@@ -67,7 +70,8 @@ impl<Sink: TreeSink> Stack<Sink> {
     ) -> Result<(), ParseFault>
         requires standing { StandsIn (Sink.forest sink.old) self.old }
         requires form { IfSome form (λ owner. IsNode (Sink.forest sink.old) (Sink.node owner)) }
-        ensures ok { OnOk result (PerformsWith foster (enter_foreign (namespace_of namespace) tag) self.old self.new (Sink.forest sink.old) (Sink.forest sink.new)) }
+        ensures ok { OnOk result (PerformsWith foster (enter_foreign (namespace_of namespace) tag) self.old self.new
+            (Sink.forest sink.old) (Sink.forest sink.new)) }
         ensures kept { StandsIn (Sink.forest sink.new) self.new }
         ensures grows { node_count (Sink.forest sink.old) ≤ node_count (Sink.forest sink.new) }
         ensures fault { IfErr result (λ fault. fault ≡ Memory) }
@@ -94,7 +98,8 @@ impl<Sink: TreeSink> Stack<Sink> {
     ) -> Result<(), ParseFault>
         requires standing { StandsIn (Sink.forest sink.old) self.old }
         requires form { IfSome form (λ owner. IsNode (Sink.forest sink.old) (Sink.node owner)) }
-        ensures ok { OnOk result ((s : State) → s.foster_parenting ≡ foster → s.context_elem ≡ context_of Sink.node context.entry → joined s self.new (Sink.forest sink.new) ≡ foreign_start tag (joined s self.old (Sink.forest sink.old))) }
+        ensures ok { OnOk result ((s : State) → s.foster_parenting ≡ foster → s.context_elem ≡ context_of Sink.node
+            context.entry → joined s self.new (Sink.forest sink.new) ≡ foreign_start tag (joined s self.old (Sink.forest sink.old))) }
         ensures kept { StandsIn (Sink.forest sink.new) self.new }
         ensures grows { node_count (Sink.forest sink.old) ≤ node_count (Sink.forest sink.new) }
         ensures fault { IfErr result (λ fault. fault ≡ Memory) }

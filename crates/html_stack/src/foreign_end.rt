@@ -1,7 +1,8 @@
 //! End tags in foreign content (HTML Standard, section 13.2.6.5).
 ghost use Rattle.std.specs.Prelude.{◌≡◌, ◌||◌, ◌&&◌, ℕ, not, true};
 ghost use Rattle.markup.specs.Forest.{Forest};
-ghost use Rattle.html_rules.specs.ForeignContent.{close_foreign, foreign_end, foreign_end_from, is_as_in_mode, is_foreign_end_error, is_html_element};
+ghost use Rattle.html_rules.specs.ForeignContent.{close_foreign, foreign_end, foreign_end_from, is_as_in_mode};
+ghost use Rattle.html_rules.specs.ForeignContent.{is_foreign_end_error, is_html_element};
 ghost use Rattle.html_rules.specs.State.{State};
 ghost use Rattle.html_stack.specs.ForeignEnds.{end_of, ends_at};
 ghost use Rattle.html_rules.specs.Names.{is_html};
@@ -31,8 +32,8 @@ fn is_further_html<Handle>(element: &OpenElement<Handle>, is_current: bool) -> b
 }
 
 /// What an end tag of a name comes to, by a walk from the current node back that ends before the root: an element of that name in any case
-/// is closed, and at an HTML element that isn't the current node the rules of the mode take the tag. Of the others so many are looked at, those
-/// that were opened first.
+/// is closed, and at an HTML element that isn't the current node the rules of the mode take the tag. Of the others so many are looked at,
+/// those that were opened first.
 fn foreign_end<Handle>(
     elements: &[OpenElement<Handle>],
     reach: usize,

@@ -57,7 +57,8 @@ fn mode_of_context(
     template_mode: InsertionMode,
     has_head: bool,
 ) -> InsertionMode
-    ensures { (s : State) → Knows s template_mode has_head → IsContext s.context_elem context.entry → mode_of_context s s.context_elem ≡ result }
+    ensures { (s : State) → Knows s template_mode has_head → IsContext s.context_elem context.entry
+        → mode_of_context s s.context_elem ≡ result }
 {
     match context {
         None => mode_of_html(has_head),
@@ -75,7 +76,8 @@ pub(crate) fn mode_of_open<Handle>(
     has_head: bool,
     context: Option<&ElementName>,
 ) -> InsertionMode
-    ensures { (node : Handle → ℕ) (s : State) → Knows s template_mode has_head → IsContext s.context_elem context.entry → mode_of_open s (opens_of node elements.now) ≡ result }
+    ensures { (node : Handle → ℕ) (s : State) → Knows s template_mode has_head
+        → IsContext s.context_elem context.entry → mode_of_open s (opens_of node elements.now) ≡ result }
 {
     let mut i = elements.len();
     while i > 0 {

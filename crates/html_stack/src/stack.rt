@@ -33,7 +33,11 @@ impl<Sink: TreeSink> Model for Stack<Sink> {
 
     ghost Value = { Stacked };
 
-    ghost view = { λ s. record { open_elems = opens_of Sink.node s.open_elems.items; active_formatting = entries_of Sink.node s.active_formatting.items; template_modes = reverse s.template_modes.items } };
+    ghost view = { λ s. record {
+      open_elems = opens_of Sink.node s.open_elems.items;
+      active_formatting = entries_of Sink.node s.active_formatting.items;
+      template_modes = reverse s.template_modes.items;
+    } };
 
     ghost invariant = { λ s. IsNoted (named s.open_elems.items) s.depths };
 }
@@ -120,7 +124,8 @@ impl<Sink: TreeSink> Stack<Sink> {
     /// Lists the current node, with the tag that it was made for.
     pub fn list_current(&mut self, tag: Tag) -> Result<(), ParseFault>
         requires { 0 < length self.old.open_elems }
-        ensures ok { OnOk result (self.new ≡ record self.old { active_formatting = Element (current_number self.old.open_elems) tag ∷ self.old.active_formatting }) }
+        ensures ok { OnOk result (self.new ≡ record self.old
+            { active_formatting = Element (current_number self.old.open_elems) tag ∷ self.old.active_formatting }) }
         ensures err { OnErr result (self.new ≡ self.old) }
         ensures fault { IfErr result (λ fault. fault ≡ Memory) }
     {
@@ -142,7 +147,9 @@ impl<Sink: TreeSink> Stack<Sink> {
 
     /// Takes the current template insertion mode away.
     pub fn pop_template_mode(&mut self) -> Option<InsertionMode>
-        ensures { MatchOption result ((self.old.template_modes ≡ []) × (self.new ≡ self.old)) (λ mode. (self.old.template_modes ≡ mode ∷ self.new.template_modes) × (self.new ≡ record self.old { template_modes = self.new.template_modes })) }
+        ensures { MatchOption result ((self.old.template_modes ≡ []) × (self.new ≡ self.old))
+            (λ mode. (self.old.template_modes ≡ mode ∷ self.new.template_modes)
+            × (self.new ≡ record self.old { template_modes = self.new.template_modes })) }
     {
         self.template_modes.pop()
     }
@@ -261,7 +268,8 @@ impl<Sink: TreeSink> Stack<Sink> {
     /// Pops the current node, and tells the sink. Nothing is popped where nothing is open.
     pub fn pop(&mut self, sink: &mut Sink) -> Option<OpenElement<Sink::Handle>>
         requires { AreOpened (Sink.forest sink.old) self.old.open_elems }
-        ensures popped { MatchOption result (self.old.open_elems ≡ []) (λ element. self.old.open_elems ≡ open_of Sink.node element ∷ self.new.open_elems) }
+        ensures popped { MatchOption result (self.old.open_elems ≡ [])
+            (λ element. self.old.open_elems ≡ open_of Sink.node element ∷ self.new.open_elems) }
         ensures rest { self.new ≡ record self.old { open_elems = without_current self.old.open_elems } }
         ensures same { Sink.forest sink.new ≡ Sink.forest sink.old }
     {
@@ -321,7 +329,8 @@ impl<Sink: TreeSink> Stack<Sink> {
     )
         requires name { IsClassOf Html name.now class }
         requires opened { AreOpened (Sink.forest sink.old) self.old.open_elems }
-        ensures left { self.new ≡ record self.old { open_elems = left_by_implied CursoryImpliedEnd (is_named name.now) self.old.open_elems } }
+        ensures left { self.new ≡ record self.old
+            { open_elems = left_by_implied CursoryImpliedEnd (is_named name.now) self.old.open_elems } }
         ensures same { Sink.forest sink.new ≡ Sink.forest sink.old }
     {
         self.close_implied(sink, TagSet::CursoryImpliedEnd, Wanted::Named(class, name));
@@ -363,14 +372,15 @@ impl<Sink: TreeSink> Stack<Sink> {
         walks::are_all_in(open, TagSet::BodyEnd)
     }
 
-    /// The mode that the open elements ask for ("reset the insertion mode appropriately", HTML Standard, section 13.2.4.1): with the current
-    /// template insertion mode, by whether there is a head element, and in a fragment by its context.
+    /// The mode that the open elements ask for ("reset the insertion mode appropriately", HTML Standard, section 13.2.4.1): with the
+    /// current template insertion mode, by whether there is a head element, and in a fragment by its context.
     pub fn reset_insertion_mode(
         &self,
         has_head: bool,
         context: Option<&ElementName>,
     ) -> InsertionMode
-        ensures { (s : State) → s.open_elems ≡ self.now.open_elems → s.template_modes ≡ self.now.template_modes → is_some s.head_elem ≡ has_head → IsContext s.context_elem context.entry → result ≡ (reset_insertion_mode s).mode }
+        ensures { (s : State) → s.open_elems ≡ self.now.open_elems → s.template_modes ≡ self.now.template_modes
+            → is_some s.head_elem ≡ has_head → IsContext s.context_elem context.entry → result ≡ (reset_insertion_mode s).mode }
     {
         let template_mode = self.current_template_mode();
         let open = self.reached(Sign::AsksMode, Sign::AsksMode);

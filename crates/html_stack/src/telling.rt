@@ -15,7 +15,8 @@ use markup::{LocalName, TreeSink};
 
 /// The element that was opened last, where it is in a set.
 fn last_in<Handle: Copy>(elements: &[OpenElement<Handle>], set: TagSet) -> Option<Handle>
-    ensures { (node : Handle → ℕ) (f : Forest) → AreOpened f (opens_of node elements.now) → IfSome result (λ handle. IsNode f (node handle)) }
+    ensures { (node : Handle → ℕ) (f : Forest) → AreOpened f (opens_of node elements.now)
+        → IfSome result (λ handle. IsNode f (node handle)) }
 {
     let count = elements.len();
     if count == 0 {
@@ -38,7 +39,8 @@ struct Placed<Handle> {
 
 /// The element of a set that was opened first.
 fn first_in<Handle: Copy>(elements: &[OpenElement<Handle>], set: TagSet) -> Option<Placed<Handle>>
-    ensures { (node : Handle → ℕ) (f : Forest) → AreOpened f (opens_of node elements.now) → IfSome result (λ placed. IsNode f (node placed.handle)) }
+    ensures { (node : Handle → ℕ) (f : Forest) → AreOpened f (opens_of node elements.now)
+        → IfSome result (λ placed. IsNode f (node placed.handle)) }
 {
     let mut place = 0;
     while place < elements.len() {
@@ -89,8 +91,8 @@ impl<Sink: TreeSink> Stack<Sink> {
         }
     }
 
-    /// An end tag that the body has no rules of its own for, or one of an option: [`Stack::process_end_tag_in_body`], and if the option that
-    /// was opened first is then open no more, the sink is told (HTML Standard, section 13.2.6.4.7).
+    /// An end tag that the body has no rules of its own for, or one of an option: [`Stack::process_end_tag_in_body`], and if the option
+    /// that was opened first is then open no more, the sink is told (HTML Standard, section 13.2.6.4.7).
     pub fn any_other_end_tag(&mut self, sink: &mut Sink, class: ElementClass, name: &LocalName)
         requires name { IsClassOf Html name.now class }
         requires opened { AreOpened (Sink.forest sink.old) self.old.open_elems }

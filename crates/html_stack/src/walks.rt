@@ -60,7 +60,8 @@ pub(crate) fn last<Handle: Copy>(elements: &[OpenElement<Handle>]) -> Handle
 pub(crate) fn count_below<Handle>(elements: &[OpenElement<Handle>], wanted: Wanted<'_>) -> usize
     requires { IsWanted wanted }
     ensures within { result ≤ length elements.now }
-    ensures left { (node : Handle → ℕ) → opens_of node (take result elements.now) ≡ left_below (passes wanted.entry) (opens_of node elements.now) }
+    ensures left { (node : Handle → ℕ) → opens_of node (take result elements.now) ≡ left_below (passes wanted.entry)
+        (opens_of node elements.now) }
 {
     let mut i = elements.len();
     while i > 0 {
@@ -76,7 +77,8 @@ pub(crate) fn count_below<Handle>(elements: &[OpenElement<Handle>], wanted: Want
 pub(crate) fn count_from<Handle>(elements: &[OpenElement<Handle>], wanted: Wanted<'_>) -> usize
     requires { IsWanted wanted }
     ensures within { result ≤ length elements.now }
-    ensures left { (node : Handle → ℕ) → opens_of node (take result elements.now) ≡ left_from (passes wanted.entry) (opens_of node elements.now) }
+    ensures left { (node : Handle → ℕ) → opens_of node (take result elements.now) ≡ left_from (passes wanted.entry)
+        (opens_of node elements.now) }
 {
     let mut i = elements.len();
     while i > 0 {
@@ -135,7 +137,9 @@ pub(crate) fn finds_generic<Handle>(elements: &[OpenElement<Handle>], wanted: Wa
 /// The nearest item, if no special element other than `address`, `div` and `p` stands before it.
 pub(crate) fn item<Handle>(elements: &[OpenElement<Handle>], items: TagSet) -> Option<KnownName>
     requires { IsOfHtml items }
-    ensures { (node : Handle → ℕ) → MatchOption result (item_name items (opens_of node elements.now) ≡ None) (λ known. (known.place < length names) × (item_name items (opens_of node elements.now) ≡ Some (slice_index_or names known.place []))) }
+    ensures { (node : Handle → ℕ) → MatchOption result (item_name items (opens_of node elements.now) ≡ None)
+        (λ known. (known.place < length names)
+        × (item_name items (opens_of node elements.now) ≡ Some (slice_index_or names known.place []))) }
 {
     let mut i = elements.len();
     while i > 0 {

@@ -6,4 +6,10 @@ use Rattle.markup.proofs.TemplateContents.{HasContents-empty}
 use Rattle.html_rules_laws.specs.Soundness.{IsStanding}
 
 pub empty-Standing : IsStanding empty_forest [] []
-empty-Standing = record { tree = record { forest = IsForest-empty; contents = HasContents-empty }; opened = tt; apart = tt; listed = tt; top = refl }
+empty-Standing = record {
+  tree = record { forest = IsForest-empty; contents = HasContents-empty };
+  opened = tt;
+  apart = tt;
+  listed = tt;
+  top = refl;
+}

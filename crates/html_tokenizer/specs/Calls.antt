@@ -1,5 +1,6 @@
 -- What the calls of a tokenizer leave: what is still to come of its sink, for each further text.
-use Rattle.std.specs.Prelude.{◌≡◌, ℕ, ◌<◌, ◌≤◌, Bool, true, false, ◌&&◌, not, is_none, List, [], ◌∷◌, ◌++◌, length, Option, Some, None, Result, Ok, Err}
+use Rattle.std.specs.Prelude.{◌≡◌, ℕ, ◌<◌, ◌≤◌, Bool, true, false, ◌&&◌, not, is_none, List, [], ◌∷◌, ◌++◌, length, Option}
+use Rattle.std.specs.Prelude.{Some, None, Result, Ok, Err}
 use Rattle.markup.specs.declared.fault.ParseFault.{ParseFault}
 use Rattle.markup.specs.declared.tokenizer_result.TokenizerResult.{TokenizerResult}
 use Rattle.markup.specs.declared.tokenizer_result.TokenizerResult.TheVariants.{Done, Script, EncodingIndicator}
@@ -33,7 +34,8 @@ use Rattle.html_queue.specs.declared.set.SmallCharSet.{SmallCharSet}
 use Rattle.html_tokenizer.specs.Rest.{rest, rows_of, standing, coming}
 use Rattle.html_tokenizer.specs.Untold.{Untold}
 use Rattle.html_tokenizer_parts.specs.Words.{BeginsEnd, FittingEnd}
-use Rattle.html_tokenizer.specs.Steps.{Read, FailsOver, IsAt, Owed, together, more, paused_by, Rises, now, Stays, Fell, Fails, FailsAmong, Replied, reads}
+use Rattle.html_tokenizer.specs.Steps.{Read, FailsOver, IsAt, Owed, together, more, paused_by, Rises, now, Stays, Fell, Fails}
+use Rattle.html_tokenizer.specs.Steps.{FailsAmong, Replied, reads}
 pub use Rattle.html_tokenizer_parts.specs.Refusals.{refused_by, refusal, Refuses}
 use Rattle.html_tokenizer.specs.Listeners.{listening}
 
@@ -100,7 +102,9 @@ module _ {K H : Type 0} (Sink : Ghosts K H) where
 
   -- A character was taken, its line counted, which owed what it owes on its own besides.
   abbrev pub Passed : Tokenizer K → Tokenizer K → ℕ → ProcessResult H → Type 0
-  Passed old new c result = Read Sink (c ∷ []) (λ owed. together owed (owed_for_text old.stream.exact_errors (c ∷ []))) new.stream.breaks (record old.stream { breaks = new.stream.breaks }) old new result
+  Passed old new c result = Read Sink (c ∷ [])
+      (λ owed. together owed (owed_for_text old.stream.exact_errors (c ∷ []))) new.stream.breaks
+      (record old.stream { breaks = new.stream.breaks }) old new result
 
   abbrev pub Passes : Tokenizer K → Tokenizer K → ℕ → Result (ProcessResult H) ParseFault → Type 0
   Passes old new c (Ok result) = Passed old new c result
@@ -118,14 +122,16 @@ module _ {K H : Type 0} (Sink : Ghosts K H) where
   pub record Closed (old new : Tokenizer K) : Type 0 where
     pub owed : Owed
     pub rises : Rises Sink.errors owed old.sink new.sink
-    pub same : (notes : Notes ℕ) → now Sink old old.stream.breaks (Sink.view old.sink, notes) [] ≡ at_end old.stream.breaks (Sink.view new.sink, more owed notes)
+    pub same : (notes : Notes ℕ) → now Sink old old.stream.breaks (Sink.view old.sink, notes)
+        [] ≡ at_end old.stream.breaks (Sink.view new.sink, more owed notes)
     pub stream : new.stream ≡ old.stream
     pub sound : Sink.is_sound (Sink.view new.sink)
     pub stays : Stays Sink old.sink new.sink
 
   abbrev pub Closes : Tokenizer K → Tokenizer K → Result (Unit {0}) ParseFault → Type 0
   Closes old new (Ok x) = Closed old new
-  Closes old new (Err fault) = Fell Sink old.sink new.sink × ((notes : Notes ℕ) → Fails Sink old.sink new.sink (now Sink old old.stream.breaks (Sink.view old.sink, notes) []) fault)
+  Closes old new (Err fault) = Fell Sink old.sink new.sink
+      × ((notes : Notes ℕ) → Fails Sink old.sink new.sink (now Sink old old.stream.breaks (Sink.view old.sink, notes) []) fault)
 
   -- What a tokenizer needs at a call: a sink in a sound state, and a reference held only where one may stand.
   pub record IsReady (k : Tokenizer K) : Type 0 where
@@ -137,12 +143,15 @@ module _ {K H : Type 0} (Sink : Ghosts K H) where
   abbrev pub Leaves : ProcessResult H → Tokenizer K → List ℕ → Queue → Type 0
   Leaves flow.Continue new taken to = 0 < length taken
   Leaves flow.Suspend new taken to = to.characters ≡ []
-  Leaves (flow.Script handle) new taken to = (last_of taken ≡ 62) × IsAt new state.Data × Replied Sink new.sink (reply.Script (Sink.number handle))
-  Leaves (flow.EncodingIndicator label) new taken to = (last_of taken ≡ 62) × IsAt new state.Data × Replied Sink new.sink (reply.EncodingIndicator label)
+  Leaves (flow.Script handle) new taken to = (last_of taken ≡ 62) × IsAt new state.Data × Replied Sink new.sink
+      (reply.Script (Sink.number handle))
+  Leaves (flow.EncodingIndicator label) new taken to = (last_of taken ≡ 62) × IsAt new state.Data
+      × Replied Sink new.sink (reply.EncodingIndicator label)
 
   -- Some characters were taken from the queue, each once, these pauses were added, and the tokenizer stands where this is so of the
   -- characters taken.
-  pub record HasMoved (pauses_after : List Reply → List Reply) (leaves : List ℕ → Type 0) (old new : Tokenizer K) (from to : Queue) : Type 0 where
+  pub record HasMoved (pauses_after : List Reply → List Reply) (leaves : List ℕ → Type 0) (old new : Tokenizer K)
+      (from to : Queue) : Type 0 where
     pub taken : List ℕ
     pub takes : Takes taken from to
     -- the characters that came of them, and what the items that ended with these owed, besides what they owed on their own
@@ -151,7 +160,8 @@ module _ {K H : Type 0} (Sink : Ghosts K H) where
     pub owed : Owed
     pub rises : Rises Sink.errors (together owed (owed_for_text old.stream.exact_errors came)) old.sink new.sink
     -- for each further text, what was to come over the characters taken and that text is what is now to come over that text
-    pub same : (notes : Notes ℕ) (t : List ℕ) → to_come old notes (taken ++ t) ≡ to_come new (record (more owed notes) { pauses = pauses_after notes.pauses }) t
+    pub same : (notes : Notes ℕ) (t : List ℕ) → to_come old notes (taken ++ t) ≡ to_come new
+        (record (more owed notes) { pauses = pauses_after notes.pauses }) t
     pub ready : IsReady new
     pub stays : Stays Sink old.sink new.sink
     pub ended : new.stream.has_ended ≡ old.stream.has_ended
@@ -161,9 +171,11 @@ module _ {K H : Type 0} (Sink : Ghosts K H) where
 
   -- A step was made, which ends so.
   abbrev pub Moved : Tokenizer K → Tokenizer K → Queue → Queue → ProcessResult H → Type 0
-  Moved old new from to result = HasMoved (λ pauses. paused_by Sink.number pauses result) (λ taken. Leaves result new taken to) old new from to
+  Moved old new from to result = HasMoved (λ pauses. paused_by Sink.number pauses result)
+      (λ taken. Leaves result new taken to) old new from to
 
-  -- A step failed, which left the sink so, and lost some characters of the queue: what was to come over these, whatever follows, is refused.
+  -- A step failed, which left the sink so, and lost some characters of the queue: what was to come over these, whatever follows, is
+  -- refused.
   pub record IsStuck (old : Tokenizer K) (left : K) (from to : Queue) (fault : ParseFault) : Type 0 where
     pub lost : List ℕ
     pub takes : Takes lost from to
@@ -178,13 +190,17 @@ module _ {K H : Type 0} (Sink : Ghosts K H) where
   -- no more than letters that begin its name, and of all else no more than the front of one item; or, at a pause, after the ">" of a
   -- tag, of which this is the reply, with data to come and nothing held.
   abbrev pub Rests : TokenizerResult H → Tokenizer K → List ℕ → Queue → Type 0
-  Rests Done new taken to = (to.characters ≡ []) × HeldIn (rows_of new) new.state new.char_ref × EndHeldIn new.state new.raw_end × Untold (Sink.State × Notes ℕ) new.state new
-  Rests (Script handle) new taken to = (last_of taken ≡ 62) × IsAt new state.Data × Replied Sink new.sink (reply.Script (Sink.number handle))
-  Rests (EncodingIndicator label) new taken to = (last_of taken ≡ 62) × IsAt new state.Data × Replied Sink new.sink (reply.EncodingIndicator label)
+  Rests Done new taken to = (to.characters ≡ []) × HeldIn (rows_of new) new.state new.char_ref
+      × EndHeldIn new.state new.raw_end × Untold (Sink.State × Notes ℕ) new.state new
+  Rests (Script handle) new taken to = (last_of taken ≡ 62) × IsAt new state.Data × Replied Sink new.sink
+      (reply.Script (Sink.number handle))
+  Rests (EncodingIndicator label) new taken to = (last_of taken ≡ 62) × IsAt new state.Data × Replied Sink new.sink
+      (reply.EncodingIndicator label)
 
   -- The input was read, or read up to a pause.
   abbrev pub Fed : Tokenizer K → Tokenizer K → Queue → Queue → TokenizerResult H → Type 0
-  Fed old new from to result = HasMoved (λ pauses. paused_with Sink.number pauses result) (λ taken. Rests result new taken to) old new from to
+  Fed old new from to result = HasMoved (λ pauses. paused_with Sink.number pauses result)
+      (λ taken. Rests result new taken to) old new from to
 
   -- Some characters were taken, and after them the tokenizer stood where a step failed, which left the sink so.
   pub record HasFailed (old : Tokenizer K) (left : K) (from to : Queue) (fault : ParseFault) : Type 0 where
@@ -247,13 +263,15 @@ module _ {K H : Type 0} (Sink : Ghosts K H) where
 
   -- A sink whose state was sound is in a sound state, unless it has failed.
   abbrev pub KeepsSound : K → K → Type 0
-  KeepsSound old new = (Sink.has_failed old ≡ false → Sink.is_sound (Sink.view old)) → Sink.has_failed new ≡ false → Sink.is_sound (Sink.view new)
+  KeepsSound old new = (Sink.has_failed old ≡ false → Sink.is_sound (Sink.view old)) → Sink.has_failed new ≡ false
+      → Sink.is_sound (Sink.view new)
 
   -- A new tokenizer: what is to come is the reading of all the text.
   pub record IsNew (k : Tokenizer K) (sink : K) (opts : TokenizerOpts) (table : List Row) : Type 0 where
     pub over : k.sink ≡ sink
     pub same : (notes : Notes ℕ) (t : List ℕ)
-        → to_come k notes t ≡ reads Sink table (first_stand opts.initial_state opts.last_start_tag_name) 0 (Sink.view sink, notes) (normal_text opts.discard_bom t)
+        → to_come k notes t ≡ reads Sink table (first_stand opts.initial_state opts.last_start_tag_name) 0
+        (Sink.view sink, notes) (normal_text opts.discard_bom t)
     pub ready : IsReady k
     pub begun : refusal_of k ≡ None
     pub exact : k.stream.exact_errors ≡ opts.exact_errors
@@ -261,4 +279,5 @@ module _ {K H : Type 0} (Sink : Ghosts K H) where
 
   -- A tokenizer in a text state, with no part of an item held: what is to come is the reading of what comes, from that text on.
   abbrev pub ReadsAt : TextPlace → Tokenizer K → Type 0
-  ReadsAt place k = (notes : Notes ℕ) (t : List ℕ) → to_come k notes t ≡ reads Sink (rows_of k) (standing k place) k.stream.breaks (Sink.view k.sink, notes) (coming k t)
+  ReadsAt place k = (notes : Notes ℕ) (t : List ℕ) → to_come k notes t ≡ reads Sink (rows_of k) (standing k place)
+      k.stream.breaks (Sink.view k.sink, notes) (coming k t)

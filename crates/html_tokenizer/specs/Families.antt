@@ -1,7 +1,17 @@
 -- Which states stand after "<!", or read a comment that begins otherwise (HTML Standard, sections 13.2.5.41 to 13.2.5.71).
 use Rattle.std.specs.Prelude.{Bool, true, false}
 use Rattle.html_tokens.specs.declared.states.State.{State}
-use Rattle.html_tokens.specs.declared.states.State.TheVariants.{Doctype, BeforeDoctypeName, DoctypeName, AfterDoctypeName, AfterDoctypeKeyword, BeforeDoctypeIdentifier, DoctypeIdentifierDoubleQuoted, DoctypeIdentifierSingleQuoted, AfterDoctypeIdentifier, BetweenDoctypePublicAndSystemIdentifiers, BogusDoctype, BogusComment, MarkupDeclarationOpen, CommentStart, CommentStartDash, Comment, CommentLessThanSign, CommentLessThanSignBang, CommentLessThanSignBangDash, CommentLessThanSignBangDashDash, CommentEndDash, CommentEnd, CommentEndBang, CdataSection, CdataSectionBracket, CdataSectionEnd}
+use Rattle.html_tokens.specs.declared.states.State.TheVariants.{Doctype, BeforeDoctypeName, DoctypeName, AfterDoctypeName}
+use Rattle.html_tokens.specs.declared.states.State.TheVariants.{AfterDoctypeKeyword, BeforeDoctypeIdentifier}
+use Rattle.html_tokens.specs.declared.states.State.TheVariants.{DoctypeIdentifierDoubleQuoted, DoctypeIdentifierSingleQuoted}
+use Rattle.html_tokens.specs.declared.states.State.TheVariants.{AfterDoctypeIdentifier}
+use Rattle.html_tokens.specs.declared.states.State.TheVariants.{BetweenDoctypePublicAndSystemIdentifiers, BogusDoctype}
+use Rattle.html_tokens.specs.declared.states.State.TheVariants.{BogusComment, MarkupDeclarationOpen, CommentStart}
+use Rattle.html_tokens.specs.declared.states.State.TheVariants.{CommentStartDash, Comment, CommentLessThanSign}
+use Rattle.html_tokens.specs.declared.states.State.TheVariants.{CommentLessThanSignBang, CommentLessThanSignBangDash}
+use Rattle.html_tokens.specs.declared.states.State.TheVariants.{CommentLessThanSignBangDashDash, CommentEndDash, CommentEnd}
+use Rattle.html_tokens.specs.declared.states.State.TheVariants.{CommentEndBang, CdataSection, CdataSectionBracket}
+use Rattle.html_tokens.specs.declared.states.State.TheVariants.{CdataSectionEnd}
 
 -- in a doctype
 abbrev pub is_in_doctype : State → Bool

@@ -164,7 +164,8 @@ pub record HasLines (text rest : List ℕ) (before after : ℕ) : Type 0 where
 module _ {K H : Type 0} (Sink : Ghosts K H) where
   -- Lines were told, and their line breaks counted.
   abbrev pub KeepsLines : Tokenizer K → Tokenizer K → List ℕ → Result (Unit {0}) ParseFault → Type 0
-  KeepsLines old new lines (Ok x) = Read Sink lines (λ owed. owed) new.stream.breaks (record old.stream { breaks = counted_all old.stream.breaks lines }) old new flow.Continue
+  KeepsLines old new lines (Ok x) = Read Sink lines (λ owed. owed) new.stream.breaks
+      (record old.stream { breaks = counted_all old.stream.breaks lines }) old new flow.Continue
   KeepsLines old new lines (Err fault) = FailsOver Sink lines old new.sink fault
 
   -- Of a text's bytes a front was taken, with no line end in it.

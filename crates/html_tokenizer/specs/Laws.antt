@@ -85,7 +85,9 @@ module _ {K H : Type 0} (Sink : Ghosts K H) where
   abbrev pub IsEachFaultTold : Type 0
   IsEachFaultTold = (k new ended : Tokenizer K) (cs : List Call) (sink : K) (opts : TokenizerOpts) (table : List Row)
       → IsNew Sink k sink opts table → IsChain k cs new → HasEnded Sink new ended
-      → min (Sink.errors sink + (owed Sink.step Sink.is_quiet Sink.asks_cdata Sink.ended table (first_stand opts.initial_state opts.last_start_tag_name) 0 (Sink.view sink) (text_of opts cs) + (owed_for_text opts.exact_errors (text_of opts cs)).faults)) 0xffff_ffff_ffff_ffff ≤ Sink.errors ended.sink
+      → min (Sink.errors sink + (owed Sink.step Sink.is_quiet Sink.asks_cdata Sink.ended table
+      (first_stand opts.initial_state opts.last_start_tag_name) 0 (Sink.view sink) (text_of opts cs) +
+      (owed_for_text opts.exact_errors (text_of opts cs)).faults)) 0xffff_ffff_ffff_ffff ≤ Sink.errors ended.sink
 
   -- A text that is read without anything that is not clean, and without an error of the sink, tells no error, where control
   -- characters and noncharacters are not told, or it has none: after it is what the sink's own end makes of the number before it.
@@ -93,7 +95,8 @@ module _ {K H : Type 0} (Sink : Ghosts K H) where
   IsCleanTextQuiet = (k new ended : Tokenizer K) (cs : List Call) (sink : K) (opts : TokenizerOpts) (table : List Row)
       → IsNew Sink k sink opts table → IsChain k cs new → (e : HasEnded Sink new ended)
       → (owed_for_text opts.exact_errors (text_of opts cs)).is_quiet ≡ true
-      → is_clean_reading Sink.step Sink.is_quiet Sink.asks_cdata table (first_stand opts.initial_state opts.last_start_tag_name) 0 (Sink.view sink) (text_of opts cs) ≡ true
+      → is_clean_reading Sink.step Sink.is_quiet Sink.asks_cdata table
+      (first_stand opts.initial_state opts.last_start_tag_name) 0 (Sink.view sink) (text_of opts cs) ≡ true
       → Sink.errors ended.sink ≡ Sink.errors_ended (Sink.view e.told) (Sink.errors sink)
 
   -- What was owed for the characters that a call took and those that follow was owed for items that ended, so many of which errors

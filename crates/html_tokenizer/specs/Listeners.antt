@@ -16,8 +16,14 @@ pub record Listener (T : Type 0) : Type 0 where
   pub ends : T → T
 
 -- a sink of which pauses, faulty items and quiet are noted
-abbrev pub noting_listener : {S : Type 0} → (S → Token → ℕ → Result (S × Reply) Refusal) → (S → Token → Bool) → (S → Bool) → (S → S) → Listener (S × Notes ℕ)
-noting_listener step quiet cdata ends = record { step = noting step quiet; erred = noting_error; cdata = noting_cdata cdata; ends = noting_end ends }
+abbrev pub noting_listener : {S : Type 0} → (S → Token → ℕ → Result (S × Reply) Refusal) → (S → Token → Bool)
+    → (S → Bool) → (S → S) → Listener (S × Notes ℕ)
+noting_listener step quiet cdata ends = record {
+  step = noting step quiet;
+  erred = noting_error;
+  cdata = noting_cdata cdata;
+  ends = noting_end ends;
+}
 
 abbrev pub listening : {K H : Type 0} → (Sink : Ghosts K H) → Listener (Sink.State × Notes ℕ)
 listening Sink = noting_listener Sink.step Sink.is_quiet Sink.asks_cdata Sink.ended

@@ -15,7 +15,8 @@ module _ {K H : Type 0} (Sink : Ghosts K H) (is_prop : (s : Sink.State) → IsPr
 
   pub IsReady-prop : (k : Tokenizer K) → IsProp (IsReady Sink k)
   unfolding ready
-  IsReady-prop k x y = ap₂ (ready k) (is_prop (Sink.view k.sink) x.sound y.sound) (Bool-set (fits_in (rows_of k) k.char_ref k.state) true x.fits y.fits)
+  IsReady-prop k x y = ap₂ (ready k) (is_prop (Sink.view k.sink) x.sound y.sound)
+      (Bool-set (fits_in (rows_of k) k.char_ref k.state) true x.fits y.fits)
 
   pub IsReadyIf-prop : (refused : Option ParseFault) (k : Tokenizer K) → IsProp (IsReadyIf Sink refused k)
   IsReadyIf-prop None k = IsReady-prop k

@@ -9,7 +9,8 @@ use Rattle.html_tokens.specs.declared.states.State.{State}
 use Rattle.html_tokens.specs.declared.states.State.TheVariants as state
 use Rattle.html_tokens.specs.declared.token.Doctype.{Doctype}
 use Rattle.html_tokens.specs.Comments.{comment_at, comment_after, bogus_comment_after}
-use Rattle.html_tokens.specs.Doctypes.{doctype_at, doctype_after, doctype_name_after, after_name, after_public_keyword, after_system_keyword, public_after, system_after, after_public, after_system, junk_after}
+use Rattle.html_tokens.specs.Doctypes.{doctype_at, doctype_after, doctype_name_after, after_name, after_public_keyword}
+use Rattle.html_tokens.specs.Doctypes.{after_system_keyword, public_after, system_after, after_public, after_system, junk_after}
 use Rattle.html_tokens.specs.Item.{Fault, Slight, slight_if, TextPlace, InData, InRaw, InPlaintext, InCdata, InTag, Stand, Item}
 use Rattle.html_tokens.specs.NormalText.{newlines_after, without_mark}
 use Rattle.html_tokens.specs.Reading.{erred_by}
@@ -80,24 +81,30 @@ module _ {K T : Type 0} (to : Listener T) where
   held_at state.TagName k b s t = played (name_after (standing k InData) k.tag t) k b s t
   -- raw text: "<" may still begin the fitting end tag, and what was told of a script may still change its kind
   held_at (state.RawData kind) k b s t = read_at (InRaw kind) k b s t
-  held_at (state.RawLessThanSign (raw.ScriptDataEscaped script.DoubleEscaped)) k b s t = read_at (InRaw (kind_after (raw.ScriptDataEscaped script.DoubleEscaped) (codes "<") t)) k b s t
+  held_at (state.RawLessThanSign (raw.ScriptDataEscaped script.DoubleEscaped)) k b s t =
+      read_at (InRaw (kind_after (raw.ScriptDataEscaped script.DoubleEscaped) (codes "<") t)) k b s t
   held_at (state.RawLessThanSign kind) k b s t = read_at (InRaw kind) k b s (60 ∷ t)
   held_at (state.RawEndTagOpen kind) k b s t = read_at (InRaw kind) k b s (60 ∷ 47 ∷ t)
   held_at (state.RawEndTagName kind) k b s t = read_at (InRaw kind) k b s (60 ∷ 47 ∷ (k.raw_end.letters ++ t))
   held_at (state.ScriptDataEscapeStart script.Escaped) k b s t = read_at (InRaw (kind_after raw.ScriptData (codes "<!") t)) k b s t
-  held_at (state.ScriptDataEscapeStart script.DoubleEscaped) k b s t = read_at (InRaw (kind_after (raw.ScriptDataEscaped script.Escaped) (60 ∷ k.word) t)) k b s t
+  held_at (state.ScriptDataEscapeStart script.DoubleEscaped) k b s t =
+      read_at (InRaw (kind_after (raw.ScriptDataEscaped script.Escaped) (60 ∷ k.word) t)) k b s t
   held_at state.ScriptDataEscapeStartDash k b s t = read_at (InRaw (kind_after raw.ScriptData (codes "<!-") t)) k b s t
   held_at (state.ScriptDataEscapedDash kind) k b s t = read_at (InRaw (kind_after (raw.ScriptDataEscaped kind) (codes "-") t)) k b s t
   held_at (state.ScriptDataEscapedDashDash kind) k b s t = read_at (InRaw (kind_after (raw.ScriptDataEscaped kind) (codes "--") t)) k b s t
-  held_at state.ScriptDataDoubleEscapeEnd k b s t = read_at (InRaw (kind_after (raw.ScriptDataEscaped script.DoubleEscaped) (60 ∷ 47 ∷ k.word) t)) k b s t
+  held_at state.ScriptDataDoubleEscapeEnd k b s t =
+      read_at (InRaw (kind_after (raw.ScriptDataEscaped script.DoubleEscaped) (60 ∷ 47 ∷ k.word) t)) k b s t
   -- tags
   held_at state.BeforeAttributeName k b s t = read_at (InTag k.tag) k b s t
   held_at state.AttributeName k b s t = played (attribute_after (rows_of k) (standing k InData) k.tag k.attribute_name t) k b s t
   held_at state.AfterAttributeName k b s t = played (equals_at (rows_of k) (standing k InData) k.tag k.attribute_name t) k b s t
   held_at state.BeforeAttributeValue k b s t = played (value_at (rows_of k) (standing k InData) k.tag k.attribute_name t) k b s t
-  held_at (state.AttributeValue value.Unquoted) k b s t = played (unquoted_after (rows_of k) (standing k InData) k.tag k.attribute_name k.attribute_value t) k b s t
-  held_at (state.AttributeValue value.SingleQuoted) k b s t = played (quoted_after (rows_of k) 39 (standing k InData) k.tag k.attribute_name k.attribute_value t) k b s t
-  held_at (state.AttributeValue value.DoubleQuoted) k b s t = played (quoted_after (rows_of k) 34 (standing k InData) k.tag k.attribute_name k.attribute_value t) k b s t
+  held_at (state.AttributeValue value.Unquoted) k b s t =
+      played (unquoted_after (rows_of k) (standing k InData) k.tag k.attribute_name k.attribute_value t) k b s t
+  held_at (state.AttributeValue value.SingleQuoted) k b s t =
+      played (quoted_after (rows_of k) 39 (standing k InData) k.tag k.attribute_name k.attribute_value t) k b s t
+  held_at (state.AttributeValue value.DoubleQuoted) k b s t =
+      played (quoted_after (rows_of k) 34 (standing k InData) k.tag k.attribute_name k.attribute_value t) k b s t
   held_at state.AfterAttributeValueQuoted k b s t = read_at (InTag k.tag) k b (erred_by to.erred (slight_if (lacks_space t)) s) t
   held_at state.SelfClosingStartTag k b s t = read_at (InTag k.tag) k b s (47 ∷ t)
   -- comments
@@ -109,7 +116,8 @@ module _ {K T : Type 0} (to : Listener T) where
   held_at state.CommentLessThanSign k b s t = played (comment_after (standing k InData) k.comment t) k b s t
   held_at state.CommentLessThanSignBang k b s t = played (comment_after (standing k InData) k.comment t) k b s t
   held_at state.CommentLessThanSignBangDash k b s t = played (comment_after (standing k InData) k.comment (45 ∷ t)) k b s (45 ∷ t)
-  held_at state.CommentLessThanSignBangDashDash k b s t = played (comment_after (standing k InData) k.comment (45 ∷ 45 ∷ t)) k b s (45 ∷ 45 ∷ t)
+  held_at state.CommentLessThanSignBangDashDash k b s t =
+      played (comment_after (standing k InData) k.comment (45 ∷ 45 ∷ t)) k b s (45 ∷ 45 ∷ t)
   held_at state.CommentEndDash k b s t = played (comment_after (standing k InData) k.comment (45 ∷ t)) k b s (45 ∷ t)
   held_at state.CommentEnd k b s t = played (comment_after (standing k InData) k.comment (45 ∷ 45 ∷ t)) k b s (45 ∷ 45 ∷ t)
   held_at state.CommentEndBang k b s t = played (comment_after (standing k InData) k.comment (45 ∷ 45 ∷ 33 ∷ t)) k b s (45 ∷ 45 ∷ 33 ∷ t)
@@ -122,10 +130,14 @@ module _ {K T : Type 0} (to : Listener T) where
   held_at (state.AfterDoctypeKeyword id.System) k b s t = played (after_system_keyword (standing k InData) k.doctype t) k b s t
   held_at (state.BeforeDoctypeIdentifier id.Public) k b s t = played (after_public_keyword (standing k InData) k.doctype t) k b s t
   held_at (state.BeforeDoctypeIdentifier id.System) k b s t = played (after_system_keyword (standing k InData) k.doctype t) k b s t
-  held_at (state.DoctypeIdentifierDoubleQuoted id.Public) k b s t = played (public_after 34 (standing k InData) k.doctype k.temporary t) k b s t
-  held_at (state.DoctypeIdentifierDoubleQuoted id.System) k b s t = played (system_after 34 (standing k InData) k.doctype k.temporary t) k b s t
-  held_at (state.DoctypeIdentifierSingleQuoted id.Public) k b s t = played (public_after 39 (standing k InData) k.doctype k.temporary t) k b s t
-  held_at (state.DoctypeIdentifierSingleQuoted id.System) k b s t = played (system_after 39 (standing k InData) k.doctype k.temporary t) k b s t
+  held_at (state.DoctypeIdentifierDoubleQuoted id.Public) k b s t =
+      played (public_after 34 (standing k InData) k.doctype k.temporary t) k b s t
+  held_at (state.DoctypeIdentifierDoubleQuoted id.System) k b s t =
+      played (system_after 34 (standing k InData) k.doctype k.temporary t) k b s t
+  held_at (state.DoctypeIdentifierSingleQuoted id.Public) k b s t =
+      played (public_after 39 (standing k InData) k.doctype k.temporary t) k b s t
+  held_at (state.DoctypeIdentifierSingleQuoted id.System) k b s t =
+      played (system_after 39 (standing k InData) k.doctype k.temporary t) k b s t
   held_at (state.AfterDoctypeIdentifier id.Public) k b s t = played (after_public (standing k InData) k.doctype t) k b s t
   held_at (state.AfterDoctypeIdentifier id.System) k b s t = played (after_system (standing k InData) k.doctype t) k b s t
   held_at state.BetweenDoctypePublicAndSystemIdentifiers k b s t = played (after_public (standing k InData) k.doctype t) k b s t

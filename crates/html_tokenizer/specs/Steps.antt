@@ -1,5 +1,6 @@
 -- What the machine's functions leave: whatever follows, they have made of it what the machine would have made of it.
-use Rattle.std.specs.Prelude.{◌≡◌, ℕ, zero, suc, ◌+◌, ◌≤◌, min, Bool, true, false, ◌&&◌, nat_eq, List, [], ◌∷◌, ◌++◌, Option, Some, None, Result, Ok, Err, IsErr}
+use Rattle.std.specs.Prelude.{◌≡◌, ℕ, zero, suc, ◌+◌, ◌≤◌, min, Bool, true, false, ◌&&◌, nat_eq, List, [], ◌∷◌, ◌++◌, Option}
+use Rattle.std.specs.Prelude.{Some, None, Result, Ok, Err, IsErr}
 use Rattle.markup.specs.declared.fault.ParseFault.{ParseFault}
 use Rattle.markup.specs.declared.fault.ParseFault.TheVariants.{Memory, TokenInText, Ended, Shape, Failed}
 use Rattle.html_tokens.specs.declared.replies.ProcessResult.{ProcessResult}
@@ -170,7 +171,8 @@ module _ {K H : Type 0} (Sink : Ghosts K H) where
 
   -- The token has gone to the sink, which answered only that reading goes on, after what is owed. Nothing else changes.
   pub record Emitted (owed : Owed) (token : Token) (old new : Tokenizer K) : Type 0 where
-    pub gives : (line : ℕ) → line ≡ line_number old.stream.breaks → Sink.step (Sink.view old.sink) token line ≡ Ok (Sink.view new.sink, reply.Continue)
+    pub gives : (line : ℕ) → line ≡ line_number old.stream.breaks → Sink.step (Sink.view old.sink) token line ≡ Ok
+        (Sink.view new.sink, reply.Continue)
     pub changed : new ≡ record old { sink = new.sink }
     pub sound : Sink.is_sound (Sink.view new.sink)
     pub stays : Stays old.sink new.sink
@@ -178,7 +180,8 @@ module _ {K H : Type 0} (Sink : Ghosts K H) where
 
   abbrev pub TellsAmong : (Token → Type 0) → Owed → Token → Tokenizer K → Tokenizer K → Result (Unit {0}) ParseFault → Type 0
   TellsAmong among owed token old new (Ok x) = Emitted owed token old new
-  TellsAmong among owed token old new (Err fault) = Fell old.sink new.sink × FailsAmong among old.sink new.sink (Sink.step (Sink.view old.sink) token (line_number old.stream.breaks)) fault
+  TellsAmong among owed token old new (Err fault) = Fell old.sink new.sink × FailsAmong among old.sink new.sink
+      (Sink.step (Sink.view old.sink) token (line_number old.stream.breaks)) fault
 
   abbrev pub Tells : Owed → Token → Tokenizer K → Tokenizer K → Result (Unit {0}) ParseFault → Type 0
   Tells owed token old new result = TellsAmong IsOfText owed token old new result
@@ -187,7 +190,8 @@ module _ {K H : Type 0} (Sink : Ghosts K H) where
   abbrev pub TakesAs : Owed → Token → Tokenizer K → Tokenizer K → Result (ProcessResult H) ParseFault → Type 0
   TakesAs owed token old new (Ok flow.Continue) = Emitted owed token old new
   TakesAs owed token old new (Ok _) = ⊥
-  TakesAs owed token old new (Err fault) = Falls old.sink new.sink (Sink.step (Sink.view old.sink) token (line_number old.stream.breaks)) fault
+  TakesAs owed token old new (Err fault) = Falls old.sink new.sink
+      (Sink.step (Sink.view old.sink) token (line_number old.stream.breaks)) fault
 
   -- What is owed has been told, which changes nothing that the sink stands for.
   pub record Erred (owed : Owed) (old new : Tokenizer K) : Type 0 where
@@ -202,9 +206,11 @@ module _ {K H : Type 0} (Sink : Ghosts K H) where
 
   -- Characters were read: whatever follows, the machine makes of it what it would have made of it after them. They owed this, and
   -- what they owe besides. The last of them may hand back control.
-  pub record Read (chars : List ℕ) (besides : Owed → Owed) (breaks : ℕ) (left : Stream) (old new : Tokenizer K) (result : ProcessResult H) : Type 0 where
+  pub record Read (chars : List ℕ) (besides : Owed → Owed) (breaks : ℕ) (left : Stream) (old new : Tokenizer K)
+      (result : ProcessResult H) : Type 0 where
     pub owed : Owed
-    pub same : (notes : Notes ℕ) (t : List ℕ) → now old old.stream.breaks (Sink.view old.sink, notes) (chars ++ t) ≡ now new breaks (Sink.view new.sink, noted_by Sink.number owed notes result) t
+    pub same : (notes : Notes ℕ) (t : List ℕ) → now old old.stream.breaks (Sink.view old.sink, notes)
+        (chars ++ t) ≡ now new breaks (Sink.view new.sink, noted_by Sink.number owed notes result) t
     pub rises : Rises Sink.errors (besides owed) old.sink new.sink
     pub stream : new.stream ≡ left
     pub sound : Sink.is_sound (Sink.view new.sink)
@@ -214,7 +220,8 @@ module _ {K H : Type 0} (Sink : Ghosts K H) where
 
   -- A call failed, which left its sink so: what was to come over these characters is refused, whatever follows.
   abbrev pub FailsOver : List ℕ → Tokenizer K → K → ParseFault → Type 0
-  FailsOver chars old left fault = Fell old.sink left × ((notes : Notes ℕ) (t : List ℕ) → Fails old.sink left (now old old.stream.breaks (Sink.view old.sink, notes) (chars ++ t)) fault)
+  FailsOver chars old left fault = Fell old.sink left
+      × ((notes : Notes ℕ) (t : List ℕ) → Fails old.sink left (now old old.stream.breaks (Sink.view old.sink, notes) (chars ++ t)) fault)
 
   -- One character was taken, whose line the caller counts.
   abbrev pub Took : Tokenizer K → Tokenizer K → ℕ → ProcessResult H → Type 0
@@ -231,7 +238,10 @@ module _ {K H : Type 0} (Sink : Ghosts K H) where
   -- The tag has gone to the sink after its error, if it has one, and the machine is where the reply has it.
   pub record EndedTag (old new : Tokenizer K) (result : ProcessResult H) : Type 0 where
     pub same : (notes : Notes ℕ) (t : List ℕ)
-        → (noting Sink.step Sink.is_quiet (Sink.view old.sink, more (owed_for (grave_if (is_faulty_tag old.tag))) notes) (TagToken old.tag) (line_number old.stream.breaks) >>= λ p. reads (rows_of old) (next_stand (after_tag (standing old InData) old.tag) p.1) old.stream.breaks p.0 t)
+        → (noting Sink.step Sink.is_quiet
+        (Sink.view old.sink, more (owed_for (grave_if (is_faulty_tag old.tag))) notes) (TagToken old.tag)
+        (line_number old.stream.breaks) >>= λ p. reads (rows_of old)
+        (next_stand (after_tag (standing old InData) old.tag) p.1) old.stream.breaks p.0 t)
         ≡ now new old.stream.breaks (Sink.view new.sink, noted_by Sink.number (owed_by old) notes result) t
     pub rises : Rises Sink.errors (owed_by old) old.sink new.sink
     pub stream : new.stream ≡ old.stream
@@ -242,4 +252,5 @@ module _ {K H : Type 0} (Sink : Ghosts K H) where
 
   abbrev pub EndsTag : Tokenizer K → Tokenizer K → Result (ProcessResult H) ParseFault → Type 0
   EndsTag old new (Ok result) = EndedTag old new result
-  EndsTag old new (Err fault) = Falls old.sink new.sink (Sink.step (Sink.view old.sink) (TagToken old.tag) (line_number old.stream.breaks)) fault
+  EndsTag old new (Err fault) = Falls old.sink new.sink
+      (Sink.step (Sink.view old.sink) (TagToken old.tag) (line_number old.stream.breaks)) fault

@@ -77,7 +77,11 @@ impl<Sink: TokenSink> Tokenizer<Sink> {
 
     /// Adds the attribute that was read to the tag, or drops it where the tag has one of its name.
     pub(crate) fn finish_attribute(&mut self) -> Result<(), ParseFault>
-        ensures ok { OnOk result (self.new ≡ record self.old { tag = with_attribute self.old.tag self.old.attribute_name self.old.attribute_value; attribute_name = []; attribute_value = [] }) }
+        ensures ok { OnOk result (self.new ≡ record self.old {
+          tag = with_attribute self.old.tag self.old.attribute_name self.old.attribute_value;
+          attribute_name = [];
+          attribute_value = [];
+        }) }
         ensures fault { IfErr result (λ fault. fault ≡ Memory) }
         ensures sink { self.new.sink ≡ self.old.sink }
     {
@@ -94,7 +98,8 @@ impl<Sink: TokenSink> Tokenizer<Sink> {
 
     /// Adds the attribute that was read to the tag, without a value.
     pub(crate) fn finish_without_value(&mut self) -> Result<(), ParseFault>
-        ensures ok { OnOk result (self.new ≡ record self.old { tag = with_attribute self.old.tag self.old.attribute_name []; attribute_name = []; attribute_value = [] }) }
+        ensures ok { OnOk result (self.new ≡ record self.old
+            { tag = with_attribute self.old.tag self.old.attribute_name []; attribute_name = []; attribute_value = [] }) }
         ensures fault { IfErr result (λ fault. fault ≡ Memory) }
         ensures sink { self.new.sink ≡ self.old.sink }
     {

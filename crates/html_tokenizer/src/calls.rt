@@ -4,7 +4,8 @@ ghost use Rattle.html_tokens.specs.TextState.{is_text_state};
 ghost use Rattle.html_tokens.specs.Item.{InPlaintext};
 ghost use Rattle.html_tokens.specs.Reading.{first_place};
 ghost use Rattle.html_tokens.specs.declared.states.State.TheVariants as state;
-ghost use Rattle.html_tokenizer.specs.Calls.{refusal_of, has_ended, text_place, is_nothing_pending, IsReadyIf, IsNew, ReadsAt, FeedGives, EndGives, KeepsSound, TellsEnd};
+ghost use Rattle.html_tokenizer.specs.Calls.{refusal_of, has_ended, text_place, is_nothing_pending, IsReadyIf, IsNew, ReadsAt};
+ghost use Rattle.html_tokenizer.specs.Calls.{FeedGives, EndGives, KeepsSound, TellsEnd};
 
 use crate::doctype_states::no_doctype;
 use crate::tag_states::nameless;

@@ -17,7 +17,8 @@ impl<Sink: TokenSink> Tokenizer<Sink> {
     /// Hands out the comment. What follows is data.
     fn emit_comment(&mut self) -> Result<(), ParseFault>
         requires sound { Sink.is_sound (Sink.view self.old.sink) }
-        ensures { Tells Sink.TokenSink nothing_owed (CommentToken self.old.comment) (record self.old { comment = []; state = state.Data }) self.new result }
+        ensures { Tells Sink.TokenSink nothing_owed (CommentToken self.old.comment)
+            (record self.old { comment = []; state = state.Data }) self.new result }
     {
         let comment = mem::replace(&mut self.comment, Text::empty(self.stream.alloc));
         self.state = State::Data;
@@ -27,7 +28,8 @@ impl<Sink: TokenSink> Tokenizer<Sink> {
     /// Hands out a comment that is a parse error. What follows is data.
     pub(crate) fn emit_faulty_comment(&mut self, code: ErrorCode) -> Result<(), ParseFault>
         requires sound { Sink.is_sound (Sink.view self.old.sink) }
-        ensures { Tells Sink.TokenSink a_fault (CommentToken self.old.comment) (record self.old { comment = []; state = state.Data }) self.new result }
+        ensures { Tells Sink.TokenSink a_fault (CommentToken self.old.comment)
+            (record self.old { comment = []; state = state.Data }) self.new result }
     {
         self.report_error(code)?;
         self.emit_comment()
@@ -36,7 +38,8 @@ impl<Sink: TokenSink> Tokenizer<Sink> {
     /// Hands out a comment that is bogus. What follows is data.
     pub(crate) fn emit_bogus_comment(&mut self) -> Result<(), ParseFault>
         requires sound { Sink.is_sound (Sink.view self.old.sink) }
-        ensures { Tells Sink.TokenSink a_fault (CommentToken self.old.comment) (record self.old { comment = []; state = state.Data }) self.new result }
+        ensures { Tells Sink.TokenSink a_fault (CommentToken self.old.comment)
+            (record self.old { comment = []; state = state.Data }) self.new result }
     {
         let fault = self.fault;
         self.emit_faulty_comment(fault)

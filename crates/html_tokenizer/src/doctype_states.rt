@@ -81,7 +81,8 @@ impl<Sink: TokenSink> Tokenizer<Sink> {
     /// Hands out the doctype, where its error was told. What follows is data.
     fn emit_doctype_token(&mut self) -> Result<(), ParseFault>
         requires sound { Sink.is_sound (Sink.view self.old.sink) }
-        ensures { Tells Sink.TokenSink nothing_owed (DoctypeToken self.old.doctype) (record self.old { doctype = Doctypes.no_doctype; state = state.Data }) self.new result }
+        ensures { Tells Sink.TokenSink nothing_owed (DoctypeToken self.old.doctype)
+            (record self.old { doctype = Doctypes.no_doctype; state = state.Data }) self.new result }
     {
         let doctype = mem::replace(&mut self.doctype, no_doctype());
         self.state = State::Data;
@@ -91,7 +92,8 @@ impl<Sink: TokenSink> Tokenizer<Sink> {
     /// Hands out the doctype. What follows is data.
     pub(crate) fn emit_doctype(&mut self) -> Result<(), ParseFault>
         requires sound { Sink.is_sound (Sink.view self.old.sink) }
-        ensures { Tells Sink.TokenSink (owed_for (grave_if self.old.doctype.force_quirks)) (DoctypeToken self.old.doctype) (record self.old { doctype = Doctypes.no_doctype; state = state.Data }) self.new result }
+        ensures { Tells Sink.TokenSink (owed_for (grave_if self.old.doctype.force_quirks))
+            (DoctypeToken self.old.doctype) (record self.old { doctype = Doctypes.no_doctype; state = state.Data }) self.new result }
     {
         let fault = self.fault;
         self.emit_doctype_for(fault)
@@ -100,7 +102,8 @@ impl<Sink: TokenSink> Tokenizer<Sink> {
     /// Hands out the doctype, for this reason where it is faulty. What follows is data.
     pub(crate) fn emit_doctype_for(&mut self, fault: ErrorCode) -> Result<(), ParseFault>
         requires sound { Sink.is_sound (Sink.view self.old.sink) }
-        ensures { Tells Sink.TokenSink (owed_for (grave_if self.old.doctype.force_quirks)) (DoctypeToken self.old.doctype) (record self.old { doctype = Doctypes.no_doctype; state = state.Data }) self.new result }
+        ensures { Tells Sink.TokenSink (owed_for (grave_if self.old.doctype.force_quirks))
+            (DoctypeToken self.old.doctype) (record self.old { doctype = Doctypes.no_doctype; state = state.Data }) self.new result }
     {
         self.report_if(self.doctype.force_quirks, fault)?;
         self.emit_doctype_token()

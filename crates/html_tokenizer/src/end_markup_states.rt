@@ -18,7 +18,8 @@ impl<Sink: TokenSink> Tokenizer<Sink> {
     /// The input ends in a comment.
     fn end_comment(&mut self) -> Result<(), ParseFault>
         requires sound { Sink.is_sound (Sink.view self.old.sink) }
-        ensures { Tells Sink.TokenSink a_fault (CommentToken self.old.comment) (record self.old { comment = []; state = state.Data }) self.new result }
+        ensures { Tells Sink.TokenSink a_fault (CommentToken self.old.comment)
+            (record self.old { comment = []; state = state.Data }) self.new result }
     {
         self.emit_faulty_comment(ErrorCode::EofInComment)
     }
@@ -45,7 +46,8 @@ impl<Sink: TokenSink> Tokenizer<Sink> {
     /// The input ends in a doctype.
     fn end_doctype(&mut self) -> Result<(), ParseFault>
         requires sound { Sink.is_sound (Sink.view self.old.sink) }
-        ensures { Tells Sink.TokenSink a_fault (DoctypeToken (forced self.old.doctype)) (record self.old { doctype = no_doctype; state = state.Data }) self.new result }
+        ensures { Tells Sink.TokenSink a_fault (DoctypeToken (forced self.old.doctype))
+            (record self.old { doctype = no_doctype; state = state.Data }) self.new result }
     {
         self.doctype.force_quirks = true;
         self.emit_doctype_for(ErrorCode::EofInDoctype)
@@ -54,7 +56,8 @@ impl<Sink: TokenSink> Tokenizer<Sink> {
     /// The input ends before a doctype's name.
     fn end_doctype_start(&mut self) -> Result<(), ParseFault>
         requires sound { Sink.is_sound (Sink.view self.old.sink) }
-        ensures { Tells Sink.TokenSink a_fault (DoctypeToken (forced no_doctype)) (record self.old { doctype = no_doctype; state = state.Data }) self.new result }
+        ensures { Tells Sink.TokenSink a_fault (DoctypeToken (forced no_doctype))
+            (record self.old { doctype = no_doctype; state = state.Data }) self.new result }
     {
         self.doctype = crate::doctype_states::no_doctype();
         self.end_doctype()
@@ -63,7 +66,9 @@ impl<Sink: TokenSink> Tokenizer<Sink> {
     /// The input ends in a doctype's name.
     fn end_doctype_name(&mut self) -> Result<(), ParseFault>
         requires sound { Sink.is_sound (Sink.view self.old.sink) }
-        ensures { Tells Sink.TokenSink a_fault (DoctypeToken (forced (record no_doctype { name = Some self.old.temporary }))) (record self.old { doctype = no_doctype; temporary = []; state = state.Data }) self.new result }
+        ensures { Tells Sink.TokenSink a_fault
+            (DoctypeToken (forced (record no_doctype { name = Some self.old.temporary })))
+            (record self.old { doctype = no_doctype; temporary = []; state = state.Data }) self.new result }
     {
         self.finish_name();
         self.end_doctype()
@@ -72,7 +77,9 @@ impl<Sink: TokenSink> Tokenizer<Sink> {
     /// The input ends in a doctype's identifier.
     fn end_doctype_identifier(&mut self, kind: DoctypeIdKind) -> Result<(), ParseFault>
         requires sound { Sink.is_sound (Sink.view self.old.sink) }
-        ensures { Tells Sink.TokenSink a_fault (DoctypeToken (forced (with_identifier kind self.old.doctype self.old.temporary))) (record self.old { doctype = no_doctype; temporary = []; state = state.Data }) self.new result }
+        ensures { Tells Sink.TokenSink a_fault
+            (DoctypeToken (forced (with_identifier kind self.old.doctype self.old.temporary)))
+            (record self.old { doctype = no_doctype; temporary = []; state = state.Data }) self.new result }
     {
         self.finish_identifier(kind);
         self.end_doctype()

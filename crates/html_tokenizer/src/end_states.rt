@@ -1,4 +1,5 @@
-//! What the end of the input makes of text and of a tag, and of a reference that is held (HTML Standard, sections 13.2.5.1 to 13.2.5.40 and 13.2.5.69 to 13.2.5.73).
+//! What the end of the input makes of text and of a tag, and of a reference that is held (HTML Standard, sections 13.2.5.1 to 13.2.5.40
+//! and 13.2.5.69 to 13.2.5.73).
 ghost use Rattle.std.specs.Prelude.{◌≡◌, Some, None, true};
 ghost use Rattle.std.specs.List.{list_all};
 ghost use Rattle.html_tokens.specs.declared.states.RawKind.TheVariants as raw;

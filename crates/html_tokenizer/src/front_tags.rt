@@ -119,8 +119,10 @@ impl<Sink: TokenSink> Tokenizer<Sink> {
         requires sound { Sink.is_sound (Sink.view self.old.sink) }
         requires text { IsUtf8 opening.name.now }
         requires name { IsTagName (chars opening.name.now) }
-        ensures ok { IfOk result (λ rest. TakesFront Sink.TokenSink self.old self.new (mark opening.entry.kind ++ (opening.entry.name.now ++ opening.entry.rest.now)) rest.now) }
-        ensures shorter { IfOk result (λ rest. length rest.now < length (mark opening.entry.kind ++ (opening.entry.name.now ++ opening.entry.rest.now))) }
+        ensures ok { IfOk result (λ rest. TakesFront Sink.TokenSink self.old self.new
+            (mark opening.entry.kind ++ (opening.entry.name.now ++ opening.entry.rest.now)) rest.now) }
+        ensures shorter { IfOk result
+            (λ rest. length rest.now < length (mark opening.entry.kind ++ (opening.entry.name.now ++ opening.entry.rest.now))) }
         ensures fault { IfErr result (λ fault. fault ≡ Memory) }
         ensures sink { self.new.sink ≡ self.old.sink }
     {

@@ -1,5 +1,6 @@
 //! Laws over the calls of a tokenizer. Each function's contract is one law.
-ghost use Rattle.html_tokenizer.specs.Laws.{AreCallsChained, IsAnyPieces, IsChainEnded, IsCleanTextQuiet, IsEachFaultTold, IsOwing, IsSameRoad};
+ghost use Rattle.html_tokenizer.specs.Laws.{AreCallsChained, IsAnyPieces, IsChainEnded, IsCleanTextQuiet, IsEachFaultTold};
+ghost use Rattle.html_tokenizer.specs.Laws.{IsOwing, IsSameRoad};
 
 use html_tokens::sink::TokenSink;
 

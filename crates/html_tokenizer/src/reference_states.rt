@@ -40,7 +40,8 @@ impl<Sink: TokenSink> Tokenizer<Sink> {
     /// Hands out what a reference in text stands for.
     pub(crate) fn emit_reference(&mut self, held: &HeldReference) -> Result<(), ParseFault>
         requires sound { Sink.is_sound (Sink.view self.old.sink) }
-        ensures { Tells Sink.TokenSink (owed_for (fault_of_reference (rows_of self.old) held.now)) (CharacterTokens (resolved false (rows_of self.old) held.now false)) self.old self.new result }
+        ensures { Tells Sink.TokenSink (owed_for (fault_of_reference (rows_of self.old) held.now))
+            (CharacterTokens (resolved false (rows_of self.old) held.now false)) self.old self.new result }
     {
         let decision = decided(&self.stream.table, false, held, false);
         let mut text = Text::empty(self.stream.alloc);

@@ -1,4 +1,5 @@
-//! The escapes in the text of a script (HTML Standard, sections 13.2.5.18, 13.2.5.19, 13.2.5.21, 13.2.5.22, 13.2.5.26, 13.2.5.28, 13.2.5.29 and 13.2.5.31).
+//! The escapes in the text of a script (HTML Standard, sections 13.2.5.18, 13.2.5.19, 13.2.5.21, 13.2.5.22, 13.2.5.26, 13.2.5.28,
+//! 13.2.5.29 and 13.2.5.31).
 ghost use Rattle.std.specs.Prelude.{◌≡◌, true, if◌then◌else◌};
 ghost use Rattle.std.specs.Char.{is_ascii_alphabetic};
 ghost use Rattle.std.specs.List.{list_all};

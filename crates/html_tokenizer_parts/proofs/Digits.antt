@@ -1,5 +1,6 @@
 -- Numbers of references, digit by digit.
-use Rattle.std.proofs.Common.{◌≡◌, ◌∙◌, ℕ, ◌<◌, ◌≤◌, ◌+◌, ◌*◌, min, Bool, true, false, List, [], ◌∷◌, ◌++◌, length, get_or, take, refl, sym, ap, arith, ⊎_elim}
+use Rattle.std.proofs.Common.{◌≡◌, ◌∙◌, ℕ, ◌<◌, ◌≤◌, ◌+◌, ◌*◌, min, Bool, true, false, List, [], ◌∷◌, ◌++◌, length, get_or}
+use Rattle.std.proofs.Common.{take, refl, sym, ap, arith, ⊎_elim}
 use Rattle.std.specs.Char.{IsScalar}
 use Rattle.std.proofs.Math.Nat.{min-eq_left, min-eq_right}
 use Rattle.std.proofs.lemmas.Bool.{cases_lt}
@@ -16,12 +17,16 @@ capped : (hex : Bool) (n d : ℕ) → min (min n 0x110000 * base_of hex + d) 0x1
 capped true n d = omega arith
 capped false n d = omega arith
 
-number-pushed : (hex : Bool) (digits : List ℕ) (k : ℕ) → k < length digits → number (base_of hex) (take (k + 1) digits) ≡ number (base_of hex) (take k digits) * base_of hex + digit (get_or digits k 0)
-number-pushed hex digits k l = ap (number (base_of hex)) (take_more digits k 0 l) ∙ number_after-push (base_of hex) 0 (take k digits) (get_or digits k 0)
+number-pushed : (hex : Bool) (digits : List ℕ) (k : ℕ) → k < length digits → number (base_of hex)
+    (take (k + 1) digits) ≡ number (base_of hex) (take k digits) * base_of hex + digit (get_or digits k 0)
+number-pushed hex digits k l = ap (number (base_of hex)) (take_more digits k 0 l)
+    ∙ number_after-push (base_of hex) 0 (take k digits) (get_or digits k 0)
 
 -- the number of one digit more
-pub number-more : (hex : Bool) (digits : List ℕ) (k value base d next : ℕ) → k < length digits → base ≡ base_of hex → value ≡ min (number (base_of hex) (take k digits)) 0x110000
-    → d ≡ digit (get_or digits k 0) → next ≡ min (value * base + d) 0x110000 → next ≡ min (number (base_of hex) (take (k + 1) digits)) 0x110000
+pub number-more : (hex : Bool) (digits : List ℕ) (k value base d next : ℕ) → k < length digits → base ≡ base_of hex
+    → value ≡ min (number (base_of hex) (take k digits)) 0x110000
+    → d ≡ digit (get_or digits k 0) → next ≡ min (value * base + d) 0x110000
+    → next ≡ min (number (base_of hex) (take (k + 1) digits)) 0x110000
 number-more hex digits k value base d next l b e f h =
     h ∙ rw (b, e, f, number-pushed hex digits k l) (capped hex (number (base_of hex) (take k digits)) (digit (get_or digits k 0)))
 

@@ -1,5 +1,6 @@
 -- A character of the input, as it comes.
-use Rattle.std.proofs.Common.{◌≡◌, ◌∙◌, ℕ, Bool, false, List, [], ◌∷◌, ◌++◌, Option, Some, None, refl, sym, ap, arith, append_assoc, length-append}
+use Rattle.std.proofs.Common.{◌≡◌, ◌∙◌, ℕ, Bool, false, List, [], ◌∷◌, ◌++◌, Option, Some, None, refl, sym, ap, arith}
+use Rattle.std.proofs.Common.{append_assoc, length-append}
 use Rattle.std.specs.Prelude.{IfNone}
 use Rattle.html_queue.specs.Queue.{Queue, Takes}
 use Rattle.html_tokens.specs.NormalText.{newlines_after, without_mark}
@@ -20,7 +21,8 @@ last-joined c [] b = refl
 last-joined c (d ∷ a) b = last-joined d a b
 
 -- where nothing else was learnt of the input than that no byte order mark comes
-marked : (old mid : Stream) → mid ≡ record old { discard_bom = false } → mid ≡ record old { ignore_lf = mid.ignore_lf; discard_bom = mid.discard_bom }
+marked : (old mid : Stream) → mid ≡ record old { discard_bom = false }
+    → mid ≡ record old { ignore_lf = mid.ignore_lf; discard_bom = mid.discard_bom }
 marked old mid e = rw e refl
 
 module _ (old mid new : Stream) (start from via to : Queue) (c : ℕ) (first : Takes (c ∷ []) start from) where
@@ -38,7 +40,8 @@ module _ (old mid new : Stream) (start from via to : Queue) (c : ℕ) (first : T
     whole : (r : Option ℕ) (k : NewlineMade mid new via to mark r) → Takes (c ∷ h.more ++ k.more) start to
     whole r k = takes-more (c ∷ []) (h.more ++ k.more) start from to first (takes-more h.more k.more from via to h.takes k.takes)
 
-    front : (r : Option ℕ) (k : NewlineMade mid new via to mark r) (t : List ℕ) → coming_in old ((c ∷ h.more ++ k.more) ++ t) ≡ before r (coming_in new t)
+    front : (r : Option ℕ) (k : NewlineMade mid new via to mark r) (t : List ℕ)
+        → coming_in old ((c ∷ h.more ++ k.more) ++ t) ≡ before r (coming_in new t)
     front r k t =
         ap (λ u. newlines_after old.ignore_lf (without_mark old.discard_bom (c ∷ u))) (append_assoc h.more k.more t)
         ∙ ap (newlines_after old.ignore_lf) (h.front (k.more ++ t))
@@ -48,12 +51,23 @@ module _ (old mid new : Stream) (start from via to : Queue) (c : ℕ) (first : T
         ∙ ap (λ s. before r (newlines_after new.ignore_lf (without_mark s.discard_bom t))) (sym h.changed)
         ∙ ap (λ s. before r (newlines_after new.ignore_lf (without_mark s.discard_bom t))) (sym k.changed)
 
-    changes : (r : Option ℕ) (k : NewlineMade mid new via to mark r) → new ≡ record old { ignore_lf = new.ignore_lf; discard_bom = new.discard_bom }
-    changes r k = k.changed ∙ ap {A = Stream} (λ s. record s { ignore_lf = new.ignore_lf }) h.changed ∙ ap {A = Bool} (λ b. record old { ignore_lf = new.ignore_lf; discard_bom = b }) (sym (ap (λ s. s.discard_bom) k.changed ∙ ap (λ s. s.discard_bom) h.changed))
+    changes : (r : Option ℕ) (k : NewlineMade mid new via to mark r) → new ≡ record old {
+      ignore_lf = new.ignore_lf;
+      discard_bom = new.discard_bom;
+    }
+    changes r k = k.changed ∙ ap {A = Stream} (λ s. record s { ignore_lf = new.ignore_lf }) h.changed
+        ∙ ap {A = Bool} (λ b. record old { ignore_lf = new.ignore_lf; discard_bom = b })
+        (sym (ap (λ s. s.discard_bom) k.changed ∙ ap (λ s. s.discard_bom) h.changed))
 
     -- what came after the byte order mark is made a line feed, if it ends a line
     pub next-comes : (r : Option ℕ) → NewlineMade mid new via to mark r → IfNone r (to.characters ≡ []) → Nexts old new start to r
-    next-comes None k empty = record { taken = c ∷ h.more ++ k.more; takes = whole None k; all = front None k; changed = changes None k; empty = empty }
+    next-comes None k empty = record {
+      taken = c ∷ h.more ++ k.more;
+      takes = whole None k;
+      all = front None k;
+      changed = changes None k;
+      empty = empty;
+    }
     next-comes (Some d) k empty = record {
       taken = c ∷ h.more ++ k.more;
       takes = whole (Some d) k;

@@ -1,5 +1,6 @@
 -- What the beginnings of words say of the characters that follow.
-use Rattle.std.proofs.Common.{◌≡◌, ◌∙◌, ℕ, suc, ◌+◌, ◌≤◌, ◌<◌, length, Bool, true, false, ◌||◌, nat_eq, nat_lt, List, [], ◌∷◌, ◌++◌, get_or, take, slice_index_or, refl, sym, ap, arith, append_assoc, append-nil}
+use Rattle.std.proofs.Common.{◌≡◌, ◌∙◌, ℕ, suc, ◌+◌, ◌≤◌, ◌<◌, length, Bool, true, false, ◌||◌, nat_eq, nat_lt, List, [], ◌∷◌}
+use Rattle.std.proofs.Common.{◌++◌, get_or, take, slice_index_or, refl, sym, ap, arith, append_assoc, append-nil}
 use Rattle.std.specs.Prelude.{◌&&◌, zip, codes, if◌then◌else◌, ◌==◌}
 use Rattle.std.specs.Char.{to_ascii_lowercase, is_ascii_alphabetic}
 use Rattle.std.specs.List.{list_all}
@@ -13,7 +14,8 @@ use Rattle.html_tokens.specs.Doctypes.{junk_after}
 use Rattle.html_tokens.specs.Item.{Stand, longer, longer_by}
 use Rattle.html_tokenizer_parts.specs.declared.keyword.Word.{Word}
 use Rattle.html_tokenizer_parts.specs.declared.keyword.Word.TheVariants as word
-use Rattle.html_tokenizer_parts.specs.Keywords.{letter, spelling, is_any_case, has_front, is_spelt, is_begun, becomes, may_become, IsPart, front_of}
+use Rattle.html_tokenizer_parts.specs.Keywords.{letter, spelling, is_any_case, has_front, is_spelt, is_begun, becomes}
+use Rattle.html_tokenizer_parts.specs.Keywords.{may_become, IsPart, front_of}
 use Rattle.html_tokenizer_parts.proofs.Words.{and_parts}
 
 pub and_both : (a b : Bool) → a ≡ true → b ≡ true → (a && b) ≡ true
@@ -38,7 +40,8 @@ and_fails : (a b c : Bool) → (b ≡ false → c ≡ false) → (a && b) ≡ fa
 and_fails true b c k h = k h
 and_fails false b c k h = refl
 
-and_all_fail : (a b c d e : Bool) → (b ≡ false → c ≡ false → d ≡ false → e ≡ false) → (a && b) ≡ false → (a && c) ≡ false → (a && d) ≡ false → (a && e) ≡ false
+and_all_fail : (a b c d e : Bool) → (b ≡ false → c ≡ false → d ≡ false → e ≡ false) → (a && b) ≡ false
+    → (a && c) ≡ false → (a && d) ≡ false → (a && e) ≡ false
 and_all_fail true b c d e k f g h = k f g h
 and_all_fail false b c d e k f g h = refl
 
@@ -54,7 +57,8 @@ front-long any [] (x ∷ cs) c h = refl
 front-long any (w ∷ ws) [] c h = absurd (omega arith)
 front-long any (w ∷ ws) (x ∷ cs) c h = rw (front-long any ws cs c (omega arith)) (and_false (nat_eq w (letter any x)))
 
-pub front-at : (any : Bool) (ws cs : List ℕ) (c d : ℕ) → length cs < length ws → agree any ws cs ≡ true → has_front any ws (cs ++ c ∷ []) ≡ nat_eq (slice_index_or ws (length cs) d) (letter any c)
+pub front-at : (any : Bool) (ws cs : List ℕ) (c d : ℕ) → length cs < length ws → agree any ws cs ≡ true
+    → has_front any ws (cs ++ c ∷ []) ≡ nat_eq (slice_index_or ws (length cs) d) (letter any c)
 front-at any [] cs c d l h = absurd (omega arith)
 front-at any (w ∷ ws) [] c d l h = and_true (nat_eq w (letter any c))
 front-at any (w ∷ ws) (x ∷ cs) c d l h =
@@ -65,7 +69,8 @@ pub front-not : (any : Bool) (ws cs u : List ℕ) → agree any ws cs ≡ false 
 front-not any [] [] u h = absurd cc
 front-not any [] (x ∷ cs) u h = refl
 front-not any (w ∷ ws) [] u h = absurd cc
-front-not any (w ∷ ws) (x ∷ cs) u h = and_fails (nat_eq w (letter any x)) (agree any ws cs) (has_front any ws (cs ++ u)) (front-not any ws cs u) h
+front-not any (w ∷ ws) (x ∷ cs) u h = and_fails (nat_eq w (letter any x)) (agree any ws cs)
+    (has_front any ws (cs ++ u)) (front-not any ws cs u) h
 
 pub length-one : (cs : List ℕ) (c : ℕ) → length (cs ++ c ∷ []) ≡ length cs + 1
 length-one [] c = refl
@@ -105,14 +110,21 @@ begun-not any (w ∷ ws) [] h = absurd cc
 begun-not any (w ∷ ws) (c ∷ cs) h = and_fails (nat_eq w (letter any c)) (has_front any ws cs) (is_begun any ws cs) (begun-not any ws cs) h
 
 -- what a keyword's tests answer
-pub leads-at : (any : Bool) (ws cs spelled : List ℕ) (c read found given : ℕ) → read ≡ length cs → spelled ≡ ws → found ≡ slice_index_or spelled read found → given ≡ letter any c → length cs < length ws → agree any ws cs ≡ true → nat_eq found given ≡ has_front any ws (cs ++ c ∷ [])
-leads-at any ws cs spelled c read found given e f is g l h = ap (λ x. nat_eq x given) is ∙ rw (e, f, g) (sym (front-at any ws cs c found l h))
+pub leads-at : (any : Bool) (ws cs spelled : List ℕ) (c read found given : ℕ) → read ≡ length cs → spelled ≡ ws
+    → found ≡ slice_index_or spelled read found → given ≡ letter any c → length cs < length ws
+    → agree any ws cs ≡ true → nat_eq found given ≡ has_front any ws (cs ++ c ∷ [])
+leads-at any ws cs spelled c read found given e f is g l h = ap (λ x. nat_eq x given) is
+    ∙ rw (e, f, g) (sym (front-at any ws cs c found l h))
 
-pub spelt-at : (any : Bool) (ws cs spelled : List ℕ) (c read : ℕ) → has_front any ws (cs ++ c ∷ []) ≡ true → read ≡ length cs → spelled ≡ ws → nat_eq (read + 1) (length spelled) ≡ is_spelt any ws (cs ++ c ∷ [])
-spelt-at any ws cs spelled c read h e f = rw (e, f) (sym (spelt-by any ws (cs ++ c ∷ []) h ∙ ap (λ n. nat_eq n (length ws)) (length-one cs c)))
+pub spelt-at : (any : Bool) (ws cs spelled : List ℕ) (c read : ℕ) → has_front any ws (cs ++ c ∷ []) ≡ true
+    → read ≡ length cs → spelled ≡ ws → nat_eq (read + 1) (length spelled) ≡ is_spelt any ws (cs ++ c ∷ [])
+spelt-at any ws cs spelled c read h e f =
+    rw (e, f) (sym (spelt-by any ws (cs ++ c ∷ []) h ∙ ap (λ n. nat_eq n (length ws)) (length-one cs c)))
 
-pub begun-at : (any : Bool) (ws cs spelled : List ℕ) (c read : ℕ) → has_front any ws (cs ++ c ∷ []) ≡ true → read ≡ length cs → spelled ≡ ws → nat_lt (read + 1) (length spelled) ≡ is_begun any ws (cs ++ c ∷ [])
-begun-at any ws cs spelled c read h e f = rw (e, f) (sym (begun-by any ws (cs ++ c ∷ []) h ∙ ap (λ n. nat_lt n (length ws)) (length-one cs c)))
+pub begun-at : (any : Bool) (ws cs spelled : List ℕ) (c read : ℕ) → has_front any ws (cs ++ c ∷ []) ≡ true
+    → read ≡ length cs → spelled ≡ ws → nat_lt (read + 1) (length spelled) ≡ is_begun any ws (cs ++ c ∷ [])
+begun-at any ws cs spelled c read h e f =
+    rw (e, f) (sym (begun-by any ws (cs ++ c ∷ []) h ∙ ap (λ n. nat_lt n (length ws)) (length-one cs c)))
 
 -- WHOLE WORDS
 
@@ -146,11 +158,16 @@ begun-open any (w ∷ ws) (c ∷ cs) h =
     begins-more any w c ws cs ∙ rw (begun-open any ws cs p.1) (and_false (nat_eq w (letter any c)))
 
 -- a text that goes on where neither the word nor its beginning does
-stops : (any : Bool) (ws cs : List ℕ) (c : ℕ) (t : List ℕ) → begins_in any ws cs ≡ false → is_spelt any ws (cs ++ c ∷ []) ≡ false → is_begun any ws (cs ++ c ∷ []) ≡ false → begins_in any ws (cs ++ c ∷ t) ≡ false
+stops : (any : Bool) (ws cs : List ℕ) (c : ℕ) (t : List ℕ) → begins_in any ws cs ≡ false
+    → is_spelt any ws (cs ++ c ∷ []) ≡ false → is_begun any ws (cs ++ c ∷ []) ≡ false → begins_in any ws (cs ++ c ∷ t) ≡ false
 stops any [] cs c t e f g = absurd (never (begins_in any [] cs) (begins-any any cs) e)
-stops any (w ∷ []) [] c t e f g = begins-more any w c [] t ∙ and_fails (nat_eq w (letter any c)) true (begins_in any [] t) (λ h. absurd cc) f
-stops any (w ∷ v ∷ ws) [] c t e f g = begins-more any w c (v ∷ ws) t ∙ and_fails (nat_eq w (letter any c)) true (begins_in any (v ∷ ws) t) (λ h. absurd cc) g
-stops any (w ∷ ws) (x ∷ cs) c t e f g = begins-more any w x ws (cs ++ c ∷ t) ∙ and_all_fail (nat_eq w (letter any x)) (begins_in any ws cs) (is_spelt any ws (cs ++ c ∷ [])) (is_begun any ws (cs ++ c ∷ [])) (begins_in any ws (cs ++ c ∷ t)) (stops any ws cs c t) (sym (begins-more any w x ws cs) ∙ e) f g
+stops any (w ∷ []) [] c t e f g = begins-more any w c [] t ∙ and_fails (nat_eq w (letter any c)) true
+    (begins_in any [] t) (λ h. absurd cc) f
+stops any (w ∷ v ∷ ws) [] c t e f g = begins-more any w c (v ∷ ws) t ∙ and_fails (nat_eq w (letter any c)) true
+    (begins_in any (v ∷ ws) t) (λ h. absurd cc) g
+stops any (w ∷ ws) (x ∷ cs) c t e f g = begins-more any w x ws (cs ++ c ∷ t)
+    ∙ and_all_fail (nat_eq w (letter any x)) (begins_in any ws cs) (is_spelt any ws (cs ++ c ∷ []))
+    (is_begun any ws (cs ++ c ∷ [])) (begins_in any ws (cs ++ c ∷ t)) (stops any ws cs c t) (sym (begins-more any w x ws cs) ∙ e) f g
 
 pub spelt-begins : (any : Bool) (ws cs t : List ℕ) → is_spelt any ws cs ≡ true → begins_in any ws (cs ++ t) ≡ true
 spelt-begins any [] [] t h = begins-any any t
@@ -217,27 +234,33 @@ word-first word.System = refl
 same-word : (v w : Word) → nat_eq (first v) (first w) ≡ true → v ≡ w
 same-word v w e = sym (word-first v) ∙ ap word_at (eqb-true (first v) (first w) e) ∙ word-first w
 
-apart-letters : (any any' : Bool) (a w x : ℕ) → to_ascii_lowercase a ≡ a → to_ascii_lowercase w ≡ w → nat_eq a w ≡ false → nat_eq a (letter any x) ≡ true → nat_eq w (letter any' x) ≡ false
+apart-letters : (any any' : Bool) (a w x : ℕ) → to_ascii_lowercase a ≡ a → to_ascii_lowercase w ≡ w
+    → nat_eq a w ≡ false → nat_eq a (letter any x) ≡ true → nat_eq w (letter any' x) ≡ false
 apart-letters true true a w x k l e h = grind (arith, nat_tests)
 apart-letters true false a w x k l e h = grind (arith, nat_tests)
 apart-letters false true a w x k l e h = grind (arith, nat_tests)
 apart-letters false false a w x k l e h = grind (arith, nat_tests)
 
-begun-apart : (any any' : Bool) (a w : ℕ) (vs ws cs : List ℕ) → to_ascii_lowercase a ≡ a → to_ascii_lowercase w ≡ w → nat_eq a w ≡ false → is_begun any (a ∷ vs) cs ≡ true → begins_in any' (w ∷ ws) cs ≡ false
+begun-apart : (any any' : Bool) (a w : ℕ) (vs ws cs : List ℕ) → to_ascii_lowercase a ≡ a → to_ascii_lowercase w ≡ w
+    → nat_eq a w ≡ false → is_begun any (a ∷ vs) cs ≡ true → begins_in any' (w ∷ ws) cs ≡ false
 begun-apart any any' a w vs ws [] k l e h = begins-nothing any' w ws
 begun-apart any any' a w vs ws (x ∷ cs) k l e h =
-    begins-more any' w x ws cs ∙ ap (λ b. b && begins_in any' ws cs) (apart-letters any any' a w x k l e (and_parts (nat_eq a (letter any x)) (is_begun any vs cs) h).0)
+    begins-more any' w x ws cs ∙ ap (λ b. b && begins_in any' ws cs)
+    (apart-letters any any' a w x k l e (and_parts (nat_eq a (letter any x)) (is_begun any vs cs) h).0)
 
-spelt-apart : (any any' : Bool) (a w : ℕ) (vs ws cs t : List ℕ) → to_ascii_lowercase a ≡ a → to_ascii_lowercase w ≡ w → nat_eq a w ≡ false → is_spelt any (a ∷ vs) cs ≡ true → begins_in any' (w ∷ ws) (cs ++ t) ≡ false
+spelt-apart : (any any' : Bool) (a w : ℕ) (vs ws cs t : List ℕ) → to_ascii_lowercase a ≡ a
+    → to_ascii_lowercase w ≡ w → nat_eq a w ≡ false → is_spelt any (a ∷ vs) cs ≡ true → begins_in any' (w ∷ ws) (cs ++ t) ≡ false
 spelt-apart any any' a w vs ws [] t k l e h = absurd cc
 spelt-apart any any' a w vs ws (x ∷ cs) t k l e h =
-    begins-more any' w x ws (cs ++ t) ∙ ap (λ b. b && begins_in any' ws (cs ++ t)) (apart-letters any any' a w x k l e (and_parts (nat_eq a (letter any x)) (is_spelt any vs cs) h).0)
+    begins-more any' w x ws (cs ++ t) ∙ ap (λ b. b && begins_in any' ws (cs ++ t))
+    (apart-letters any any' a w x k l e (and_parts (nat_eq a (letter any x)) (is_spelt any vs cs) h).0)
 
 open-by : (v w : Word) (cs : List ℕ) (same : Bool) → nat_eq (first v) (first w) ≡ same → may_become v cs ≡ true → begins_word w cs ≡ false
 open-by v w cs true e h = rw (← same-word v w e) (begun-open (is_any_case v) (spelling v) cs h)
 open-by v w cs false e h =
     let h' : is_begun (is_any_case v) (first v ∷ others v) cs ≡ true = rw (spelling-parts v) at h in
-    rw (spelling-parts w) (begun-apart (is_any_case v) (is_any_case w) (first v) (first w) (others v) (others w) cs (first-lowered v) (first-lowered w) e h')
+    rw (spelling-parts w) (begun-apart (is_any_case v) (is_any_case w) (first v) (first w) (others v) (others w) cs
+    (first-lowered v) (first-lowered w) e h')
 
 -- the beginning of a word begins with no word
 pub part-open : (cs : List ℕ) → IsPart cs → (w : Word) → begins_word w cs ≡ false
@@ -247,10 +270,12 @@ part-open cs part w = open-by part.word w cs (nat_eq (first part.word) (first w)
 pub word-apart : (v w : Word) (cs t : List ℕ) → nat_eq (first v) (first w) ≡ false → becomes v cs ≡ true → begins_word w (cs ++ t) ≡ false
 word-apart v w cs t e h =
     let h' : is_spelt (is_any_case v) (first v ∷ others v) cs ≡ true = rw (spelling-parts v) at h in
-    rw (spelling-parts w) (spelt-apart (is_any_case v) (is_any_case w) (first v) (first w) (others v) (others w) cs t (first-lowered v) (first-lowered w) e h')
+    rw (spelling-parts w) (spelt-apart (is_any_case v) (is_any_case w) (first v) (first w) (others v)
+    (others w) cs t (first-lowered v) (first-lowered w) e h')
 
 -- what does not go on with a word does not begin with it
-pub word-stops : (w : Word) (cs : List ℕ) (c : ℕ) (t : List ℕ) → IsPart cs → becomes w (cs ++ c ∷ []) ≡ false → may_become w (cs ++ c ∷ []) ≡ false → begins_word w (cs ++ c ∷ t) ≡ false
+pub word-stops : (w : Word) (cs : List ℕ) (c : ℕ) (t : List ℕ) → IsPart cs → becomes w (cs ++ c ∷ []) ≡ false
+    → may_become w (cs ++ c ∷ []) ≡ false → begins_word w (cs ++ c ∷ t) ≡ false
 word-stops w cs c t part e f = stops (is_any_case w) (spelling w) cs c t (part-open cs part w) e f
 
 -- THEIR CHARACTERS
@@ -311,19 +336,23 @@ plain-white c h = grind (arith, nat_tests)
 
 -- ITEMS
 
-bogus-step : (st : Stand) (front : List ℕ) (c : ℕ) (t : List ℕ) → nat_eq c 62 ≡ false → shown c ≡ c → bogus_comment_after st front (c ∷ t) ≡ longer (bogus_comment_after st (front ++ c ∷ []) t)
+bogus-step : (st : Stand) (front : List ℕ) (c : ℕ) (t : List ℕ) → nat_eq c 62 ≡ false → shown c ≡ c
+    → bogus_comment_after st front (c ∷ t) ≡ longer (bogus_comment_after st (front ++ c ∷ []) t)
 bogus-step st front c t e f = rw e (ap (λ x. longer (bogus_comment_after st (front ++ x ∷ []) t)) f)
 
 -- what was read of a word is the front of a bogus comment
-pub bogus-behind : (st : Stand) (front cs t : List ℕ) → list_all is_plain cs ≡ true → bogus_comment_after st front (cs ++ t) ≡ longer_by (length cs) (bogus_comment_after st (front ++ cs) t)
+pub bogus-behind : (st : Stand) (front cs t : List ℕ) → list_all is_plain cs ≡ true → bogus_comment_after st front
+    (cs ++ t) ≡ longer_by (length cs) (bogus_comment_after st (front ++ cs) t)
 bogus-behind st front [] t h = rw append-nil refl
 bogus-behind st front (c ∷ cs) t h =
     let p = and_parts (is_plain c) (list_all is_plain cs) h in
     bogus-step st front c (cs ++ t) (plain-mark c p.0) (plain-shown c p.0)
-    ∙ ap longer (bogus-behind st (front ++ c ∷ []) cs t p.1 ∙ ap (λ x. longer_by (length cs) (bogus_comment_after st x t)) (append_assoc front (c ∷ []) cs))
+    ∙ ap longer (bogus-behind st (front ++ c ∷ []) cs t p.1
+    ∙ ap (λ x. longer_by (length cs) (bogus_comment_after st x t)) (append_assoc front (c ∷ []) cs))
 
 -- and is dropped in a doctype
-pub junk-behind : (st : Stand) (d : Doctype) (cs t : List ℕ) → list_all is_plain cs ≡ true → junk_after st d (cs ++ t) ≡ longer_by (length cs) (junk_after st d t)
+pub junk-behind : (st : Stand) (d : Doctype) (cs t : List ℕ) → list_all is_plain cs ≡ true
+    → junk_after st d (cs ++ t) ≡ longer_by (length cs) (junk_after st d t)
 junk-behind st d [] t h = refl
 junk-behind st d (c ∷ cs) t h =
     let p = and_parts (is_plain c) (list_all is_plain cs) h in
@@ -348,5 +377,7 @@ front-part [] c part h = absurd cc
 front-part (x ∷ cs) c part h = begun-part x cs (part-plain (x ∷ cs) part)
 
 -- a text of one character more of those that were read
-pub text-more : (items text new : List ℕ) (k c : ℕ) → k < length items → c ≡ get_or items k c → text ≡ take k items → new ≡ text ++ c ∷ [] → new ≡ take (k + 1) items
-text-more items text new k c within is so_far pushed = pushed ∙ ap (λ t. t ++ c ∷ []) so_far ∙ ap (λ x. take k items ++ x ∷ []) is ∙ sym (take_more items k c within)
+pub text-more : (items text new : List ℕ) (k c : ℕ) → k < length items → c ≡ get_or items k c → text ≡ take k items
+    → new ≡ text ++ c ∷ [] → new ≡ take (k + 1) items
+text-more items text new k c within is so_far pushed = pushed ∙ ap (λ t. t ++ c ∷ []) so_far
+    ∙ ap (λ x. take k items ++ x ∷ []) is ∙ sym (take_more items k c within)

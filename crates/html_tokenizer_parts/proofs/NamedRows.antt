@@ -12,15 +12,21 @@ pub rest_of : (bytes : List ℕ) (n : ℕ) → take (length bytes - n) (drop n b
 rest_of bytes n = take_all (length bytes - n) (drop n bytes) (omega (arith, length-drop n bytes))
 
 -- what was asked of the name that was lent holds of the row's name
-pub is_no_text-row : (in_value follows : Bool) (lent name bytes cs : List ℕ) (n : ℕ) → lent ≡ name → bytes ≡ cs → n ≡ length name → false ≡ (in_value && is_text_before lent (take (length bytes - n) (drop n bytes)) follows) → (in_value && is_text_before name (drop (length name) cs) follows) ≡ false
+pub is_no_text-row : (in_value follows : Bool) (lent name bytes cs : List ℕ) (n : ℕ) → lent ≡ name → bytes ≡ cs
+    → n ≡ length name → false ≡ (in_value && is_text_before lent (take (length bytes - n) (drop n bytes)) follows)
+    → (in_value && is_text_before name (drop (length name) cs) follows) ≡ false
 is_no_text-row in_value follows lent name bytes cs n same_name same_text same_length kept =
     sym (rw (rest_of bytes n, same_name, same_text, same_length) at kept)
 
 -- what was asked of the name that was lent, where it stands before text
-pub is_text-row : (in_value follows : Bool) (lent name bytes cs : List ℕ) (n : ℕ) → lent ≡ name → bytes ≡ cs → n ≡ length name → true ≡ (in_value && is_text_before lent (take (length bytes - n) (drop n bytes)) follows) → (in_value && is_text_before name (drop (length name) cs) follows) ≡ true
+pub is_text-row : (in_value follows : Bool) (lent name bytes cs : List ℕ) (n : ℕ) → lent ≡ name → bytes ≡ cs
+    → n ≡ length name → true ≡ (in_value && is_text_before lent (take (length bytes - n) (drop n bytes)) follows)
+    → (in_value && is_text_before name (drop (length name) cs) follows) ≡ true
 is_text-row in_value follows lent name bytes cs n same_name same_text same_length asked =
     sym (rw (rest_of bytes n, same_name, same_text, same_length) at asked)
 
 -- a row that was found is no longer than the text
-pub row-within : (rows : List ReferenceRow) (text bytes : List ℕ) (row : ReferenceRow) (n : ℕ) → Some row ≡ longest rows text → n ≡ length row.name → bytes ≡ text → n ≤ length bytes
-row-within rows text bytes row n found size same = rw (size, same) (subst (λ o. Within (length text) o) (sym found) (longest-within rows text))
+pub row-within : (rows : List ReferenceRow) (text bytes : List ℕ) (row : ReferenceRow) (n : ℕ)
+    → Some row ≡ longest rows text → n ≡ length row.name → bytes ≡ text → n ≤ length bytes
+row-within rows text bytes row n found size same =
+    rw (size, same) (subst (λ o. Within (length text) o) (sym found) (longest-within rows text))

@@ -26,20 +26,25 @@ named-whole b row e = rw e refl
 past-name : (name cs : List ℕ) → name ≡ cs → drop (length name) cs ≡ []
 past-name name cs e = rw e (drop-length cs)
 
-whole-stands : (rows : List ReferenceRow) → IsCheckedTable rows → (h : ℕ) (hs : List ℕ) (row : ReferenceRow) (in_value : Bool) → longest rows (h ∷ hs) ≡ Some row → row.name ≡ h ∷ hs → is_front rows (h ∷ hs) ≡ true
+whole-stands : (rows : List ReferenceRow) → IsCheckedTable rows → (h : ℕ) (hs : List ℕ) (row : ReferenceRow)
+    (in_value : Bool) → longest rows (h ∷ hs) ≡ Some row → row.name ≡ h ∷ hs → is_front rows (h ∷ hs) ≡ true
     → decided in_value rows (h ∷ hs) false ≡ Some (record { chars = values row; len = length row.name })
 whole-stands rows checked h hs row in_value found named front =
-    rw (hash-unnamed h hs rows checked.names front, found) (named-whole _ row (none-behind in_value row.name (drop (length row.name) (h ∷ hs)) (past-name row.name (h ∷ hs) named)))
+    rw (hash-unnamed h hs rows checked.names front, found)
+    (named-whole _ row (none-behind in_value row.name (drop (length row.name) (h ∷ hs)) (past-name row.name (h ∷ hs) named)))
 
-whole-faultless : (rows : List ReferenceRow) → IsCheckedTable rows → (h : ℕ) (hs : List ℕ) (row : ReferenceRow) → longest rows (h ∷ hs) ≡ Some row → row.name ≡ h ∷ hs → is_front rows (h ∷ hs) ≡ true → ends_in_semicolon (h ∷ hs) ≡ true
+whole-faultless : (rows : List ReferenceRow) → IsCheckedTable rows → (h : ℕ) (hs : List ℕ) (row : ReferenceRow)
+    → longest rows (h ∷ hs) ≡ Some row → row.name ≡ h ∷ hs → is_front rows (h ∷ hs) ≡ true → ends_in_semicolon (h ∷ hs) ≡ true
     → is_faulty false rows (h ∷ hs) false ≡ false
 whole-faultless rows checked h hs row found named front ends =
     rw (hash-unnamed h hs rows checked.names front, found) (ap not (ap ends_in_semicolon named ∙ ends))
 
-pub whole-is : (rows : List ReferenceRow) → IsCheckedTable rows → (cs : List ℕ) (row : ReferenceRow) (found : Found) → longest rows cs ≡ Some row → row.name ≡ cs → is_front rows cs ≡ true → MatchesLongest rows cs (Some row)
+pub whole-is : (rows : List ReferenceRow) → IsCheckedTable rows → (cs : List ℕ) (row : ReferenceRow) (found : Found)
+    → longest rows cs ≡ Some row → row.name ≡ cs → is_front rows cs ≡ true → MatchesLongest rows cs (Some row)
     → reference_of found ≡ record { chars = values row; len = length row.name } → IsWhole rows cs found
 whole-is rows checked [] row found is named front fits same =
-    let good : is_reference_name row.name ≡ true = All-contains (λ r. IsTrue (is_reference_name r.name)) rows row checked.names fits.among in
+    let good : is_reference_name row.name ≡ true = All-contains (λ r. IsTrue (is_reference_name r.name)) rows
+    row checked.names fits.among in
     absurd (true≢false (sym (subst (λ name. is_reference_name name ≡ true) named good)))
 whole-is rows checked (h ∷ hs) row found is named front fits same = record {
   front = front;

@@ -39,7 +39,8 @@ cons_same a b x y e f = rw (e, f) refl
 cons_parts : (a b : ℕ) (x y : List ℕ) → (a ∷ x) ≡ (b ∷ y) → (a ≡ b) × (x ≡ y)
 cons_parts a b x y e = (cc, cc)
 
-same-bytes : (name w : List ℕ) → list_all is_ascii_alphabetic w ≡ true → same_any_case name w ≡ true → map to_ascii_lowercase (encodes name) ≡ map to_ascii_lowercase w
+same-bytes : (name w : List ℕ) → list_all is_ascii_alphabetic w ≡ true → same_any_case name w ≡ true
+    → map to_ascii_lowercase (encodes name) ≡ map to_ascii_lowercase w
 same-bytes [] [] h e = refl
 same-bytes [] (d ∷ w) h e = absurd cc
 same-bytes (c ∷ name) [] h e = absurd cc
@@ -54,7 +55,8 @@ lowered-small : (x d : ℕ) → is_ascii_alphabetic d ≡ true → to_ascii_lowe
 lowered-small x d h e = letter-ascii x (letter-of x d h e)
 
 -- bytes that begin with a letter in any case begin with that character
-first-char : (bs rest : List ℕ) (c d : ℕ) (w : List ℕ) → is_ascii_alphabetic d ≡ true → bs ≡ encode c ++ rest → map to_ascii_lowercase bs ≡ map to_ascii_lowercase (d ∷ w) → c < 128
+first-char : (bs rest : List ℕ) (c d : ℕ) (w : List ℕ) → is_ascii_alphabetic d ≡ true → bs ≡ encode c ++ rest
+    → map to_ascii_lowercase bs ≡ map to_ascii_lowercase (d ∷ w) → c < 128
 first-char [] rest c d w h e f = absurd cc
 first-char (x ∷ bs) rest c d w h e f =
     let small : x < 128 = lowered-small x d h (cons_parts _ _ _ _ f).0 in
@@ -73,7 +75,8 @@ some_byte c rest e =
 pub self-eq : (n : ℕ) → nat_eq n n ≡ true
 self-eq n = grind (arith, nat_tests)
 
-same-chars : (name w : List ℕ) → list_all is_ascii_alphabetic w ≡ true → map to_ascii_lowercase (encodes name) ≡ map to_ascii_lowercase w → same_any_case name w ≡ true
+same-chars : (name w : List ℕ) → list_all is_ascii_alphabetic w ≡ true → map to_ascii_lowercase (encodes name) ≡ map
+    to_ascii_lowercase w → same_any_case name w ≡ true
 same-chars [] [] h e = refl
 same-chars [] (d ∷ w) h e = absurd cc
 same-chars (c ∷ name) [] h e = absurd (some_byte c (encodes name) e)
@@ -85,7 +88,9 @@ same-chars (c ∷ name) (d ∷ w) h e =
     rw (q.0, same-chars name w p.1 q.1, self-eq (to_ascii_lowercase d)) refl
 
 -- what a test of bytes says of the letters
-pub letters-same : (result : Bool) (name bs w : List ℕ) → IsUtf8 name → IsUtf8 bs → chars bs ≡ w → list_all is_ascii_alphabetic w ≡ true → (IsTrue result ↔ (map to_ascii_lowercase name ≡ map to_ascii_lowercase bs)) → result ≡ same_any_case (chars name) w
+pub letters-same : (result : Bool) (name bs w : List ℕ) → IsUtf8 name → IsUtf8 bs → chars bs ≡ w
+    → list_all is_ascii_alphabetic w ≡ true
+    → (IsTrue result ↔ (map to_ascii_lowercase name ≡ map to_ascii_lowercase bs)) → result ≡ same_any_case (chars name) w
 letters-same result name bs w v u e h test =
     let own : bs ≡ w = letters-bytes bs u (ap (list_all is_ascii_alphabetic) e ∙ h) ∙ e in
     let spelt : encodes (chars name) ≡ name = encodes-chars name v in
@@ -110,7 +115,9 @@ next-none name word bytes c e l =
     let none : nat_lt (length word) (length name) ≡ false = grind (arith, nat_tests) in
     sym (ap (λ b. b && nat_eq (to_ascii_lowercase (slice_index name (length word))) (to_ascii_lowercase c)) none)
 
-pub next-some : (name word bytes : List ℕ) (c : ℕ) → bytes ≡ word → length bytes < length name → nat_eq (to_ascii_lowercase (slice_index name (length bytes))) (to_ascii_lowercase c) ≡ has_next name word c
+pub next-some : (name word bytes : List ℕ) (c : ℕ) → bytes ≡ word → length bytes < length name
+    → nat_eq (to_ascii_lowercase (slice_index name (length bytes))) (to_ascii_lowercase c) ≡ has_next name word c
 next-some name word bytes c e l =
     let some : nat_lt (length bytes) (length name) ≡ true = grind (arith, nat_tests) in
-    sym (ap (λ b. b && nat_eq (to_ascii_lowercase (slice_index name (length bytes))) (to_ascii_lowercase c)) some) ∙ ap (λ w. has_next name w c) e
+    sym (ap (λ b. b && nat_eq (to_ascii_lowercase (slice_index name (length bytes))) (to_ascii_lowercase c)) some)
+    ∙ ap (λ w. has_next name w c) e

@@ -1,5 +1,6 @@
 -- What a tokenizer holds of a character reference, and what it makes of it (HTML Standard, sections 13.2.5.72 to 13.2.5.80).
-use Rattle.std.specs.Prelude.{◌≡◌, ℕ, Bool, true, false, ◌&&◌, ◌||◌, not, nat_eq, is_none, List, [], ◌∷◌, ◌++◌, ◌≤◌, length, take, drop, Option, Some, None, if◌then◌else◌}
+use Rattle.std.specs.Prelude.{◌≡◌, ℕ, Bool, true, false, ◌&&◌, ◌||◌, not, nat_eq, is_none, List, [], ◌∷◌, ◌++◌, ◌≤◌, length}
+use Rattle.std.specs.Prelude.{take, drop, Option, Some, None, if◌then◌else◌}
 use Rattle.std.specs.Char.{is_ascii_alphanumeric, is_ascii_digit, is_ascii_hexdigit}
 use Rattle.std.specs.List.{ends_with, list_all}
 use Rattle.std.specs.Option.{is_some}
@@ -7,7 +8,8 @@ use Rattle.html_tokens.specs.declared.states.RawKind.TheVariants.{Rcdata}
 use Rattle.html_tokens.specs.declared.states.State.{State}
 use Rattle.html_tokens.specs.declared.states.State.TheVariants as state
 use Rattle.html_tokens.specs.Characters.{run}
-use Rattle.html_tokens.specs.Reference.{Reference, goes_on_at, is_no_character, named_by, number, numbered_reference, numeric, reference_at, semicolon}
+use Rattle.html_tokens.specs.Reference.{Reference, goes_on_at, is_no_character, named_by, number, numbered_reference, numeric}
+use Rattle.html_tokens.specs.Reference.{reference_at, semicolon}
 use Rattle.html_tokens.specs.Table.{Row, longest, values_of}
 use Rattle.html_references.specs.References.{IsCheckedTable, is_front}
 use Rattle.html_tokens.specs.Forbidden.{is_forbidden}
@@ -117,7 +119,8 @@ ends_in_semicolon cs = ends_with nat_eq cs (59 ∷ [])
 -- the same of a named one: a name without ";" that is no text
 abbrev pub is_faulty_named : Bool → Option Row → List ℕ → Bool → Bool
 is_faulty_named in_value None cs follows = false
-is_faulty_named in_value (Some row) cs follows = not (in_value && is_text_before row.name (drop (length row.name) cs) follows) && not (ends_in_semicolon row.name)
+is_faulty_named in_value (Some row) cs follows =
+    not (in_value && is_text_before row.name (drop (length row.name) cs) follows) && not (ends_in_semicolon row.name)
 
 abbrev pub is_faulty_by : Bool → Bool → List Row → ℕ → List ℕ → Bool → Bool
 is_faulty_by true in_value rows h hs follows = is_faulty_numeric hs

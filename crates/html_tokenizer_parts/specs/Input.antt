@@ -1,5 +1,6 @@
 -- The characters that come, of those of the input.
-use Rattle.std.specs.Prelude.{if◌then◌else◌, nat_eq, ◌≡◌, ◌<◌, ℕ, false, List, [], ◌∷◌, ◌++◌, length, All, Option, Some, None, IfSome, min, ◌+◌}
+use Rattle.std.specs.Prelude.{if◌then◌else◌, nat_eq, ◌≡◌, ◌<◌, ℕ, false, List, [], ◌∷◌, ◌++◌, length, All, Option, Some, None}
+use Rattle.std.specs.Prelude.{IfSome, min, ◌+◌}
 use Rattle.html_queue.specs.Queue.{Queue, Takes}
 use Rattle.html_queue.specs.Set.{has}
 use Rattle.html_tokens.specs.NormalText.{newlines_after, without_mark}

@@ -1,5 +1,6 @@
 -- Words of letters that may be the name of an end tag.
-use Rattle.std.specs.Prelude.{◌≡◌, ℕ, Bool, true, false, ◌&&◌, nat_eq, nat_lt, length, slice_index, List, [], ◌∷◌, ◌++◌, codes, Option, Some, None}
+use Rattle.std.specs.Prelude.{◌≡◌, ℕ, Bool, true, false, ◌&&◌, nat_eq, nat_lt, length, slice_index, List, [], ◌∷◌, ◌++◌, codes}
+use Rattle.std.specs.Prelude.{Option, Some, None}
 use Rattle.std.specs.Char.{to_ascii_lowercase, is_ascii_alphabetic}
 use Rattle.html_tokens.specs.declared.states.RawKind.{RawKind}
 use Rattle.html_tokens.specs.declared.states.RawKind.TheVariants.{Rcdata, Rawtext, ScriptData, ScriptDataEscaped}
@@ -16,7 +17,8 @@ same_any_case (c ∷ cs) (d ∷ ds) = nat_eq (to_ascii_lowercase c) (to_ascii_lo
 
 -- whether a name has this letter, in any case, after as many characters as a word has
 abbrev pub has_next : List ℕ → List ℕ → ℕ → Bool
-has_next name word c = nat_lt (length word) (length name) && nat_eq (to_ascii_lowercase (slice_index name (length word))) (to_ascii_lowercase c)
+has_next name word c = nat_lt (length word) (length name)
+    && nat_eq (to_ascii_lowercase (slice_index name (length word))) (to_ascii_lowercase c)
 
 -- whether a word is the last start tag's name, in any case
 abbrev pub is_fitting : Option (List ℕ) → List ℕ → Bool

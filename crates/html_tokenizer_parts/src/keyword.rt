@@ -3,7 +3,8 @@ ghost use Rattle.std.specs.Prelude.{◌≡◌, ◌∷◌, [], ◌++◌, ◌==◌
 ghost use Rattle.std.specs.List.{list_all};
 ghost use Rattle.markup.specs.declared.fault.ParseFault.TheVariants.{Memory};
 ghost use Rattle.html_tokens.specs.Characters.{ends_word};
-ghost use Rattle.html_tokenizer_parts.specs.Keywords.{spelling, is_any_case, letter, leads, becomes, may_become, may_declare, may_identify, front_of, IsPart};
+ghost use Rattle.html_tokenizer_parts.specs.Keywords.{spelling, is_any_case, letter, leads, becomes, may_become, may_declare};
+ghost use Rattle.html_tokenizer_parts.specs.Keywords.{may_identify, front_of, IsPart};
 
 use crate::characters::ends_word;
 use markup::{ParseFault, Text};

@@ -3,7 +3,8 @@ ghost use Rattle.std.specs.Prelude.{◌≡◌, ◌≤◌, ◌∷◌, [], ◌++�
 ghost use Rattle.std.specs.Option.{is_some, option_map, unwrap_or};
 ghost use Rattle.html_tokens.specs.Characters.{run};
 ghost use Rattle.html_tokens.specs.Reference;
-ghost use Rattle.html_tokenizer_parts.specs.CharRefs.{are_digits, base_of, has_fault, is_faulty_digits, is_faulty_number, is_faulty_numeric, is_number_front, reference_of, stops};
+ghost use Rattle.html_tokenizer_parts.specs.CharRefs.{are_digits, base_of, has_fault, is_faulty_digits, is_faulty_number};
+ghost use Rattle.html_tokenizer_parts.specs.CharRefs.{is_faulty_numeric, is_number_front, reference_of, stops};
 
 use crate::characters::is_forbidden;
 use crate::error_code::ErrorCode;
@@ -180,7 +181,8 @@ fn semicolon(text: &[u8]) -> usize
 /// Digits after a prefix.
 fn digits_at(hex: bool, prefix: usize, text: &[u8]) -> Option<Found>
     requires { prefix ≤ 2 }
-    ensures { option_map reference_of result ≡ Reference.numbered_reference (Reference.digits_at prefix (base_of hex) (run (stops hex) text.now) text.now) }
+    ensures { option_map reference_of result ≡ Reference.numbered_reference
+        (Reference.digits_at prefix (base_of hex) (run (stops hex) text.now) text.now) }
 {
     let count = digit_run(hex, text);
     if count == 0 {

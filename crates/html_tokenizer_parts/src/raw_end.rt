@@ -61,8 +61,10 @@ impl RawEnd {
     /// Whether the name goes on by this character, in any case, after such letters.
     fn has_next(&self, letters: &Letters, c: char) -> bool
         ensures letter { result ≡ true → is_ascii_alphabetic c ≡ true }
-        ensures front { result ≡ true → begins_end self.now.name letters.now ≡ true → begins_end self.now.name (letters.now ++ c ∷ []) ≡ true }
-        ensures apart { result ≡ false → ends_raw_text self.now.name letters.now c ≡ false → (t : List ℕ) → is_fitting_end self.now.name (47 ∷ (letters.now ++ c ∷ t)) ≡ false }
+        ensures front { result ≡ true → begins_end self.now.name letters.now ≡ true → begins_end self.now.name
+            (letters.now ++ c ∷ []) ≡ true }
+        ensures apart { result ≡ false → ends_raw_text self.now.name letters.now c ≡ false → (t : List ℕ)
+            → is_fitting_end self.now.name (47 ∷ (letters.now ++ c ∷ t)) ≡ false }
     {
         let _letters = letters.as_str();
         if !c.is_ascii_alphabetic() {
@@ -87,7 +89,8 @@ impl RawEnd {
     pub fn goes_on_by(&self, c: char) -> bool
         ensures letter { result ≡ true → is_ascii_alphabetic c ≡ true }
         ensures front { result ≡ true → begins_end self.now.name (self.now.letters ++ c ∷ []) ≡ true }
-        ensures apart { result ≡ false → ends_raw_text self.now.name self.now.letters c ≡ false → (t : List ℕ) → is_fitting_end self.now.name (47 ∷ (self.now.letters ++ c ∷ t)) ≡ false }
+        ensures apart { result ≡ false → ends_raw_text self.now.name self.now.letters c ≡ false → (t : List ℕ)
+            → is_fitting_end self.now.name (47 ∷ (self.now.letters ++ c ∷ t)) ≡ false }
     {
         self.has_next(&self.letters, c)
     }

@@ -162,7 +162,8 @@ fn name_faults(name: &str) -> ReferenceFaults
 /// A named reference, by what was held and whether `=`, a letter or a digit follows.
 fn named(table: &References, in_value: bool, text: &str, follows: bool) -> Decision
     requires { chars text.now ≡ text.now }
-    ensures found { option_map CharRefs.reference_of result.found ≡ CharRefs.named_before in_value (longest table.now text.now) text.now follows }
+    ensures found { option_map CharRefs.reference_of result.found ≡ CharRefs.named_before in_value
+        (longest table.now text.now) text.now follows }
     ensures fault { CharRefs.has_fault result.faults ≡ CharRefs.is_faulty_named in_value (longest table.now text.now) text.now follows }
 {
     let _rows = table.rows();

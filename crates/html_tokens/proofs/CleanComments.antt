@@ -42,11 +42,13 @@ filled : (mark dash : Bool) (st : Stand) (t : List ℕ) → mark ≡ false → d
 filled mark dash st t e f = rw (e, f) refl
 
 -- it begins with the character that comes
-pub begun-by : (st : Stand) (c : ℕ) (t : List ℕ) → nat_eq 62 c ≡ false → nat_eq 45 c ≡ false → comment_at st (c ∷ t) ≡ comment_after st [] (c ∷ t)
+pub begun-by : (st : Stand) (c : ℕ) (t : List ℕ) → nat_eq 62 c ≡ false → nat_eq 45 c ≡ false
+    → comment_at st (c ∷ t) ≡ comment_after st [] (c ∷ t)
 begun-by st c t e f = filled _ _ st (c ∷ t) (rw e refl) (rw f refl)
 
 -- a clean character is of the comment
-pub goes-on : (st : Stand) (front : List ℕ) (c : ℕ) (t : List ℕ) → is_clean_in_comment c ≡ true → comment_after st front (c ∷ t) ≡ longer (comment_after st (front ++ c ∷ []) t)
+pub goes-on : (st : Stand) (front : List ℕ) (c : ℕ) (t : List ℕ) → is_clean_in_comment c ≡ true
+    → comment_after st front (c ∷ t) ≡ longer (comment_after st (front ++ c ∷ []) t)
 goes-on st front c t h = rw (end-none c t (no-dash c h), not-odd c h, shown-same c h) refl
 
 -- a clean character begins it
@@ -61,17 +63,22 @@ closed st front t = rw (end-mark t) refl
 abbrev IsCleanBy : Bool → ℕ → List ℕ → Type 0
 IsCleanBy clean c t = begins (codes "-->") (drop (run_by (not clean) (λ _. clean_comment t)) (c ∷ t)) ≡ true
 
-rest-by : (clean : Bool) (st : Stand) (front : List ℕ) (c : ℕ) (t : List ℕ) → is_clean_in_comment c ≡ clean → IsCleanBy clean c t → (is_clean_comment t ≡ true → IsFaultless (comment_after st (front ++ c ∷ []) t)) → IsFaultless (comment_after st front (c ∷ t))
+rest-by : (clean : Bool) (st : Stand) (front : List ℕ) (c : ℕ) (t : List ℕ) → is_clean_in_comment c ≡ clean
+    → IsCleanBy clean c t → (is_clean_comment t ≡ true → IsFaultless (comment_after st (front ++ c ∷ []) t))
+    → IsFaultless (comment_after st front (c ∷ t))
 rest-by true st front c t e h go = ap (λ i. i.fault) (goes-on st front c t e) ∙ go h
-rest-by false st front c t e h go = subst (λ u. IsFaultless (comment_after st front u)) (sym (begins-front (codes "-->") (c ∷ t) h)) (closed st front (drop 3 (c ∷ t)))
+rest-by false st front c t e h go = subst (λ u. IsFaultless (comment_after st front u))
+    (sym (begins-front (codes "-->") (c ∷ t) h)) (closed st front (drop 3 (c ∷ t)))
 
 rest : (st : Stand) (front t : List ℕ) → is_clean_comment t ≡ true → IsFaultless (comment_after st front t)
 rest st front [] h = absurd cc
 rest st front (c ∷ t) h = rest-by (is_clean_in_comment c) st front c t refl h (rest st (front ++ c ∷ []) t)
 
-at-by : (clean : Bool) (st : Stand) (c : ℕ) (t : List ℕ) → is_clean_in_comment c ≡ clean → IsCleanBy clean c t → IsFaultless (comment_after st [] (c ∷ t)) → IsFaultless (comment_at st (c ∷ t))
+at-by : (clean : Bool) (st : Stand) (c : ℕ) (t : List ℕ) → is_clean_in_comment c ≡ clean → IsCleanBy clean c t
+    → IsFaultless (comment_after st [] (c ∷ t)) → IsFaultless (comment_at st (c ∷ t))
 at-by true st c t e h k = ap (λ i. i.fault) (begun st c t e) ∙ k
-at-by false st c t e h k = subst (λ u. IsFaultless (comment_at st u)) (sym (begins-front (codes "-->") (c ∷ t) h)) (closed st [] (drop 3 (c ∷ t)))
+at-by false st c t e h k = subst (λ u. IsFaultless (comment_at st u)) (sym (begins-front (codes "-->") (c ∷ t) h))
+    (closed st [] (drop 3 (c ∷ t)))
 
 -- after "<!--" a clean comment has no fault
 pub comment : (st : Stand) (t : List ℕ) → is_clean_comment t ≡ true → IsFaultless (comment_at st t)

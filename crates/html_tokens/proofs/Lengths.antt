@@ -1,5 +1,6 @@
 -- An item takes a character at least, and no more than the text has.
-use Rattle.std.proofs.Common.{◌≡◌, ℕ, zero, suc, ◌+◌, ◌≤◌, Bool, true, false, nat_eq, List, [], ◌∷◌, ◌++◌, length, drop, Option, Some, None, refl, sym, subst, arith, length-drop, true≢false}
+use Rattle.std.proofs.Common.{◌≡◌, ℕ, zero, suc, ◌+◌, ◌≤◌, Bool, true, false, nat_eq, List, [], ◌∷◌, ◌++◌, length, drop, Option}
+use Rattle.std.proofs.Common.{Some, None, refl, sym, subst, arith, length-drop, true≢false}
 use Rattle.std.specs.Prelude.{◌&&◌, not, if◌then◌else◌, codes}
 use Rattle.std.specs.Char.{is_ascii_digit, is_ascii_hexdigit}
 use Rattle.std.proofs.lemmas.Bool.{and_parts}
@@ -10,7 +11,8 @@ use Rattle.html_tokens.specs.declared.token.Doctype.{Doctype}
 use Rattle.html_tokens.specs.Characters
 use Rattle.html_tokens.specs.Comments
 use Rattle.html_tokens.specs.Doctypes
-use Rattle.html_tokens.specs.Item.{TextPlace, InData, InRaw, InPlaintext, InCdata, InTag, Stand, moved, Item, Fault, longer_by, reference_item, null_by}
+use Rattle.html_tokens.specs.Item.{TextPlace, InData, InRaw, InPlaintext, InCdata, InTag, Stand, moved, Item, Fault, longer_by}
+use Rattle.html_tokens.specs.Item.{reference_item, null_by}
 use Rattle.html_tokens.specs.Items
 use Rattle.html_tokens.specs.RawText
 use Rattle.html_tokens.specs.Reference
@@ -70,22 +72,27 @@ comment_end-≤ [] = omega arith
 comment_end-≤ (a ∷ []) = if-AtMost (nat_eq a 45) (Some 1) None 1 (omega arith) tt
 comment_end-≤ (a ∷ b ∷ []) = if-AtMost (nat_eq a 45 && nat_eq b 45) (Some 2) None 2 (omega arith) tt
 comment_end-≤ (a ∷ b ∷ c ∷ []) =
-    if-AtMost (nat_eq a 45 && nat_eq b 45 && nat_eq c 62) (Some 3) (if nat_eq a 45 && nat_eq b 45 && nat_eq c 33 then Some 3 else None) 3 (omega arith)
+    if-AtMost (nat_eq a 45 && nat_eq b 45 && nat_eq c 62) (Some 3)
+    (if nat_eq a 45 && nat_eq b 45 && nat_eq c 33 then Some 3 else None) 3 (omega arith)
     (if-AtMost (nat_eq a 45 && nat_eq b 45 && nat_eq c 33) (Some 3) None 3 (omega arith) tt)
 comment_end-≤ (a ∷ b ∷ c ∷ d ∷ t) =
     let m = length (a ∷ b ∷ c ∷ d ∷ t) in
-    if-AtMost (nat_eq a 45 && nat_eq b 45 && nat_eq c 62) (Some 3) (if nat_eq a 45 && nat_eq b 45 && nat_eq c 33 && nat_eq d 62 then Some 4 else None) m (omega arith)
+    if-AtMost (nat_eq a 45 && nat_eq b 45 && nat_eq c 62) (Some 3) (if nat_eq a 45 && nat_eq b 45 && nat_eq c 33
+    && nat_eq d 62 then Some 4 else None) m (omega arith)
     (if-AtMost (nat_eq a 45 && nat_eq b 45 && nat_eq c 33 && nat_eq d 62) (Some 4) None m (omega arith) tt)
 
-comment_by-≤ : (o : Option ℕ) (faulty odd : Bool) (st : Stand) (front : List ℕ) (go : Unit {0} → Item) (m : ℕ) → AtMost o (suc m) → (go tt).len ≤ m → (Comments.comment_by o faulty odd st front go).len ≤ suc m
+comment_by-≤ : (o : Option ℕ) (faulty odd : Bool) (st : Stand) (front : List ℕ) (go : Unit {0} → Item) (m : ℕ)
+    → AtMost o (suc m) → (go tt).len ≤ m → (Comments.comment_by o faulty odd st front go).len ≤ suc m
 comment_by-≤ (Some n) faulty odd st front go m h k = h
 comment_by-≤ None faulty odd st front go m h k = omega arith
 
 comment_after-≤ : (st : Stand) (front t : List ℕ) → Within (Comments.comment_after st front t) t
 comment_after-≤ st front [] = omega arith
-comment_after-≤ st front (c ∷ t) = comment_by-≤ (Comments.comment_end (c ∷ t)) _ _ st front _ (length t) (comment_end-≤ (c ∷ t)) (comment_after-≤ st (front ++ Characters.shown c ∷ []) t)
+comment_after-≤ st front (c ∷ t) = comment_by-≤ (Comments.comment_end (c ∷ t)) _ _ st front _ (length t)
+    (comment_end-≤ (c ∷ t)) (comment_after-≤ st (front ++ Characters.shown c ∷ []) t)
 
-empty_by-≤ : (a b : Bool) (st : Stand) (t : List ℕ) → (a ≡ true → 1 ≤ length t) → (b ≡ true → 2 ≤ length t) → Within (Comments.empty_by a b st t) t
+empty_by-≤ : (a b : Bool) (st : Stand) (t : List ℕ) → (a ≡ true → 1 ≤ length t) → (b ≡ true → 2 ≤ length t)
+    → Within (Comments.empty_by a b st t) t
 empty_by-≤ true b st t h k = h refl
 empty_by-≤ false true st t h k = k refl
 empty_by-≤ false false st t h k = comment_after-≤ st [] t
@@ -93,7 +100,8 @@ empty_by-≤ false false st t h k = comment_after-≤ st [] t
 comment_at-≤ : (st : Stand) (t : List ℕ) → Within (Comments.comment_at st t) t
 comment_at-≤ st t = empty_by-≤ _ _ st t (begins-≤ (codes ">") t) (begins-≤ (codes "->") t)
 
-bogus_by-≤ : (b : Bool) (st : Stand) (front : List ℕ) (go : Unit {0} → Item) (m : ℕ) → (go tt).len ≤ m → (Comments.bogus_by b st front go).len ≤ suc m
+bogus_by-≤ : (b : Bool) (st : Stand) (front : List ℕ) (go : Unit {0} → Item) (m : ℕ) → (go tt).len ≤ m
+    → (Comments.bogus_by b st front go).len ≤ suc m
 bogus_by-≤ true st front go m h = omega arith
 bogus_by-≤ false st front go m h = omega arith
 
@@ -103,7 +111,8 @@ bogus-≤ st front (c ∷ t) = bogus_by-≤ (nat_eq c 62) st front _ (length t) 
 
 -- DOCTYPES
 
-junk_by-≤ : (b : Bool) (st : Stand) (d : Doctype) (go : Unit {0} → Item) (m : ℕ) → (go tt).len ≤ m → (Doctypes.junk_by b st d go).len ≤ suc m
+junk_by-≤ : (b : Bool) (st : Stand) (d : Doctype) (go : Unit {0} → Item) (m : ℕ) → (go tt).len ≤ m
+    → (Doctypes.junk_by b st d go).len ≤ suc m
 junk_by-≤ true st d go m h = omega arith
 junk_by-≤ false st d go m h = omega arith
 
@@ -118,11 +127,13 @@ doctype_end_at-≤ st d (c ∷ t) = junk-≤ st d (c ∷ t)
 after_system-≤ : (st : Stand) (d : Doctype) (t : List ℕ) → Within (Doctypes.after_system st d t) t
 after_system-≤ st d t = within-all _ _ t (white-≤ t) (doctype_end_at-≤ st d _)
 
-closed_by-≤ : (b : Bool) (st : Stand) (d : Doctype) (t : List ℕ) (go : Doctype → List ℕ → Item) → Within (go d t) t → (Doctypes.closed_by b st d t go).len ≤ suc (length t)
+closed_by-≤ : (b : Bool) (st : Stand) (d : Doctype) (t : List ℕ) (go : Doctype → List ℕ → Item) → Within (go d t) t
+    → (Doctypes.closed_by b st d t go).len ≤ suc (length t)
 closed_by-≤ true st d t go h = omega arith
 closed_by-≤ false st d t go h = omega arith
 
-identifier_end-≤ : (q : ℕ) (st : Stand) (d : Doctype) (t : List ℕ) (go : Doctype → List ℕ → Item) → ((t : List ℕ) → Within (go d t) t) → Within (Doctypes.identifier_end q st d t go) t
+identifier_end-≤ : (q : ℕ) (st : Stand) (d : Doctype) (t : List ℕ) (go : Doctype → List ℕ → Item)
+    → ((t : List ℕ) → Within (go d t) t) → Within (Doctypes.identifier_end q st d t go) t
 identifier_end-≤ q st d [] go h = omega arith
 identifier_end-≤ q st d (c ∷ t) go h = closed_by-≤ (nat_eq c q) st d t go (h t)
 
@@ -168,15 +179,19 @@ after_public_keyword-≤ st d t = within-all _ _ t (white-≤ t) (public_at-≤ 
 after_system_keyword-≤ : (st : Stand) (d : Doctype) (t : List ℕ) → Within (Doctypes.after_system_keyword st d t) t
 after_system_keyword-≤ st d t = within-all _ _ t (white-≤ t) (system_at-≤ st d _)
 
-keyword_by-≤ : (a b e : Bool) (st : Stand) (d : Doctype) (t : List ℕ) → 1 ≤ length t → (b ≡ true → 6 ≤ length t) → (e ≡ true → 6 ≤ length t) → Within (Doctypes.keyword_by a b e st d t) t
+keyword_by-≤ : (a b e : Bool) (st : Stand) (d : Doctype) (t : List ℕ) → 1 ≤ length t → (b ≡ true → 6 ≤ length t)
+    → (e ≡ true → 6 ≤ length t) → Within (Doctypes.keyword_by a b e st d t) t
 keyword_by-≤ true b e st d t h k l = h
-keyword_by-≤ false true e st d t h k l = within-all 6 (Doctypes.after_public_keyword st d (drop 6 t)) t (k refl) (after_public_keyword-≤ st d (drop 6 t))
-keyword_by-≤ false false true st d t h k l = within-all 6 (Doctypes.after_system_keyword st d (drop 6 t)) t (l refl) (after_system_keyword-≤ st d (drop 6 t))
+keyword_by-≤ false true e st d t h k l = within-all 6 (Doctypes.after_public_keyword st d (drop 6 t)) t (k refl)
+    (after_public_keyword-≤ st d (drop 6 t))
+keyword_by-≤ false false true st d t h k l = within-all 6 (Doctypes.after_system_keyword st d (drop 6 t)) t (l refl)
+    (after_system_keyword-≤ st d (drop 6 t))
 keyword_by-≤ false false false st d t h k l = junk-≤ st _ t
 
 keyword_at-≤ : (st : Stand) (d : Doctype) (t : List ℕ) → Within (Doctypes.keyword_at st d t) t
 keyword_at-≤ st d [] = omega arith
-keyword_at-≤ st d (c ∷ t) = keyword_by-≤ _ _ _ st d (c ∷ t) (omega arith) (begins_any_case-≤ (codes "public") (c ∷ t)) (begins_any_case-≤ (codes "system") (c ∷ t))
+keyword_at-≤ st d (c ∷ t) = keyword_by-≤ _ _ _ st d (c ∷ t) (omega arith)
+    (begins_any_case-≤ (codes "public") (c ∷ t)) (begins_any_case-≤ (codes "system") (c ∷ t))
 
 after_name-≤ : (st : Stand) (d : Doctype) (t : List ℕ) → Within (Doctypes.after_name st d t) t
 after_name-≤ st d t = within-all _ _ t (white-≤ t) (keyword_at-≤ st d _)
@@ -241,7 +256,8 @@ digits-≤ k base (suc n) t h = omega (arith, semicolon-≤ (drop (suc n) t), le
 numeric_by-≤ : (b : Bool) (c : ℕ) (t : List ℕ) → NumberFits (Reference.numeric_by b c t) (2 + length t)
 numeric_by-≤ true c t = digits-≤ 2 16 _ t (run-≤ (λ d. not (is_ascii_hexdigit d)) t)
 numeric_by-≤ false c t =
-    subst (NumberFits (Reference.numeric_by false c t)) (omega arith) (digits-≤ 1 10 (Characters.run (λ d. not (is_ascii_digit d)) (c ∷ t)) (c ∷ t) (run-≤ (λ d. not (is_ascii_digit d)) (c ∷ t)))
+    subst (NumberFits (Reference.numeric_by false c t)) (omega arith)
+    (digits-≤ 1 10 (Characters.run (λ d. not (is_ascii_digit d)) (c ∷ t)) (c ∷ t) (run-≤ (λ d. not (is_ascii_digit d)) (c ∷ t)))
 
 numeric-≤ : (t : List ℕ) → NumberFits (Reference.numeric t) (1 + length t)
 numeric-≤ [] = tt
@@ -267,7 +283,8 @@ reference-≤ : (v : Bool) (rows : List Row) (t : List ℕ) → ReferenceFits (R
 reference-≤ v rows [] = tt
 reference-≤ v rows (c ∷ t) = reference_by-≤ (nat_eq c 35) v rows c t
 
-reference_item-≤ : (fault : Option Fault) (o : Option Reference.Reference) (st : Stand) (m : ℕ) → ReferenceFits o m → (reference_item fault o st).len ≤ suc m
+reference_item-≤ : (fault : Option Fault) (o : Option Reference.Reference) (st : Stand) (m : ℕ) → ReferenceFits o m
+    → (reference_item fault o st).len ≤ suc m
 reference_item-≤ fault None st m h = omega arith
 reference_item-≤ fault (Some r) st m h = omega arith
 
@@ -276,7 +293,8 @@ reference_item-≤ fault (Some r) st m h = omega arith
 name_after-≤ : (st : Stand) (tag : Tag) (t : List ℕ) → Within (Tags.name_after st tag t) t
 name_after-≤ st tag t = run-≤ _ t
 
-value_by-≤ : (rows : List Row) (odd a b : Bool) (c : ℕ) (t : List ℕ) (go : ℕ → Tags.Value) (m : ℕ) → ((n : ℕ) → (go n).len ≤ m) → (Tags.value_by rows odd a b c t go).len ≤ suc m
+value_by-≤ : (rows : List Row) (odd a b : Bool) (c : ℕ) (t : List ℕ) (go : ℕ → Tags.Value) (m : ℕ)
+    → ((n : ℕ) → (go n).len ≤ m) → (Tags.value_by rows odd a b c t go).len ≤ suc m
 value_by-≤ rows odd true b c t go m h = omega arith
 value_by-≤ rows odd false true c t go m h = let k = h (Tags.reference_len (Reference.reference_at true rows t)) in omega arith
 value_by-≤ rows odd false false c t go m h = let k = h 0 in omega arith
@@ -291,13 +309,15 @@ quote_at-≤ : (n : ℕ) (st : Stand) (u : List ℕ) → (Tags.quote_at n st u).
 quote_at-≤ n st [] = omega arith
 quote_at-≤ n st (c ∷ u) = omega arith
 
-quoted-≤ : (rows : List Row) (q : ℕ) (st : Stand) (tag : Tag) (name front t : List ℕ) → Within (Tags.quoted_after rows q st tag name front t) t
+quoted-≤ : (rows : List Row) (q : ℕ) (st : Stand) (tag : Tag) (name front t : List ℕ)
+    → Within (Tags.quoted_after rows q st tag name front t) t
 quoted-≤ rows q st tag name front t =
     let v = Tags.value_from rows Characters.is_null (nat_eq q) 0 t in
     let k = value-≤ rows Characters.is_null (nat_eq q) 0 t in
     omega (arith, quote_at-≤ v.len (moved st (InTag (Tags.with_attribute tag name (front ++ v.chars)))) (drop v.len t), length-drop v.len t)
 
-opened_by-≤ : (o : Tags.Opening) (rows : List Row) (st : Stand) (tag : Tag) (name : List ℕ) (c : ℕ) (t : List ℕ) → Within (Tags.opened_by o rows st tag name c t) (c ∷ t)
+opened_by-≤ : (o : Tags.Opening) (rows : List Row) (st : Stand) (tag : Tag) (name : List ℕ) (c : ℕ) (t : List ℕ)
+    → Within (Tags.opened_by o rows st tag name c t) (c ∷ t)
 opened_by-≤ Tags.Quote rows st tag name c t = let k = quoted-≤ rows c st tag name [] t in omega arith
 opened_by-≤ Tags.Close rows st tag name c t = omega arith
 opened_by-≤ Tags.Other rows st tag name c t = value-≤ rows _ _ 0 (c ∷ t)
@@ -309,13 +329,15 @@ opened_at-≤ rows st tag name (c ∷ t) = opened_by-≤ (Tags.opening c) rows s
 value_at-≤ : (rows : List Row) (st : Stand) (tag : Tag) (name t : List ℕ) → Within (Tags.value_at rows st tag name t) t
 value_at-≤ rows st tag name t = within-all _ _ t (white-≤ t) (opened_at-≤ rows st tag name _)
 
-equals_by-≤ : (b : Bool) (rows : List Row) (st : Stand) (tag : Tag) (name t : List ℕ) → (b ≡ true → suc (Characters.white t) ≤ length t) → Within (Tags.equals_by b rows st tag name t) t
+equals_by-≤ : (b : Bool) (rows : List Row) (st : Stand) (tag : Tag) (name t : List ℕ)
+    → (b ≡ true → suc (Characters.white t) ≤ length t) → Within (Tags.equals_by b rows st tag name t) t
 equals_by-≤ true rows st tag name t h = within-all (suc (Characters.white t)) _ t (h refl) (value_at-≤ rows st tag name _)
 equals_by-≤ false rows st tag name t h = omega arith
 
 equals_at-≤ : (rows : List Row) (st : Stand) (tag : Tag) (name t : List ℕ) → Within (Tags.equals_at rows st tag name t) t
 equals_at-≤ rows st tag name t =
-    equals_by-≤ _ rows st tag name t (λ e. let k = begins-≤ (codes "=") (drop (Characters.white t) t) e in omega (arith, length-drop (Characters.white t) t))
+    equals_by-≤ _ rows st tag name t (λ e. let k = begins-≤ (codes "=") (drop (Characters.white t) t) e in omega
+    (arith, length-drop (Characters.white t) t))
 
 attribute-≤ : (rows : List Row) (st : Stand) (tag : Tag) (front t : List ℕ) → Within (Tags.attribute_after rows st tag front t) t
 attribute-≤ rows st tag front t = within-all _ _ t (run-≤ _ t) (equals_at-≤ rows st tag _ _)
@@ -352,15 +374,22 @@ some_reference : (fault : Option Fault) (o : Option Reference.Reference) (st : S
 some_reference fault None st = omega arith
 some_reference fault (Some r) st = omega arith
 
-reference-takes : (rows : List Row) (st : Stand) (c : ℕ) (t : List ℕ) → Takes (reference_item (Reference.fault_of_reference rows t) (Reference.reference_at false rows t) st) (c ∷ t)
-reference-takes rows st c t = record { some = some_reference (Reference.fault_of_reference rows t) (Reference.reference_at false rows t) st; within = reference_item-≤ _ _ st _ (reference-≤ false rows t) }
+reference-takes : (rows : List Row) (st : Stand) (c : ℕ) (t : List ℕ)
+    → Takes (reference_item (Reference.fault_of_reference rows t) (Reference.reference_at false rows t) st) (c ∷ t)
+reference-takes rows st c t =
+    record {
+      some = some_reference (Reference.fault_of_reference rows t) (Reference.reference_at false rows t) st;
+      within = reference_item-≤ _ _ st _ (reference-≤ false rows t);
+    }
 
-raw_by-≤ : (a b : Bool) (rows : List Row) (st : Stand) (kind : RawKind) (c : ℕ) (t : List ℕ) → (a ≡ true → 1 ≤ length t) → Takes (RawText.raw_by a b rows st kind c t) (c ∷ t)
+raw_by-≤ : (a b : Bool) (rows : List Row) (st : Stand) (kind : RawKind) (c : ℕ) (t : List ℕ)
+    → (a ≡ true → 1 ≤ length t) → Takes (RawText.raw_by a b rows st kind c t) (c ∷ t)
 raw_by-≤ true b rows st kind c t h = more 1 _ (c ∷ t) (let k = h refl in omega arith) (name_after-≤ st (Tags.named EndTag []) (drop 1 t))
 raw_by-≤ false true rows st kind c t h = reference-takes rows st c t
 raw_by-≤ false false rows st kind c t h = one _ c t refl
 
-declaration_by-≤ : (a b e : Bool) (st : Stand) (c : ℕ) (t : List ℕ) → (a ≡ true → 2 ≤ length t) → (b ≡ true → 7 ≤ length t) → (e ≡ true → 7 ≤ length t) → Takes (Items.declaration_by a b e st t) (60 ∷ c ∷ t)
+declaration_by-≤ : (a b e : Bool) (st : Stand) (c : ℕ) (t : List ℕ) → (a ≡ true → 2 ≤ length t)
+    → (b ≡ true → 7 ≤ length t) → (e ≡ true → 7 ≤ length t) → Takes (Items.declaration_by a b e st t) (60 ∷ c ∷ t)
 declaration_by-≤ true b e st c t h k l = more 3 _ (60 ∷ c ∷ t) (let m = h refl in omega arith) (comment_at-≤ st _)
 declaration_by-≤ false true e st c t h k l = more 8 _ (60 ∷ c ∷ t) (let m = k refl in omega arith) (doctype_at-≤ st _)
 declaration_by-≤ false false true st c t h k l = let m = l refl in record { some = omega arith; within = omega arith }
@@ -368,7 +397,8 @@ declaration_by-≤ false false false st c t h k l = more 1 _ (60 ∷ c ∷ t) (o
 
 declaration-≤ : (cdata : Bool) (st : Stand) (c : ℕ) (t : List ℕ) → Takes (Items.declaration_at cdata st t) (60 ∷ c ∷ t)
 declaration-≤ cdata st c t =
-    declaration_by-≤ _ _ _ st c t (begins-≤ (codes "--") t) (begins_any_case-≤ (codes "doctype") t) (λ e. begins-≤ (codes "[CDATA[") t (and_parts _ _ e).1)
+    declaration_by-≤ _ _ _ st c t (begins-≤ (codes "--") t) (begins_any_case-≤ (codes "doctype") t)
+    (λ e. begins-≤ (codes "[CDATA[") t (and_parts _ _ e).1)
 
 end_by-≤ : (o : Items.Opening) (st : Stand) (c b : ℕ) (t : List ℕ) → Takes (Items.end_by o st c t) (60 ∷ b ∷ c ∷ t)
 end_by-≤ Items.Letter st c b t = more 1 _ (60 ∷ b ∷ c ∷ t) (omega arith) (name_after-≤ st (Tags.named EndTag []) (c ∷ t))
@@ -402,7 +432,8 @@ null_by-≤ : (b : Bool) (d : ℕ) (st : Stand) (c : ℕ) (t : List ℕ) → Tak
 null_by-≤ true d st c t = one _ c t refl
 null_by-≤ false d st c t = one _ c t refl
 
-data_by-≤ : (a b : Bool) (rows : List Row) (cdata : Bool) (st : Stand) (c : ℕ) (t : List ℕ) → Takes (Items.data_by a b rows cdata st c t) (c ∷ t)
+data_by-≤ : (a b : Bool) (rows : List Row) (cdata : Bool) (st : Stand) (c : ℕ) (t : List ℕ)
+    → Takes (Items.data_by a b rows cdata st c t) (c ∷ t)
 data_by-≤ true b rows cdata st c t = other _ 60 c t (open-≤ cdata st t)
 data_by-≤ false true rows cdata st c t = reference-takes rows st c t
 data_by-≤ false false rows cdata st c t = null_by-≤ _ c st c t
@@ -411,9 +442,11 @@ cdata_by-≤ : (b : Bool) (st : Stand) (c : ℕ) (t : List ℕ) → (b ≡ true 
 cdata_by-≤ true st c t h = let k = h refl in record { some = omega arith; within = k }
 cdata_by-≤ false st c t h = null_by-≤ _ c st c t
 
-item_in-≤ : (p : TextPlace) (rows : List Row) (cdata : Bool) (st : Stand) (c : ℕ) (t : List ℕ) → Takes (Items.item_in p rows cdata st c t) (c ∷ t)
+item_in-≤ : (p : TextPlace) (rows : List Row) (cdata : Bool) (st : Stand) (c : ℕ) (t : List ℕ)
+    → Takes (Items.item_in p rows cdata st c t) (c ∷ t)
 item_in-≤ InData rows cdata st c t = data_by-≤ _ _ rows cdata st c t
-item_in-≤ (InRaw kind) rows cdata st c t = raw_by-≤ _ _ rows st kind c t (λ e. fits-≤ st.last_start_tag t (and_parts (nat_eq c 60 && RawText.ends_at_tag kind) _ e).1)
+item_in-≤ (InRaw kind) rows cdata st c t = raw_by-≤ _ _ rows st kind c t
+    (λ e. fits-≤ st.last_start_tag t (and_parts (nat_eq c 60 && RawText.ends_at_tag kind) _ e).1)
 item_in-≤ InPlaintext rows cdata st c t = one _ c t refl
 item_in-≤ InCdata rows cdata st c t = cdata_by-≤ _ st c t (begins-≤ (codes "]]>") (c ∷ t))
 item_in-≤ (InTag tag) rows cdata st c t = tag_by-≤ (Tags.part c) rows st tag c t

@@ -1,5 +1,6 @@
 -- The name of a reference stands at the front of the text.
-use Rattle.std.proofs.Common.{◌≡◌, ◌∙◌, ℕ, Bool, true, false, nat_eq, List, [], ◌∷◌, ◌++◌, length, take, drop, Option, Some, None, refl, sym, ap}
+use Rattle.std.proofs.Common.{◌≡◌, ◌∙◌, ℕ, Bool, true, false, nat_eq, List, [], ◌∷◌, ◌++◌, length, take, drop, Option, Some}
+use Rattle.std.proofs.Common.{None, refl, sym, ap}
 use Rattle.std.proofs.Math.Seq.{take-append_seam}
 use Rattle.std.specs.Prelude.{◌&&◌, not, if◌then◌else◌, codes, IfSome}
 use Rattle.std.specs.List.{list_any, ends_with}
@@ -62,21 +63,26 @@ longest-stands (row ∷ rows) t = longer_of-stands _ _ t (fitting-stands (Charac
 -- QUOTES
 
 -- no quote stands in the characters of a name without one
-named_by-quote : (text : Bool) (row : Row) (t : List ℕ) → Characters.begins row.name t ≡ true → list_any (nat_eq 34) row.name ≡ false → list_any (nat_eq 34) (take (reference_len (Reference.named_by text row)) t) ≡ false
+named_by-quote : (text : Bool) (row : Row) (t : List ℕ) → Characters.begins row.name t ≡ true
+    → list_any (nat_eq 34) row.name ≡ false → list_any (nat_eq 34) (take (reference_len (Reference.named_by text row)) t) ≡ false
 named_by-quote true row t h k = refl
 named_by-quote false row t h k = rw (begins-take row.name t h) k
 
 -- the same of the row that was found
-named_row-quote : (o : Option Row) (t : List ℕ) → Stands o t → lacks_quote o ≡ true → list_any (nat_eq 34) (take (reference_len (Reference.named_row true o t)) t) ≡ false
+named_row-quote : (o : Option Row) (t : List ℕ) → Stands o t → lacks_quote o ≡ true → list_any (nat_eq 34)
+    (take (reference_len (Reference.named_row true o t)) t) ≡ false
 named_row-quote None t h k = refl
 named_row-quote (Some row) t h k = named_by-quote _ row t h (none-true _ k)
 
 -- no quote stands in what a named reference takes in a value
-pub named-quote : (rows : List Row) (t : List ℕ) → is_named rows t ≡ true → list_any (nat_eq 34) (take (reference_len (Reference.reference_at true rows t)) t) ≡ false
+pub named-quote : (rows : List Row) (t : List ℕ) → is_named rows t ≡ true → list_any (nat_eq 34)
+    (take (reference_len (Reference.reference_at true rows t)) t) ≡ false
 named-quote rows [] h = absurd cc
 named-quote rows (c ∷ t) h =
-    let parts = and_parts (not (nat_eq c 35) && Reference.ends_in_semicolon (longest rows (c ∷ t))) (lacks_quote (longest rows (c ∷ t))) h in
-    rw (none-true (nat_eq c 35) (and_parts (not (nat_eq c 35)) _ parts.0).0) (named_row-quote (longest rows (c ∷ t)) (c ∷ t) (longest-stands rows (c ∷ t)) parts.1)
+    let parts = and_parts (not (nat_eq c 35) && Reference.ends_in_semicolon (longest rows (c ∷ t)))
+    (lacks_quote (longest rows (c ∷ t))) h in
+    rw (none-true (nat_eq c 35) (and_parts (not (nat_eq c 35)) _ parts.0).0)
+    (named_row-quote (longest rows (c ∷ t)) (c ∷ t) (longest-stands rows (c ∷ t)) parts.1)
 
 -- FAULTS
 
@@ -88,7 +94,9 @@ named-faultless rows (c ∷ t) h =
     rw (none-true (nat_eq c 35) parts.0, parts.1) refl
 
 -- a name as long as the word at the front is that word, and ends in ";" and has no quote where the word does so
-whole-row : (o : Option Row) (w u : List ℕ) (r : Reference.Reference) → Stands o (w ++ u) → Reference.named_row false o (w ++ u) ≡ Some r → r.len ≡ length w → ends_with nat_eq w (codes ";") ≡ true → list_any (nat_eq 34) w ≡ false
+whole-row : (o : Option Row) (w u : List ℕ) (r : Reference.Reference) → Stands o (w ++ u)
+    → Reference.named_row false o (w ++ u) ≡ Some r → r.len ≡ length w → ends_with nat_eq w (codes ";") ≡ true
+    → list_any (nat_eq 34) w ≡ false
     → (Reference.ends_in_semicolon o && lacks_quote o) ≡ true
 whole-row None w u r h e n k q = absurd cc
 whole-row (Some row) w u r h e n k q =
@@ -97,7 +105,9 @@ whole-row (Some row) w u r h e n k q =
     rw (name, k, q) refl
 
 -- a reference that is a word with ";" and without a quote is a named one
-pub whole-named : (rows : List Row) (c : ℕ) (w u : List ℕ) (r : Reference.Reference) → nat_eq c 35 ≡ false → Reference.reference_at false rows ((c ∷ w) ++ u) ≡ Some r → r.len ≡ length (c ∷ w) → ends_with nat_eq (c ∷ w) (codes ";") ≡ true → list_any (nat_eq 34) (c ∷ w) ≡ false
+pub whole-named : (rows : List Row) (c : ℕ) (w u : List ℕ) (r : Reference.Reference) → nat_eq c 35 ≡ false
+    → Reference.reference_at false rows ((c ∷ w) ++ u) ≡ Some r → r.len ≡ length (c ∷ w) → ends_with nat_eq (c ∷ w)
+    (codes ";") ≡ true → list_any (nat_eq 34) (c ∷ w) ≡ false
     → is_named rows ((c ∷ w) ++ u) ≡ true
 whole-named rows c w u r z e n k q =
     let e' : Reference.named_row false (longest rows ((c ∷ w) ++ u)) ((c ∷ w) ++ u) ≡ Some r = rw z at e in

@@ -1,5 +1,6 @@
 -- What holds of each token that a reading tells: text without U+0000, lowered names, distinct attributes.
-use Rattle.std.proofs.Common.{◌≡◌, ◌∙◌, ℕ, suc, ◌≤◌, Bool, true, false, nat_eq, List, [], ◌∷◌, ◌++◌, map, take, drop, Option, Some, None, refl, sym, arith, true≢false}
+use Rattle.std.proofs.Common.{◌≡◌, ◌∙◌, ℕ, suc, ◌≤◌, Bool, true, false, nat_eq, List, [], ◌∷◌, ◌++◌, map, take, drop, Option}
+use Rattle.std.proofs.Common.{Some, None, refl, sym, arith, true≢false}
 use Rattle.std.specs.Prelude.{◌||◌, ◌&&◌, not, if◌then◌else◌, IfSome}
 use Rattle.std.specs.Bool.{one_answer}
 use Rattle.std.specs.Char.{to_ascii_lowercase, is_ascii_alphabetic}
@@ -20,7 +21,8 @@ use Rattle.html_tokens.specs.declared.token.Token.TheVariants.{TagToken, Comment
 use Rattle.html_tokens.specs.Characters
 use Rattle.html_tokens.specs.Comments
 use Rattle.html_tokens.specs.Doctypes
-use Rattle.html_tokens.specs.Item.{TextPlace, InData, InRaw, InPlaintext, InCdata, InTag, Stand, moved, Item, Fault, longer_by, reference_item, null_by}
+use Rattle.html_tokens.specs.Item.{TextPlace, InData, InRaw, InPlaintext, InCdata, InTag, Stand, moved, Item, Fault, longer_by}
+use Rattle.html_tokens.specs.Item.{reference_item, null_by}
 use Rattle.html_tokens.specs.Items
 use Rattle.html_tokens.specs.Laws.{is_not_null, has_no_null, are_distinct, IsSoundToken, IsSoundPlace, IsSoundItem, has_values}
 use Rattle.html_tokens.specs.RawText
@@ -53,7 +55,8 @@ if-not_null : (b : Bool) (x y : ℕ) → is_not_null x ≡ true → is_not_null 
 if-not_null true x y h k = h
 if-not_null false x y h k = k
 
-replaced : (n : ℕ) (ps : List (ℕ × ℕ)) → is_not_null n ≡ true → list_all (λ p. is_not_null p.1) ps ≡ true → is_not_null (Reference.replaced n ps) ≡ true
+replaced : (n : ℕ) (ps : List (ℕ × ℕ)) → is_not_null n ≡ true → list_all (λ p. is_not_null p.1) ps ≡ true
+    → is_not_null (Reference.replaced n ps) ≡ true
 replaced n [] h k = h
 replaced n (p ∷ ps) h k =
     let parts = and_parts (is_not_null p.1) (list_all (λ p. is_not_null p.1) ps) k in
@@ -63,7 +66,8 @@ or-false : (a b : Bool) → (a || b) ≡ false → a ≡ false
 or-false true b h = cc
 or-false false b h = refl
 
-numbered_by : (b : Bool) (n : ℕ) → Reference.is_no_character n ≡ b → is_not_null (if b then 0xFFFD else Reference.replaced n Reference.replacements) ≡ true
+numbered_by : (b : Bool) (n : ℕ) → Reference.is_no_character n ≡ b
+    → is_not_null (if b then 0xFFFD else Reference.replaced n Reference.replacements) ≡ true
 numbered_by true n e = refl
 numbered_by false n e =
     let zero_no : nat_eq n 0 ≡ false = or-false _ _ (or-false _ _ e) in
@@ -114,7 +118,8 @@ unfolding ReferenceSound RowSound
 named_row v None t h = tt
 named_row v (Some row) t h = named_by _ row h
 
-reference_by : (b v : Bool) (rows : List Row) (c : ℕ) (t : List ℕ) → has_values rows ≡ true → ReferenceSound (Reference.reference_by b v rows c t)
+reference_by : (b v : Bool) (rows : List Row) (c : ℕ) (t : List ℕ) → has_values rows ≡ true
+    → ReferenceSound (Reference.reference_by b v rows c t)
 reference_by true v rows c t h = numbered_reference (Reference.numeric t)
 reference_by false v rows c t h = named_row v _ (c ∷ t) (longest-sound rows (c ∷ t) h)
 
@@ -123,7 +128,8 @@ unfolding ReferenceSound
 reference v rows [] h = tt
 reference v rows (c ∷ t) h = reference_by (nat_eq c 35) v rows c t h
 
-reference-item : (fault : Option Fault) (o : Option Reference.Reference) (st : Stand) → IsSoundPlace st.place → ReferenceSound o → IsSoundItem (reference_item fault o st)
+reference-item : (fault : Option Fault) (o : Option Reference.Reference) (st : Stand) → IsSoundPlace st.place
+    → ReferenceSound o → IsSoundItem (reference_item fault o st)
 unfolding ReferenceSound
 reference-item fault None st p h = (refl, p)
 reference-item fault (Some r) st p h = (h, p)
@@ -137,7 +143,8 @@ lowered-fixed x h e = rw (e, h) refl
 lower-twice : (c : ℕ) → to_ascii_lowercase (to_ascii_lowercase c) ≡ to_ascii_lowercase c
 lower-twice c = grind (arith, nat_tests)
 
-lowered-by : (b : Bool) (c : ℕ) → nat_eq (to_ascii_lowercase c) 0 ≡ b → Characters.lowered (if b then 0xFFFD else to_ascii_lowercase c) ≡ (if b then 0xFFFD else to_ascii_lowercase c)
+lowered-by : (b : Bool) (c : ℕ) → nat_eq (to_ascii_lowercase c) 0 ≡ b → Characters.lowered
+    (if b then 0xFFFD else to_ascii_lowercase c) ≡ (if b then 0xFFFD else to_ascii_lowercase c)
 lowered-by true c e = refl
 lowered-by false c e = lowered-fixed (to_ascii_lowercase c) e (lower-twice c)
 
@@ -156,16 +163,25 @@ letter_from c e = grind (arith, nat_tests)
 
 letter-goes_on : (c : ℕ) → 65 ≤ c → Characters.ends_tag_name c ≡ false
 letter-goes_on c l =
-    rw (ne_eqb c 9 (λ h. omega arith), ne_eqb c 10 (λ h. omega arith), ne_eqb c 12 (λ h. omega arith), ne_eqb c 32 (λ h. omega arith), ne_eqb c 47 (λ h. omega arith), ne_eqb c 62 (λ h. omega arith)) refl
+    rw (
+      ne_eqb c 9 (λ h. omega arith),
+      ne_eqb c 10 (λ h. omega arith),
+      ne_eqb c 12 (λ h. omega arith),
+      ne_eqb c 32 (λ h. omega arith),
+      ne_eqb c 47 (λ h. omega arith),
+      ne_eqb c 62 (λ h. omega arith),
+    ) refl
 
 -- a tag whose name begins with a letter
-named : (st : Stand) (kind : TagKind) (c : ℕ) (t : List ℕ) → Characters.ends_tag_name c ≡ false → IsSoundItem (Tags.name_after st (Tags.named kind []) (c ∷ t))
+named : (st : Stand) (kind : TagKind) (c : ℕ) (t : List ℕ) → Characters.ends_tag_name c ≡ false
+    → IsSoundItem (Tags.name_after st (Tags.named kind []) (c ∷ t))
 named st kind c t e = rw e (tt, (all-lowered (c ∷ take (Characters.run Characters.ends_tag_name t) t), refl))
 
 -- ATTRIBUTES
 
 bytes_eq-flips : (a b : List ℕ) → bytes_eq a b ≡ bytes_eq b a
-bytes_eq-flips a b = one_answer (bytes_eq a b) (bytes_eq b a) (texts_by_value a b) (λ h. sym ((texts_by_value b a).0 h), λ e. (texts_by_value b a).1 (sym e))
+bytes_eq-flips a b = one_answer (bytes_eq a b) (bytes_eq b a) (texts_by_value a b)
+    (λ h. sym ((texts_by_value b a).0 h), λ e. (texts_by_value b a).1 (sym e))
 
 abbrev has : List Attribute → List ℕ → Bool
 has attrs name = list_any (λ a. bytes_eq name a.name.local) attrs
@@ -183,7 +199,8 @@ none true b h k = cc
 none false true h k = cc
 none false false h k = refl
 
-distinct-push : (attrs : List Attribute) (name value : List ℕ) → are_distinct attrs ≡ true → has attrs name ≡ false → are_distinct (attrs ++ Tags.attribute name value ∷ []) ≡ true
+distinct-push : (attrs : List Attribute) (name value : List ℕ) → are_distinct attrs ≡ true → has attrs name ≡ false
+    → are_distinct (attrs ++ Tags.attribute name value ∷ []) ≡ true
 distinct-push [] name value h k = refl
 distinct-push (x ∷ rest) name value h k =
     let p : Attribute → Bool = λ b. bytes_eq x.name.local b.name.local in
@@ -191,39 +208,49 @@ distinct-push (x ∷ rest) name value h k =
     let no = or-both (bytes_eq name x.name.local) (has rest name) k in
     let other : bytes_eq x.name.local name ≡ false = bytes_eq-flips x.name.local name ∙ no.0 in
     let e : list_any p (rest ++ Tags.attribute name value ∷ []) ≡ false =
-    list_any-append p rest (Tags.attribute name value ∷ []) ∙ none (list_any p rest) (bytes_eq x.name.local name) (not-false _ parts.0) other in
+    list_any-append p rest (Tags.attribute name value ∷ []) ∙ none (list_any p rest) (bytes_eq x.name.local name)
+    (not-false _ parts.0) other in
     rw e (distinct-push rest name value parts.1 no.1)
 
-attribute_by : (b : Bool) (tag : Tag) (name value : List ℕ) → Tags.has_attribute tag name ≡ b → IsSoundToken (TagToken tag) → IsSoundToken (TagToken (Tags.attribute_by b tag name value))
+attribute_by : (b : Bool) (tag : Tag) (name value : List ℕ) → Tags.has_attribute tag name ≡ b
+    → IsSoundToken (TagToken tag) → IsSoundToken (TagToken (Tags.attribute_by b tag name value))
 attribute_by true tag name value e h = h
 attribute_by false tag name value e h = (h.0, distinct-push tag.attrs name value h.1 e)
 
-with_attribute : (tag : Tag) (name value : List ℕ) → IsSoundToken (TagToken tag) → IsSoundToken (TagToken (Tags.with_attribute tag name value))
+with_attribute : (tag : Tag) (name value : List ℕ) → IsSoundToken (TagToken tag)
+    → IsSoundToken (TagToken (Tags.with_attribute tag name value))
 with_attribute tag name value h = attribute_by (Tags.has_attribute tag name) tag name value refl h
 
 quote_at : (n : ℕ) (st : Stand) (u : List ℕ) → IsSoundPlace st.place → IsSoundItem (Tags.quote_at n st u)
 quote_at n st [] p = (tt, p)
 quote_at n st (c ∷ u) p = (tt, p)
 
-opened_by : (o : Tags.Opening) (rows : List Row) (st : Stand) (tag : Tag) (name : List ℕ) (c : ℕ) (t : List ℕ) → IsSoundToken (TagToken tag) → IsSoundItem (Tags.opened_by o rows st tag name c t)
+opened_by : (o : Tags.Opening) (rows : List Row) (st : Stand) (tag : Tag) (name : List ℕ) (c : ℕ) (t : List ℕ)
+    → IsSoundToken (TagToken tag) → IsSoundItem (Tags.opened_by o rows st tag name c t)
 opened_by Tags.Quote rows st tag name c t h =
     let v = Tags.value_from rows Characters.is_null (nat_eq c) 0 t in
     quote_at v.len (moved st (InTag (Tags.with_attribute tag name v.chars))) (drop v.len t) (with_attribute tag name v.chars h)
 opened_by Tags.Close rows st tag name c t h = (tt, with_attribute tag name [] h)
-opened_by Tags.Other rows st tag name c t h = (tt, with_attribute tag name (Tags.value_from rows Tags.is_odd_unquoted Characters.ends_word 0 (c ∷ t)).chars h)
+opened_by Tags.Other rows st tag name c t h =
+    (tt, with_attribute tag name (Tags.value_from rows Tags.is_odd_unquoted Characters.ends_word 0 (c ∷ t)).chars h)
 
-opened_at : (rows : List Row) (st : Stand) (tag : Tag) (name t : List ℕ) → IsSoundToken (TagToken tag) → IsSoundItem (Tags.opened_at rows st tag name t)
+opened_at : (rows : List Row) (st : Stand) (tag : Tag) (name t : List ℕ) → IsSoundToken (TagToken tag)
+    → IsSoundItem (Tags.opened_at rows st tag name t)
 opened_at rows st tag name [] h = (tt, with_attribute tag name [] h)
 opened_at rows st tag name (c ∷ t) h = opened_by (Tags.opening c) rows st tag name c t h
 
-equals_by : (b : Bool) (rows : List Row) (st : Stand) (tag : Tag) (name t : List ℕ) → IsSoundToken (TagToken tag) → IsSoundItem (Tags.equals_by b rows st tag name t)
+equals_by : (b : Bool) (rows : List Row) (st : Stand) (tag : Tag) (name t : List ℕ) → IsSoundToken (TagToken tag)
+    → IsSoundItem (Tags.equals_by b rows st tag name t)
 equals_by true rows st tag name t h =
     let n = suc (Characters.white t) in
     let u = drop n t in
-    all n (Tags.value_at rows st tag name u) (all (Characters.white u) (Tags.opened_at rows st tag name (drop (Characters.white u) u)) (opened_at rows st tag name (drop (Characters.white u) u) h))
+    all n (Tags.value_at rows st tag name u)
+    (all (Characters.white u) (Tags.opened_at rows st tag name (drop (Characters.white u) u))
+    (opened_at rows st tag name (drop (Characters.white u) u) h))
 equals_by false rows st tag name t h = (tt, with_attribute tag name [] h)
 
-attribute : (rows : List Row) (st : Stand) (tag : Tag) (front t : List ℕ) → IsSoundToken (TagToken tag) → IsSoundItem (Tags.attribute_after rows st tag front t)
+attribute : (rows : List Row) (st : Stand) (tag : Tag) (front t : List ℕ) → IsSoundToken (TagToken tag)
+    → IsSoundItem (Tags.attribute_after rows st tag front t)
 attribute rows st tag front t h =
     let n = Characters.run Characters.ends_attribute_name t in
     let name = front ++ Characters.all_lowered (take n t) in
@@ -233,7 +260,8 @@ slash_by : (b : Bool) (st : Stand) (tag : Tag) → IsSoundToken (TagToken tag) �
 slash_by true st tag h = (h, tt)
 slash_by false st tag h = (tt, h)
 
-tag_by : (p : Tags.Part) (rows : List Row) (st : Stand) (tag : Tag) (c : ℕ) (t : List ℕ) → IsSoundToken (TagToken tag) → IsSoundItem (Tags.tag_by p rows st tag c t)
+tag_by : (p : Tags.Part) (rows : List Row) (st : Stand) (tag : Tag) (c : ℕ) (t : List ℕ)
+    → IsSoundToken (TagToken tag) → IsSoundItem (Tags.tag_by p rows st tag c t)
 tag_by Tags.Space rows st tag c t h = (tt, h)
 tag_by Tags.Solidus rows st tag c t h = slash_by _ st tag h
 tag_by Tags.End rows st tag c t h = (h, tt)
@@ -262,7 +290,8 @@ letter_like : (n c : ℕ) → is_ascii_alphabetic n ≡ true → nat_eq (to_asci
 letter_like n c h k = grind (arith, nat_tests)
 
 -- the name of a fitting end tag begins with a letter
-fitting_name : (st : Stand) (last : Option (List ℕ)) (t : List ℕ) → RawText.is_fitting_end last t ≡ true → IsSoundItem (Tags.name_after st (Tags.named EndTag []) (drop 1 t))
+fitting_name : (st : Stand) (last : Option (List ℕ)) (t : List ℕ) → RawText.is_fitting_end last t ≡ true
+    → IsSoundItem (Tags.name_after st (Tags.named EndTag []) (drop 1 t))
 fitting_name st None t h = absurd (true≢false (sym h))
 fitting_name st (Some []) t h = absurd (true≢false (sym h))
 fitting_name st (Some (n ∷ ns)) [] h = absurd (true≢false (sym (and_parts _ _ h).1))
@@ -270,21 +299,28 @@ fitting_name st (Some (n ∷ ns)) (c ∷ []) h = absurd (true≢false (sym (and_
 fitting_name st (Some (n ∷ ns)) (c ∷ d ∷ t) h =
     let parts = and_parts _ _ h in
     let letter : is_ascii_alphabetic n ≡ true = (and_parts _ _ parts.0).0 in
-    let alike : nat_eq (to_ascii_lowercase n) (to_ascii_lowercase d) ≡ true = begun _ (λ _. Characters.begins_name (map to_ascii_lowercase ns) t) (and_parts _ _ parts.1).1 in
+    let alike : nat_eq (to_ascii_lowercase n) (to_ascii_lowercase d) ≡ true =
+    begun _ (λ _. Characters.begins_name (map to_ascii_lowercase ns) t) (and_parts _ _ parts.1).1 in
     named st EndTag d t (letter-goes_on d (letter_like n d letter alike))
 
-raw_by : (a b : Bool) (rows : List Row) (st : Stand) (kind : RawKind) (c : ℕ) (t : List ℕ) → (a ≡ true → RawText.is_fitting_end st.last_start_tag t ≡ true) → has_values rows ≡ true → IsSoundPlace st.place → IsSoundItem (RawText.raw_by a b rows st kind c t)
+raw_by : (a b : Bool) (rows : List Row) (st : Stand) (kind : RawKind) (c : ℕ) (t : List ℕ)
+    → (a ≡ true → RawText.is_fitting_end st.last_start_tag t ≡ true) → has_values rows ≡ true
+    → IsSoundPlace st.place → IsSoundItem (RawText.raw_by a b rows st kind c t)
 raw_by true b rows st kind c t f h p = fitting_name st st.last_start_tag t (f refl)
 raw_by false true rows st kind c t f h p = reference-item _ _ st p (reference false rows t h)
 raw_by false false rows st kind c t f h p = (shown c, tt)
 
 declaration_by : (a b e : Bool) (st : Stand) (t : List ℕ) → IsSoundPlace st.place → IsSoundItem (Items.declaration_by a b e st t)
-declaration_by true b e st t p = all 4 (Comments.comment_at st (drop 2 t)) (empty_by IsSound StandsWell comment-sound doctype-sound _ _ st (drop 2 t) p)
-declaration_by false true e st t p = all 9 (Doctypes.doctype_at st (drop 7 t)) (doctype_at IsSound StandsWell comment-sound doctype-sound st p (drop 7 t))
+declaration_by true b e st t p = all 4 (Comments.comment_at st (drop 2 t))
+    (empty_by IsSound StandsWell comment-sound doctype-sound _ _ st (drop 2 t) p)
+declaration_by false true e st t p = all 9 (Doctypes.doctype_at st (drop 7 t))
+    (doctype_at IsSound StandsWell comment-sound doctype-sound st p (drop 7 t))
 declaration_by false false true st t p = (tt, tt)
 declaration_by false false false st t p = bogus IsSound StandsWell comment-sound doctype-sound st p t []
 
-opens : (a b d e f : Bool) → (if a then Items.Letter else if b then Items.Slash else if d then Items.Mark else if e then Items.Question else if f then Items.Close else Items.Other) ≡ Items.Letter → a ≡ true
+opens : (a b d e f : Bool)
+    → (if a then Items.Letter else if b then Items.Slash else if d then Items.Mark else if e then Items.Question
+    else if f then Items.Close else Items.Other) ≡ Items.Letter → a ≡ true
 opens true b d e f h = refl
 opens false true d e f h = cc
 opens false false true e f h = cc
@@ -295,7 +331,8 @@ opens false false false false false h = cc
 opening-letter : (c : ℕ) → Items.opening c ≡ Items.Letter → Characters.ends_tag_name c ≡ false
 opening-letter c h = letter-goes_on c (letter_from c (opens _ _ _ _ _ h))
 
-end_by : (o : Items.Opening) (st : Stand) (c : ℕ) (t : List ℕ) → Items.opening c ≡ o → IsSoundPlace st.place → IsSoundItem (Items.end_by o st c t)
+end_by : (o : Items.Opening) (st : Stand) (c : ℕ) (t : List ℕ) → Items.opening c ≡ o → IsSoundPlace st.place
+    → IsSoundItem (Items.end_by o st c t)
 end_by Items.Letter st c t e p = named st EndTag c t (opening-letter c e)
 end_by Items.Close st c t e p = (tt, p)
 end_by Items.Slash st c t e p = bogus IsSound StandsWell comment-sound doctype-sound st p (c ∷ t) []
@@ -307,7 +344,8 @@ end_at : (st : Stand) (t : List ℕ) → IsSoundPlace st.place → IsSoundItem (
 end_at st [] p = (refl, p)
 end_at st (c ∷ t) p = end_by (Items.opening c) st c t refl p
 
-open_by : (o : Items.Opening) (cdata : Bool) (st : Stand) (c : ℕ) (t : List ℕ) → Items.opening c ≡ o → IsSoundPlace st.place → IsSoundItem (Items.open_by o cdata st c t)
+open_by : (o : Items.Opening) (cdata : Bool) (st : Stand) (c : ℕ) (t : List ℕ) → Items.opening c ≡ o
+    → IsSoundPlace st.place → IsSoundItem (Items.open_by o cdata st c t)
 open_by Items.Letter cdata st c t e p = named st StartTag c t (opening-letter c e)
 open_by Items.Slash cdata st c t e p = end_at st t p
 open_by Items.Mark cdata st c t e p = declaration_by _ _ _ st t p
@@ -319,7 +357,8 @@ open_at : (cdata : Bool) (st : Stand) (t : List ℕ) → IsSoundPlace st.place �
 open_at cdata st [] p = (refl, p)
 open_at cdata st (c ∷ t) p = open_by (Items.opening c) cdata st c t refl p
 
-data_by : (a b : Bool) (rows : List Row) (cdata : Bool) (st : Stand) (c : ℕ) (t : List ℕ) → has_values rows ≡ true → IsSoundPlace st.place → IsSoundItem (Items.data_by a b rows cdata st c t)
+data_by : (a b : Bool) (rows : List Row) (cdata : Bool) (st : Stand) (c : ℕ) (t : List ℕ) → has_values rows ≡ true
+    → IsSoundPlace st.place → IsSoundItem (Items.data_by a b rows cdata st c t)
 data_by true b rows cdata st c t h p = open_at cdata st t p
 data_by false true rows cdata st c t h p = reference-item _ _ st p (reference false rows t h)
 data_by false false rows cdata st c t h p = null_by-sound (nat_eq c 0) c st refl p
@@ -328,12 +367,16 @@ cdata_by : (b : Bool) (st : Stand) (c : ℕ) → IsSoundPlace st.place → IsSou
 cdata_by true st c p = (tt, tt)
 cdata_by false st c p = null_by-sound (nat_eq c 0) c st refl p
 
-item_in : (place : TextPlace) (rows : List Row) (cdata : Bool) (st : Stand) (c : ℕ) (t : List ℕ) → has_values rows ≡ true → st.place ≡ place → IsSoundPlace st.place → IsSoundPlace place → IsSoundItem (Items.item_in place rows cdata st c t)
+item_in : (place : TextPlace) (rows : List Row) (cdata : Bool) (st : Stand) (c : ℕ) (t : List ℕ)
+    → has_values rows ≡ true → st.place ≡ place → IsSoundPlace st.place → IsSoundPlace place
+    → IsSoundItem (Items.item_in place rows cdata st c t)
 item_in InData rows cdata st c t h e p q = data_by _ _ rows cdata st c t h p
-item_in (InRaw kind) rows cdata st c t h e p q = raw_by _ _ rows st kind c t (λ k. (and_parts (nat_eq c 60 && RawText.ends_at_tag kind) _ k).1) h p
+item_in (InRaw kind) rows cdata st c t h e p q = raw_by _ _ rows st kind c t
+    (λ k. (and_parts (nat_eq c 60 && RawText.ends_at_tag kind) _ k).1) h p
 item_in InPlaintext rows cdata st c t h e p q = (shown c, p)
 item_in InCdata rows cdata st c t h e p q = cdata_by _ st c p
 item_in (InTag tag) rows cdata st c t h e p q = tag_by (Tags.part c) rows st tag c t q
 
-pub item-sound : (rows : List Row) (cdata : Bool) (st : Stand) (c : ℕ) (t : List ℕ) → has_values rows ≡ true → IsSoundPlace st.place → IsSoundItem (Items.item rows cdata st c t)
+pub item-sound : (rows : List Row) (cdata : Bool) (st : Stand) (c : ℕ) (t : List ℕ) → has_values rows ≡ true
+    → IsSoundPlace st.place → IsSoundItem (Items.item rows cdata st c t)
 item-sound rows cdata st c t h p = item_in st.place rows cdata st c t h refl p p

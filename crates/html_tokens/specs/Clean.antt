@@ -1,5 +1,6 @@
 -- Which items tell no error under the default options, and which readings.
-use Rattle.std.specs.Prelude.{ℕ, zero, suc, ◌+◌, ◌-◌, Bool, true, false, ◌||◌, ◌&&◌, not, nat_eq, nat_le, List, [], ◌∷◌, take, drop, codes, Option, Some, None, is_none, Result, Ok, Err}
+use Rattle.std.specs.Prelude.{ℕ, zero, suc, ◌+◌, ◌-◌, Bool, true, false, ◌||◌, ◌&&◌, not, nat_eq, nat_le, List, [], ◌∷◌, take}
+use Rattle.std.specs.Prelude.{drop, codes, Option, Some, None, is_none, Result, Ok, Err}
 use Rattle.std.specs.Char.{is_ascii_lowercase, is_ascii_digit}
 use Rattle.std.specs.List.{list_any}
 use Rattle.html_tokens.specs.declared.replies.TokenSinkResult.{TokenSinkResult}
@@ -126,7 +127,8 @@ is_clean_markup (c ∷ t) = is_clean_open (opening c) (c ∷ t)
 
 abbrev pub is_clean_in : TextPlace → List Row → Stand → ℕ → List ℕ → Bool
 is_clean_in InData rows st c t = is_clean_text rows c t || (nat_eq c 60 && is_clean_markup t)
-is_clean_in (InRaw kind) rows st c t = is_clean_text rows c t || (nat_eq c 60 && ends_at_tag kind && is_fitting_end st.last_start_tag t && is_clean_end (drop 1 t))
+is_clean_in (InRaw kind) rows st c t = is_clean_text rows c t
+    || (nat_eq c 60 && ends_at_tag kind && is_fitting_end st.last_start_tag t && is_clean_end (drop 1 t))
 is_clean_in InPlaintext rows st c t = is_clean_text rows c t
 is_clean_in InCdata rows st c t = false
 is_clean_in (InTag tag) rows st c t = is_clean_part (part c) tag.kind rows tag (c ∷ t)
@@ -140,7 +142,8 @@ abbrev pub quiet_by : {S : Type 0} → (S → Token → Bool) → Option Token �
 quiet_by quiet None s = true
 quiet_by quiet (Some token) s = quiet s token
 
-module _ {S H F : Type 0} (step : S → Token → ℕ → Result (S × TokenSinkResult H) F) (quiet : S → Token → Bool) (cdata : S → Bool) (rows : List Row) where
+module _ {S H F : Type 0} (step : S → Token → ℕ → Result (S × TokenSinkResult H) F) (quiet : S → Token → Bool)
+    (cdata : S → Bool) (rows : List Row) where
   abbrev pub clean_by : Bool → Result (S × TokenSinkResult H) F → (S × TokenSinkResult H → Bool) → Bool
   clean_by false r go = false
   clean_by true (Ok p) go = go p
@@ -152,7 +155,8 @@ module _ {S H F : Type 0} (step : S → Token → ℕ → Result (S × TokenSink
   clean_from zero st breaks s (c ∷ t) =
       let i = item rows (cdata s) st c t in
       let read = breaks + line_breaks (take i.len (c ∷ t)) in
-      clean_by (is_clean rows st c t && quiet_by quiet i.token s) (said step (λ fault s. s) i.fault i.token read s) (λ p. clean_from (i.len - 1) (next_stand i.next p.1) read p.0 t)
+      clean_by (is_clean rows st c t && quiet_by quiet i.token s) (said step (λ fault s. s) i.fault i.token read s)
+      (λ p. clean_from (i.len - 1) (next_stand i.next p.1) read p.0 t)
   clean_from (suc n) st breaks s (c ∷ t) = clean_from n st breaks s t
 
   -- whether a text is read without anything that is not clean, and without an error of the sink

@@ -27,7 +27,8 @@ comment_by None faulty odd st front go = marked odd (longer (go tt))
 -- the rest of a comment, after what was read of it; any end but "-->" makes it faulty
 abbrev pub comment_after : Stand → List ℕ → List ℕ → Item
 comment_after st front [] = token_item (Some Grave) (CommentToken front) 0 st
-comment_after st front (c ∷ t) = comment_by (comment_end (c ∷ t)) (not (begins (codes "-->") (c ∷ t))) (is_odd_in_comment c) st front (λ _. comment_after st (front ++ shown c ∷ []) t)
+comment_after st front (c ∷ t) = comment_by (comment_end (c ∷ t)) (not (begins (codes "-->") (c ∷ t)))
+    (is_odd_in_comment c) st front (λ _. comment_after st (front ++ shown c ∷ []) t)
 
 abbrev pub empty_by : Bool → Bool → Stand → List ℕ → Item
 empty_by true dashed st t = token_item (Some Grave) (CommentToken []) 1 st

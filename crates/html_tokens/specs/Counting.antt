@@ -18,13 +18,17 @@ with_tags tags (Err refusal) = Err refusal
 abbrev pub counted : {S : Type 0} → Step S → Step (S × ℕ)
 counted step s t line = with_tags (tags_after t s.1) (step s.0 t line)
 
-module _ {S : Type 0} (is_sound : S → Type 0) (step : Step S) (ended : S → S) (is_quiet : S → Token → Bool) (laws : SinkLaws is_sound step ended is_quiet) where
-  bind_with_tags : (tags : ℕ) (r : Result (S × Reply) Refusal) (b : List ℕ) (line : ℕ) → (with_tags tags r >>= λ p. counted step p.0 (CharacterTokens b) line) ≡ with_tags tags (r >>= λ p. step p.0 (CharacterTokens b) line)
+module _ {S : Type 0} (is_sound : S → Type 0) (step : Step S) (ended : S → S) (is_quiet : S → Token → Bool)
+    (laws : SinkLaws is_sound step ended is_quiet) where
+  bind_with_tags : (tags : ℕ) (r : Result (S × Reply) Refusal) (b : List ℕ) (line : ℕ)
+      → (with_tags tags r >>= λ p. counted step p.0 (CharacterTokens b) line) ≡ with_tags tags
+      (r >>= λ p. step p.0 (CharacterTokens b) line)
   bind_with_tags tags (Ok p) b line = refl
   bind_with_tags tags (Err refusal) b line = refl
 
   -- what holds of the inner state and the reply
-  IfOk-with_tags : (P : S × Reply → Type 0) (tags : ℕ) (r : Result (S × Reply) Refusal) → IfOk r P → IfOk (with_tags tags r) (λ p. P (p.0.0, p.1))
+  IfOk-with_tags : (P : S × Reply → Type 0) (tags : ℕ) (r : Result (S × Reply) Refusal) → IfOk r P
+      → IfOk (with_tags tags r) (λ p. P (p.0.0, p.1))
   IfOk-with_tags P tags (Ok p) h = h
   IfOk-with_tags P tags (Err refusal) h = tt
 
@@ -48,10 +52,15 @@ module _ {S : Type 0} (is_sound : S → Type 0) (step : Step S) (ended : S → S
   counted_laws = record {
     keeps = λ s h t line. IfOk-with_tags (λ p. is_sound p.0) (tags_after t s.1) (step s.0 t line) (laws.keeps s.0 h t line);
     ends = λ s h. laws.ends s.0 h;
-    pieces = λ s h a b line. bind_with_tags s.1 (step s.0 (CharacterTokens a) line) b line ∙ ap (with_tags s.1) (laws.pieces s.0 h a b line);
+    pieces = λ s h a b line. bind_with_tags s.1 (step s.0 (CharacterTokens a) line) b line ∙ ap (with_tags s.1)
+        (laws.pieces s.0 h a b line);
     lines = λ s h a line other. ap (with_tags s.1) (laws.lines s.0 h a line other);
-    idle = λ s h t i line. subst (λ tags. IfOk (with_tags tags (step s.0 t line)) (λ p. p.0 ≡ s)) (sym (tags_after-idle t i s.1)) (idle s.0 s.1 (step s.0 t line) (laws.idle s.0 h t i line));
-    idle_refused = λ s h t i line r any other. IsErr-with_tags (tags_after any s.1) (step s.0 any other) (laws.idle_refused s.0 h t i line (with_tags-IsErr (tags_after t s.1) (step s.0 t line) r) any other);
+    idle = λ s h t i line. subst (λ tags. IfOk (with_tags tags (step s.0 t line)) (λ p. p.0 ≡ s))
+        (sym (tags_after-idle t i s.1)) (idle s.0 s.1 (step s.0 t line) (laws.idle s.0 h t i line));
+    idle_refused = λ s h t i line r any other. IsErr-with_tags (tags_after any s.1) (step s.0 any other)
+        (laws.idle_refused s.0 h t i line (with_tags-IsErr (tags_after t s.1) (step s.0 t line) r) any other);
     replies = λ s h t line. IfOk-with_tags (λ p. IsReplyTo t p.1) (tags_after t s.1) (step s.0 t line) (laws.replies s.0 h t line);
-    quiet = λ s h a b line. IfOk-with_tags (λ p. is_quiet s.0 (CharacterTokens (a ++ b)) ≡ (is_quiet s.0 (CharacterTokens a) && is_quiet p.0 (CharacterTokens b))) s.1 (step s.0 (CharacterTokens a) line) (laws.quiet s.0 h a b line);
+    quiet = λ s h a b line. IfOk-with_tags
+        (λ p. is_quiet s.0 (CharacterTokens (a ++ b)) ≡ (is_quiet s.0 (CharacterTokens a)
+        && is_quiet p.0 (CharacterTokens b))) s.1 (step s.0 (CharacterTokens a) line) (laws.quiet s.0 h a b line);
   }

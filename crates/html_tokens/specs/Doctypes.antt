@@ -123,7 +123,8 @@ keyword_by false false false st d t = junk_after st (forced d) t
 -- after the name and white space (section 13.2.5.56)
 abbrev pub keyword_at : Stand → Doctype → List ℕ → Item
 keyword_at st d [] = given st (forced d) 0
-keyword_at st d (c ∷ t) = keyword_by (nat_eq c 62) (begins_any_case (codes "public") (c ∷ t)) (begins_any_case (codes "system") (c ∷ t)) st d (c ∷ t)
+keyword_at st d (c ∷ t) = keyword_by (nat_eq c 62) (begins_any_case (codes "public") (c ∷ t))
+    (begins_any_case (codes "system") (c ∷ t)) st d (c ∷ t)
 
 abbrev pub after_name : Stand → Doctype → List ℕ → Item
 after_name st d t = longer_by (white t) (keyword_at st d (drop (white t) t))
@@ -132,7 +133,8 @@ after_name st d t = longer_by (white t) (keyword_at st d (drop (white t) t))
 abbrev pub doctype_name_after : Stand → List ℕ → List ℕ → Item
 doctype_name_after st front t =
     let n = run ends_word t in
-    marked (has_null (take n t)) (longer_by n (after_name st (record no_doctype { name = Some (front ++ all_lowered (take n t)) }) (drop n t)))
+    marked (has_null (take n t))
+    (longer_by n (after_name st (record no_doctype { name = Some (front ++ all_lowered (take n t)) }) (drop n t)))
 
 abbrev pub name_by : Bool → Stand → List ℕ → Item
 name_by true st t = given st (forced no_doctype) 1

@@ -5,7 +5,8 @@ use Rattle.html_tokens.specs.declared.tags.TagKind.TheVariants.{StartTag, EndTag
 use Rattle.html_tokens.specs.Characters.{begins, begins_any_case}
 use Rattle.html_tokens.specs.Table.{Row}
 use Rattle.html_tokens.specs.Reference.{reference_at, fault_of_reference}
-use Rattle.html_tokens.specs.Item.{TextPlace, InData, InRaw, InPlaintext, InCdata, InTag, Stand, moved, Item, Grave, longer, longer_by, silent, unopened, shown_character, character_or_null, reference_item}
+use Rattle.html_tokens.specs.Item.{TextPlace, InData, InRaw, InPlaintext, InCdata, InTag, Stand, moved, Item, Grave, longer}
+use Rattle.html_tokens.specs.Item.{longer_by, silent, unopened, shown_character, character_or_null, reference_item}
 use Rattle.html_tokens.specs.Comments.{comment_at, bogus_comment_after}
 use Rattle.html_tokens.specs.Doctypes.{doctype_at}
 use Rattle.html_tokens.specs.Tags.{named, name_after, tag_at}
@@ -19,7 +20,8 @@ declaration_by false false false st t = longer_by 2 (bogus_comment_after st [] t
 
 -- after "<!": a comment, a doctype, a CDATA section where the sink says so, or a bogus comment (section 13.2.5.42)
 abbrev pub declaration_at : Bool → Stand → List ℕ → Item
-declaration_at cdata st t = declaration_by (begins (codes "--") t) (begins_any_case (codes "doctype") t) (cdata && begins (codes "[CDATA[") t) st t
+declaration_at cdata st t = declaration_by (begins (codes "--") t) (begins_any_case (codes "doctype") t)
+    (cdata && begins (codes "[CDATA[") t) st t
 
 -- what the character after "<" or "</" begins
 pub data Opening : Type 0 where

@@ -1,5 +1,6 @@
 -- What holds of the definitions whatever the text is.
-use Rattle.std.specs.Prelude.{◌≡◌, ℕ, ◌+◌, ◌≤◌, Bool, nat_eq, List, [], ◌∷◌, ◌++◌, length, drop, codes, Option, Some, Result, IfOk, IfSome, false, true, not, ◌&&◌}
+use Rattle.std.specs.Prelude.{◌≡◌, ℕ, ◌+◌, ◌≤◌, Bool, nat_eq, List, [], ◌∷◌, ◌++◌, length, drop, codes, Option, Some, Result}
+use Rattle.std.specs.Prelude.{IfOk, IfSome, false, true, not, ◌&&◌}
 use Rattle.std.specs.List.{list_all}
 pub use Rattle.markup.specs.Attributes.{are_distinct}
 use Rattle.html_tokens.specs.declared.tags.Tag.{Tag}
@@ -8,7 +9,8 @@ use Rattle.html_tokens.specs.Tags.{attribute, has_attribute, with_attribute}
 use Rattle.html_tokens.specs.declared.replies.TokenSinkResult.{TokenSinkResult}
 use Rattle.html_tokens.specs.declared.replies.TokenSinkResult.TheVariants.{Continue}
 use Rattle.html_tokens.specs.declared.token.Token.{Token}
-use Rattle.html_tokens.specs.declared.token.Token.TheVariants.{DoctypeToken, TagToken, CommentToken, CharacterTokens, NullCharacterToken, EOFToken, ParseError}
+use Rattle.html_tokens.specs.declared.token.Token.TheVariants.{DoctypeToken, TagToken, CommentToken, CharacterTokens}
+use Rattle.html_tokens.specs.declared.token.Token.TheVariants.{NullCharacterToken, EOFToken, ParseError}
 use Rattle.html_tokens.specs.Item.{Fault, TextPlace, InData, InRaw, InPlaintext, InCdata, InTag, Stand, Item}
 use Rattle.html_tokens.specs.Items.{item}
 use Rattle.html_tokens.specs.Clean.{is_clean_reading}
@@ -61,7 +63,8 @@ IsCutAnywhere = (cr : Bool) (ps qs : List (List ℕ)) → flatten ps ≡ flatten
 -- from sound states text in two pieces is as in one, on whatever line, leads to sound states, and gets no reply but to go on
 pub record JoinsText {S H F : Type 0} (is_sound : S → Type 0) (step : S → Token → ℕ → Result (S × TokenSinkResult H) F) : Type 0 where
   pub keeps : (s : S) → is_sound s → (a : List ℕ) (k : ℕ) → IfOk (step s (CharacterTokens a) k) (λ p. is_sound p.0)
-  pub pieces : (s : S) → is_sound s → (a b : List ℕ) (k l m : ℕ) → (step s (CharacterTokens a) k >>= λ p. step p.0 (CharacterTokens b) l) ≡ step s (CharacterTokens (a ++ b)) m
+  pub pieces : (s : S) → is_sound s → (a b : List ℕ) (k l m : ℕ)
+      → (step s (CharacterTokens a) k >>= λ p. step p.0 (CharacterTokens b) l) ≡ step s (CharacterTokens (a ++ b)) m
   pub goes_on : (s : S) → is_sound s → (a : List ℕ) (k : ℕ) → IfOk (step s (CharacterTokens a) k) (λ p. p.1 ≡ Continue)
 
 -- a character of data that is itself: not "<", "&" or U+0000
@@ -72,24 +75,29 @@ abbrev pub in_data : Option (List ℕ) → Stand
 in_data last = record { place = InData; last_start_tag = last }
 
 -- from a sound state a run of such characters is read as one text, so it is nothing to a reading where the run is cut
-abbrev pub IsRunOneText : {S H F : Type 0} → (S → Type 0) → (S → Token → ℕ → Result (S × TokenSinkResult H) F) → (S → Bool) → (S → S) → Type 0
+abbrev pub IsRunOneText : {S H F : Type 0} → (S → Type 0) → (S → Token → ℕ → Result (S × TokenSinkResult H) F)
+    → (S → Bool) → (S → S) → Type 0
 IsRunOneText {S} is_sound step cdata ends =
     (erred : Fault → S → S) (rows : List Row) (last : Option (List ℕ)) (breaks : ℕ) (s : S) → is_sound s
     → (c : ℕ) (front t : List ℕ) (line : ℕ) → list_all is_itself (c ∷ front) ≡ true
     → reading step erred cdata ends rows (in_data last) breaks s ((c ∷ front) ++ t)
-    ≡ (step s (CharacterTokens (c ∷ front)) line >>= λ p. reading step erred cdata ends rows (in_data last) (breaks + line_breaks (c ∷ front)) p.0 t)
+    ≡ (step s (CharacterTokens (c ∷ front)) line >>= λ p. reading step erred cdata ends rows (in_data last)
+    (breaks + line_breaks (c ∷ front)) p.0 t)
 
 -- a text that is read without anything that is not clean owes no error, and is quiet
-abbrev pub IsCleanQuiet : {S H F : Type 0} → (S → Token → ℕ → Result (S × TokenSinkResult H) F) → (S → Token → Bool) → (S → Bool) → (S → S) → Type 0
+abbrev pub IsCleanQuiet : {S H F : Type 0} → (S → Token → ℕ → Result (S × TokenSinkResult H) F) → (S → Token → Bool)
+    → (S → Bool) → (S → S) → Type 0
 IsCleanQuiet {S} step quiet cdata ends =
     (rows : List Row) (st : Stand) (breaks : ℕ) (s : S) (t : List ℕ) → is_clean_reading step quiet cdata rows st breaks s t ≡ true
     → (owed step quiet cdata ends rows st breaks s t ≡ 0) × (is_quiet_reading step quiet cdata ends rows st breaks s t ≡ true)
 
 -- a reading of which something is noted is the reading, without what was noted
-abbrev pub IsNotedReadAlike : {S H F : Type 0} → (S → Token → ℕ → Result (S × TokenSinkResult H) F) → (S → Token → Bool) → (S → Bool) → (S → S) → Type 0
+abbrev pub IsNotedReadAlike : {S H F : Type 0} → (S → Token → ℕ → Result (S × TokenSinkResult H) F)
+    → (S → Token → Bool) → (S → Bool) → (S → S) → Type 0
 IsNotedReadAlike {S} {H} step quiet cdata ends =
     (rows : List Row) (st : Stand) (breaks : ℕ) (s : S) (notes : Notes H) (t : List ℕ)
-    → without_notes (noted_reading step quiet cdata ends rows st breaks (s, notes) t) ≡ reading step (λ fault s. s) cdata ends rows st breaks s t
+    → without_notes (noted_reading step quiet cdata ends rows st breaks (s, notes) t) ≡ reading step
+    (λ fault s. s) cdata ends rows st breaks s t
 
 -- the references that escaping writes are read by a table as their characters, in text and in a value
 pub record ReadsEscapes (rows : List Row) : Type 0 where

@@ -1,5 +1,6 @@
 -- What a sink stands for that lists what it is told.
-use Rattle.std.specs.Prelude.{◌≡◌, ℕ, Bool, true, false, ◌||◌, if◌then◌else◌, List, [], ◌∷◌, ◌++◌, length, Ok, Err, IfOk, IsErr, codes, refl}
+use Rattle.std.specs.Prelude.{◌≡◌, ℕ, Bool, true, false, ◌||◌, if◌then◌else◌, List, [], ◌∷◌, ◌++◌, length, Ok, Err, IfOk, IsErr}
+use Rattle.std.specs.Prelude.{codes, refl}
 use Rattle.std.specs.Str.{bytes_eq}
 use Rattle.std.proofs.Common.{ap, append_assoc}
 use Rattle.std.proofs.lemmas.List.{append-nil}
@@ -60,7 +61,9 @@ step s t line = if s.has_ended then Err AfterEnd else Ok (listed s t line)
 abbrev whole : List ListedToken → List ℕ → Bool → Bool → Listing
 whole told text has_ended asks_cdata = record { told = told; text = text; has_ended = has_ended; asks_cdata = asks_cdata }
 
-pieces : (told : List ListedToken) (text : List ℕ) (has_ended asks_cdata : Bool) (a b : List ℕ) (line : ℕ) → (step (whole told text has_ended asks_cdata) (CharacterTokens a) line >>= λ p. step p.0 (CharacterTokens b) line) ≡ step (whole told text has_ended asks_cdata) (CharacterTokens (a ++ b)) line
+pieces : (told : List ListedToken) (text : List ℕ) (has_ended asks_cdata : Bool) (a b : List ℕ) (line : ℕ)
+    → (step (whole told text has_ended asks_cdata) (CharacterTokens a) line >>= λ p. step p.0 (CharacterTokens b)
+    line) ≡ step (whole told text has_ended asks_cdata) (CharacterTokens (a ++ b)) line
 pieces told text true asks_cdata a b line = refl
 pieces told text false asks_cdata a b line = ap (λ t. Ok (whole told t false asks_cdata, Continue)) (append_assoc text a b)
 
@@ -69,11 +72,14 @@ listed-idle s (CharacterTokens []) h line = ap (λ t. record s { text = t }) (ap
 listed-idle s (ParseError _) h line = refl
 listed-idle s _ h line = absurd h
 
-idle : (told : List ListedToken) (text : List ℕ) (has_ended asks_cdata : Bool) (t : Token) → IsIdle t → (line : ℕ) → IfOk (step (whole told text has_ended asks_cdata) t line) (λ p. p.0 ≡ whole told text has_ended asks_cdata)
+idle : (told : List ListedToken) (text : List ℕ) (has_ended asks_cdata : Bool) (t : Token) → IsIdle t → (line : ℕ)
+    → IfOk (step (whole told text has_ended asks_cdata) t line) (λ p. p.0 ≡ whole told text has_ended asks_cdata)
 idle told text true asks_cdata t h line = tt
 idle told text false asks_cdata t h line = listed-idle (whole told text false asks_cdata) t h line
 
-refused : (told : List ListedToken) (text : List ℕ) (has_ended asks_cdata : Bool) (t : Token) (line : ℕ) → IsErr (step (whole told text has_ended asks_cdata) t line) → (any : Token) (other : ℕ) → IsErr (step (whole told text has_ended asks_cdata) any other)
+refused : (told : List ListedToken) (text : List ℕ) (has_ended asks_cdata : Bool) (t : Token) (line : ℕ)
+    → IsErr (step (whole told text has_ended asks_cdata) t line) → (any : Token) (other : ℕ)
+    → IsErr (step (whole told text has_ended asks_cdata) any other)
 refused told text true asks_cdata t line h any other = refl
 refused told text false asks_cdata t line h any other = h
 
@@ -89,7 +95,8 @@ IsTagReply-text_after name =
     let style : Reply = if bytes_eq name (codes "style") || bytes_eq name (codes "xmp") then RawData Rawtext else script in
     IsTagReply-if (bytes_eq name (codes "title") || bytes_eq name (codes "textarea")) (RawData Rcdata) style refl
     (IsTagReply-if (bytes_eq name (codes "style") || bytes_eq name (codes "xmp")) (RawData Rawtext) script refl
-    (IsTagReply-if (bytes_eq name (codes "script")) (RawData ScriptData) plaintext refl (IsTagReply-if (bytes_eq name (codes "plaintext")) Plaintext Continue tt tt)))
+    (IsTagReply-if (bytes_eq name (codes "script")) (RawData ScriptData) plaintext refl
+    (IsTagReply-if (bytes_eq name (codes "plaintext")) Plaintext Continue tt tt)))
 
 IsTagReply-kind : (kind : TagKind) (name : List ℕ) (place : ℕ) → IsTagReply (reply_to_kind kind name place)
 IsTagReply-kind StartTag name place = IsTagReply-text_after name
@@ -100,11 +107,15 @@ listed-reply s (TagToken tag) line = IsTagReply-kind tag.kind tag.name (length s
 listed-reply s _ line = refl
 
 -- what holds of what a step gives, where it holds of what a token that is taken gives
-IfOk-step : (P : Listing × Reply → Type 0) (told : List ListedToken) (text : List ℕ) (has_ended asks_cdata : Bool) (t : Token) (line : ℕ) → P (listed (whole told text has_ended asks_cdata) t line) → IfOk (step (whole told text has_ended asks_cdata) t line) P
+IfOk-step : (P : Listing × Reply → Type 0) (told : List ListedToken) (text : List ℕ) (has_ended asks_cdata : Bool)
+    (t : Token) (line : ℕ) → P (listed (whole told text has_ended asks_cdata) t line)
+    → IfOk (step (whole told text has_ended asks_cdata) t line) P
 IfOk-step P told text true asks_cdata t line h = tt
 IfOk-step P told text false asks_cdata t line h = h
 
-lines : (told : List ListedToken) (text : List ℕ) (has_ended asks_cdata : Bool) (a : List ℕ) (line other : ℕ) → step (whole told text has_ended asks_cdata) (CharacterTokens a) line ≡ step (whole told text has_ended asks_cdata) (CharacterTokens a) other
+lines : (told : List ListedToken) (text : List ℕ) (has_ended asks_cdata : Bool) (a : List ℕ) (line other : ℕ)
+    → step (whole told text has_ended asks_cdata) (CharacterTokens a) line ≡ step
+    (whole told text has_ended asks_cdata) (CharacterTokens a) other
 lines told text has_ended asks_cdata a line other = refl
 
 pub listed_laws : SinkLaws (λ _. Unit {0}) step (λ s. record s { has_ended = true }) (λ _ _. true)

@@ -40,7 +40,8 @@ end_line _ line before = before
 
 -- a step of the listing, whose replies to tags are given
 abbrev pub step : {H : Type 0} → (Tag → TokenSinkResult H) → Listing → Token → ℕ → Result (Listing × TokenSinkResult H) ParseFault
-step replies s token line = Ok (record s { told = listed token line s.told; ended_at = end_line token line s.ended_at }, reply_to replies token)
+step replies s token line =
+    Ok (record s { told = listed token line s.told; ended_at = end_line token line s.ended_at }, reply_to replies token)
 
 abbrev pub end : Listing → Listing
 end s = record s { ended = is_some s.ended_at }
@@ -55,7 +56,8 @@ told_by (Err fault) = []
 
 -- the tokens of a whole stream with their lines
 abbrev pub lined : {H : Type 0} → List Row → (Tag → TokenSinkResult H) → Bool → Stand → List ℕ → List (Token × ℕ)
-lined rows replies cdata st t = told_by (reading (step replies) (λ fault s. s) (λ s. s.cdata) end rows st 0 (empty cdata) (normal_text true t))
+lined rows replies cdata st t = told_by (reading (step replies) (λ fault s. s) (λ s. s.cdata) end rows st 0
+    (empty cdata) (normal_text true t))
 
 -- the tokens of a whole stream
 abbrev pub tokens : {H : Type 0} → List Row → (Tag → TokenSinkResult H) → Bool → Stand → List ℕ → List Token

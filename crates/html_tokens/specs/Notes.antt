@@ -41,7 +41,8 @@ abbrev pub heard : {H : Type 0} → Bool → Notes H → Notes H
 heard quiet notes = record notes { is_quiet = notes.is_quiet && quiet }
 
 -- a sink of which this is noted
-abbrev pub noting : {S H F : Type 0} → (S → Token → ℕ → Result (S × TokenSinkResult H) F) → (S → Token → Bool) → S × Notes H → Token → ℕ → Result ((S × Notes H) × TokenSinkResult H) (F × ℕ)
+abbrev pub noting : {S H F : Type 0} → (S → Token → ℕ → Result (S × TokenSinkResult H) F) → (S → Token → Bool) → S
+    × Notes H → Token → ℕ → Result ((S × Notes H) × TokenSinkResult H) (F × ℕ)
 noting step quiet s token line = noted (heard (quiet s.0 token) s.1) (step s.0 token line)
 
 -- what was noted, after a fault
@@ -80,7 +81,8 @@ abbrev pub was_quiet : {S H F : Type 0} → Result (S × Notes H) F → Bool
 was_quiet (Ok p) = p.1.is_quiet
 was_quiet (Err e) = true
 
-module _ {S H F : Type 0} (step : S → Token → ℕ → Result (S × TokenSinkResult H) F) (quiet : S → Token → Bool) (cdata : S → Bool) (ends : S → S) (rows : List Row) where
+module _ {S H F : Type 0} (step : S → Token → ℕ → Result (S × TokenSinkResult H) F) (quiet : S → Token → Bool)
+    (cdata : S → Bool) (ends : S → S) (rows : List Row) where
   -- what a text makes of a sink and of what was noted before
   abbrev pub noted_reading : Stand → ℕ → S × Notes H → List ℕ → Result (S × Notes H) (F × ℕ)
   noted_reading st breaks s t = reading (noting step quiet) noting_error (noting_cdata cdata) (noting_end ends) rows st breaks s t

@@ -1,4 +1,5 @@
--- Text that only its own end tag ends, and the three modes of a script's text (HTML Standard, sections 13.2.5.2 to 13.2.5.5 and 13.2.5.9 to 13.2.5.31).
+-- Text that only its own end tag ends, and the three modes of a script's text (HTML Standard, sections 13.2.5.2 to 13.2.5.5 and 13.2.5.9
+-- to 13.2.5.31).
 use Rattle.std.specs.Prelude.{ℕ, Bool, true, false, ◌&&◌, nat_eq, List, [], ◌∷◌, map, drop, codes, Option, Some, None, if◌then◌else◌}
 use Rattle.std.specs.Char.{to_ascii_lowercase, is_ascii_alphabetic}
 use Rattle.std.specs.List.{list_all}

@@ -1,5 +1,6 @@
 -- What a whole text makes of a sink (HTML Standard, section 13.2.5).
-use Rattle.std.specs.Prelude.{ℕ, zero, suc, ◌+◌, ◌-◌, min, Bool, true, false, nat_eq, List, [], ◌∷◌, take, drop, Option, Some, None, Result, Ok}
+use Rattle.std.specs.Prelude.{ℕ, zero, suc, ◌+◌, ◌-◌, min, Bool, true, false, nat_eq, List, [], ◌∷◌, take, drop, Option, Some}
+use Rattle.std.specs.Prelude.{None, Result, Ok}
 use Rattle.html_tokens.specs.declared.replies.TokenSinkResult.{TokenSinkResult}
 use Rattle.html_tokens.specs.declared.replies.TokenSinkResult.TheVariants.{Continue, Script, Plaintext, RawData, EncodingIndicator}
 use Rattle.html_tokens.specs.declared.states.State.{State}
@@ -49,12 +50,14 @@ erred_by erred None s = s
 erred_by erred (Some fault) s = erred fault s
 
 -- what an item's token, or none, makes of a sink after so many line breaks, where its fault, if it has one, comes first
-abbrev pub said : {S H F : Type 0} → (S → Token → ℕ → Result (S × TokenSinkResult H) F) → (Fault → S → S) → Option Fault → Option Token → ℕ → S → Result (S × TokenSinkResult H) F
+abbrev pub said : {S H F : Type 0} → (S → Token → ℕ → Result (S × TokenSinkResult H) F) → (Fault → S → S)
+    → Option Fault → Option Token → ℕ → S → Result (S × TokenSinkResult H) F
 said step erred fault None breaks s = Ok (erred_by erred fault s, Continue)
 said step erred fault (Some token) breaks s = step (erred_by erred fault s) token (line_number breaks)
 
 -- over a sink: what a token makes of it, what a fault makes of it, whether it asks for CDATA sections, and what its end makes of it
-module _ {S H F : Type 0} (step : S → Token → ℕ → Result (S × TokenSinkResult H) F) (erred : Fault → S → S) (cdata : S → Bool) (ends : S → S) (rows : List Row) where
+module _ {S H F : Type 0} (step : S → Token → ℕ → Result (S × TokenSinkResult H) F) (erred : Fault → S → S)
+    (cdata : S → Bool) (ends : S → S) (rows : List Row) where
   -- what a text after n characters of it makes of a sink, where so many line breaks were read
   unfoldable pub reading_from : ℕ → Stand → ℕ → S → List ℕ → Result S F
   reading_from n st breaks s [] = said step erred (fault_at_end st.place) (Some EOFToken) breaks s >>= λ p. Ok (ends p.0)

@@ -94,7 +94,8 @@ raw_reply false false false true = Plaintext
 raw_reply false false false false = Continue
 
 abbrev pub opens_raw : TagKind → List ℕ → TokenSinkResult ℕ
-opens_raw StartTag name = raw_reply (bytes_eq name (codes "title")) (bytes_eq name (codes "style")) (bytes_eq name (codes "script")) (bytes_eq name (codes "plaintext"))
+opens_raw StartTag name = raw_reply (bytes_eq name (codes "title")) (bytes_eq name (codes "style"))
+    (bytes_eq name (codes "script")) (bytes_eq name (codes "plaintext"))
 opens_raw EndTag name = Continue
 
 abbrev pub raw_text : Tag → TokenSinkResult ℕ

@@ -9,13 +9,16 @@ doctype_rows =
     ∷ row "<!DocTypehtml><!DOCTYPE  Ht-Ml  >" (doctype (yes "html") no no ∷ doctype (yes "ht-ml") no no ∷ [])
     ∷ row "<!DOCTYPE html PUBLIC \"a\">" (doctype (yes "html") (yes "a") no ∷ [])
     ∷ row "<!DOCTYPE html public 'A\"' \"B'\" >" (doctype (yes "html") (yes "A\"") (yes "B'") ∷ [])
-    ∷ row "<!DOCTYPE html PUBLIC'a'\"b\"><!DOCTYPE html PUBLIC \"\" ''>" (doctype (yes "html") (yes "a") (yes "b") ∷ doctype (yes "html") (yes "") (yes "") ∷ [])
-    ∷ row "<!doctype html SYSTEM 'about:legacy-compat'><!doctype html system\"\">" (doctype (yes "html") no (yes "about:legacy-compat") ∷ doctype (yes "html") no (yes "") ∷ [])
+    ∷ row "<!DOCTYPE html PUBLIC'a'\"b\"><!DOCTYPE html PUBLIC \"\" ''>"
+    (doctype (yes "html") (yes "a") (yes "b") ∷ doctype (yes "html") (yes "") (yes "") ∷ [])
+    ∷ row "<!doctype html SYSTEM 'about:legacy-compat'><!doctype html system\"\">"
+    (doctype (yes "html") no (yes "about:legacy-compat") ∷ doctype (yes "html") no (yes "") ∷ [])
     ∷ row "<!DOCTYPE html SYSTEM \"a\" x 'y>z" (doctype (yes "html") no (yes "a") ∷ text "z" ∷ [])
     ∷ row "<!DOCTYPE html SYSTEM \"a\" x" (doctype (yes "html") no (yes "a") ∷ [])
     ∷ row "<!DOCTYPE html PUBLIC \"a\" \"b\" x" (doctype (yes "html") (yes "a") (yes "b") ∷ [])
     -- U+0000 and line breaks
-    ∷ row_of (codes "<!DOCTYPE" ++ 10 ∷ 0 ∷ codes "H" ++ 13 ∷ codes "SYSTEM'" ++ 0 ∷ codes "'>") (doctype (Some (0xFFFD ∷ codes "h")) no (Some (0xFFFD ∷ [])) ∷ [])
+    ∷ row_of (codes "<!DOCTYPE" ++ 10 ∷ 0 ∷ codes "H" ++ 13 ∷ codes "SYSTEM'" ++ 0 ∷ codes "'>")
+    (doctype (Some (0xFFFD ∷ codes "h")) no (Some (0xFFFD ∷ [])) ∷ [])
     ∷ row_of (codes "<!DOCTYPE h PUBLIC \"" ++ 0 ∷ codes "\">") (doctype (yes "h") (Some (0xFFFD ∷ [])) no ∷ [])
     -- no name
     ∷ row "<!DOCTYPE>" (quirky no no no ∷ [])

@@ -50,7 +50,9 @@ AreErrorRowsRead =
 abbrev pub clean_rows : List (List ℕ)
 clean_rows =
     codes ""
-    ∷ codes "<!DOCTYPE html><html><head><title>a&amp;b</title></head><body><p class=\"b c\" id=\"&quot;&nbsp;>\">x</p><h1>y</h1></body></html>"
+    ∷
+    codes
+    "<!DOCTYPE html><html><head><title>a&amp;b</title></head><body><p class=\"b c\" id=\"&quot;&nbsp;>\">x</p><h1>y</h1></body></html>"
     ∷ codes "<a >&lt;p>"
     ∷ codes "<input disabled><a b c = \"d\" e>"
     ∷ codes "<!----><!--a--><p><!-- b!&c\"d' --></p>"
@@ -59,13 +61,19 @@ clean_rows =
 
 abbrev pub unclean_rows : List (List ℕ)
 unclean_rows =
-    codes "a & b" ∷ codes "a < b" ∷ codes "&amp" ∷ codes "&#38;" ∷ codes "<P>" ∷ codes "<br/>" ∷ codes "<a b=>" ∷ codes "<a b =c>" ∷ codes "<a b/>" ∷ codes "<a b='c'>" ∷ codes "<a b=c>"
-    ∷ codes "<a b=\"c\"d=\"e\">" ∷ codes "<a b=\"c\" b=\"d\">" ∷ codes "<a B=\"c\">" ∷ codes "<a b=\"<\">" ∷ codes "<a b=\"&\">" ∷ codes "</a b=\"c\">" ∷ codes "<a b=\"c\""
-    ∷ codes "<!doctype html>" ∷ codes "<!DOCTYPE html >" ∷ codes "</>" ∷ codes "<?>" ∷ codes "<a-B>" ∷ codes "<title></Title>" ∷ codes "<title><" ∷ (0 ∷ [])
-    ∷ codes "<!--a-b-->" ∷ codes "<!-----" ∷ codes "<!-----><p>" ∷ codes "<!--<-->" ∷ codes "<!--a>b-->" ∷ (codes "<!--a" ++ 0 ∷ codes "-->") ∷ codes "<!-->" ∷ codes "<!--->" ∷ codes "<!--a--!>" ∷ codes "<!--a" ∷ codes "<!--a--" ∷ codes "<!-a-->" ∷ codes "<!a>" ∷ codes "<?a>" ∷ []
+    codes "a & b" ∷ codes "a < b" ∷ codes "&amp" ∷ codes "&#38;" ∷ codes "<P>" ∷ codes "<br/>" ∷ codes "<a b=>" ∷
+    codes "<a b =c>" ∷ codes "<a b/>" ∷ codes "<a b='c'>" ∷ codes "<a b=c>"
+    ∷ codes "<a b=\"c\"d=\"e\">" ∷ codes "<a b=\"c\" b=\"d\">" ∷ codes "<a B=\"c\">" ∷ codes "<a b=\"<\">" ∷
+    codes "<a b=\"&\">" ∷ codes "</a b=\"c\">" ∷ codes "<a b=\"c\""
+    ∷ codes "<!doctype html>" ∷ codes "<!DOCTYPE html >" ∷ codes "</>" ∷ codes "<?>" ∷ codes "<a-B>" ∷
+    codes "<title></Title>" ∷ codes "<title><" ∷ (0 ∷ [])
+    ∷ codes "<!--a-b-->" ∷ codes "<!-----" ∷ codes "<!-----><p>" ∷ codes "<!--<-->" ∷ codes "<!--a>b-->" ∷
+    (codes "<!--a" ++ 0 ∷ codes "-->") ∷ codes "<!-->" ∷ codes "<!--->" ∷ codes "<!--a--!>" ∷ codes "<!--a" ∷
+    codes "<!--a--" ∷ codes "<!-a-->" ∷ codes "<!a>" ∷ codes "<?a>" ∷ []
 
 abbrev pub is_clean_of : List ℕ → Bool
 is_clean_of t = is_clean_reading (step raw_text) (λ s token. true) (λ s. s.cdata) five data_stand 0 (empty false) (normal_text true t)
 
 abbrev pub AreCleanRowsRead : Type 0
-AreCleanRowsRead = (map is_clean_of clean_rows ≡ map (λ t. true) clean_rows) × (map is_clean_of unclean_rows ≡ map (λ t. false) unclean_rows)
+AreCleanRowsRead = (map is_clean_of clean_rows ≡ map (λ t. true) clean_rows)
+    × (map is_clean_of unclean_rows ≡ map (λ t. false) unclean_rows)

@@ -1,20 +1,24 @@
 -- Worked rows: tags and attributes.
 use Rattle.std.specs.Prelude.{false, [], ◌∷◌, ◌++◌, codes}
-use Rattle.html_tokens.specs.RowForms.{Rows, AreRead, row, row_of, text, comment, at, at_of, start, start_of, end, closed, repeated, goes_on, data_stand, five}
+use Rattle.html_tokens.specs.RowForms.{Rows, AreRead, row, row_of, text, comment, at, at_of, start, start_of, end, closed}
+use Rattle.html_tokens.specs.RowForms.{repeated, goes_on, data_stand, five}
 
 abbrev pub tag_rows : Rows
 tag_rows =
     row "<A B=1 b=2 =c d>" (repeated (start "a" (at "b" "1" ∷ at "=c" "" ∷ at "d" "" ∷ [])) ∷ [])
-    ∷ row "<a b=>c<a b=c/><a/ b/>" (start "a" (at "b" "" ∷ []) ∷ text "c" ∷ start "a" (at "b" "c/" ∷ []) ∷ closed (start "a" (at "b" "" ∷ [])) ∷ [])
+    ∷ row "<a b=>c<a b=c/><a/ b/>"
+    (start "a" (at "b" "" ∷ []) ∷ text "c" ∷ start "a" (at "b" "c/" ∷ []) ∷ closed (start "a" (at "b" "" ∷ [])) ∷ [])
     -- names
     ∷ row "<P></P><H1><a-B:c.1>" (start "p" [] ∷ end "p" [] ∷ start "h1" [] ∷ start "a-b:c.1" [] ∷ [])
     ∷ row "<a<b>" (start "a<b" [] ∷ [])
     ∷ row_of (codes "<a" ++ 0xC9 ∷ codes ">") (start_of (codes "a" ++ 0xC9 ∷ []) [] ∷ [])
     ∷ row_of (codes "<a" ++ 0 ∷ codes "b>") (start_of (codes "a" ++ 0xFFFD ∷ codes "b") [] ∷ [])
     -- white space in tags
-    ∷ row_of (codes "<a" ++ 10 ∷ codes "b" ++ 9 ∷ codes "c" ++ 12 ∷ codes "d" ++ 13 ∷ codes "e >") (start "a" (at "b" "" ∷ at "c" "" ∷ at "d" "" ∷ at "e" "" ∷ []) ∷ [])
+    ∷ row_of (codes "<a" ++ 10 ∷ codes "b" ++ 9 ∷ codes "c" ++ 12 ∷ codes "d" ++ 13 ∷ codes "e >")
+    (start "a" (at "b" "" ∷ at "c" "" ∷ at "d" "" ∷ at "e" "" ∷ []) ∷ [])
     -- "/" before ">"
-    ∷ row "<a/><br /><a//><a b='c'/>" (closed (start "a" []) ∷ closed (start "br" []) ∷ closed (start "a" []) ∷ closed (start "a" (at "b" "c" ∷ [])) ∷ [])
+    ∷ row "<a/><br /><a//><a b='c'/>"
+    (closed (start "a" []) ∷ closed (start "br" []) ∷ closed (start "a" []) ∷ closed (start "a" (at "b" "c" ∷ [])) ∷ [])
     ∷ row "<a / ><a/b><a b/ c>" (start "a" [] ∷ start "a" (at "b" "" ∷ []) ∷ start "a" (at "b" "" ∷ at "c" "" ∷ []) ∷ [])
     ∷ row "<a b= /><a =/>" (start "a" (at "b" "/" ∷ []) ∷ closed (start "a" (at "=" "" ∷ [])) ∷ [])
     -- how an attribute ends: by white space, "/", ">", "=", a quote or the next attribute
@@ -24,12 +28,15 @@ tag_rows =
     ∷ row "<a b='' c=\"\">" (start "a" (at "b" "" ∷ at "c" "" ∷ []) ∷ [])
     ∷ row "<a b='\"<>' c=\"'=/\">" (start "a" (at "b" "\"<>" ∷ at "c" "'=/" ∷ []) ∷ [])
     ∷ row "<a b=c\"d'e<f`=g>" (start "a" (at "b" "c\"d'e<f`=g" ∷ []) ∷ [])
-    ∷ row "<a =><a ==><a ===b><a =b=c>" (start "a" (at "=" "" ∷ []) ∷ start "a" (at "=" "" ∷ []) ∷ start "a" (at "=" "=b" ∷ []) ∷ start "a" (at "=b" "c" ∷ []) ∷ [])
+    ∷ row "<a =><a ==><a ===b><a =b=c>"
+    (start "a" (at "=" "" ∷ []) ∷ start "a" (at "=" "" ∷ []) ∷ start "a" (at "=" "=b" ∷ []) ∷ start "a" (at "=b" "c" ∷ []) ∷ [])
     ∷ row "<a b\"c='d'e <f>" (start "a" (at "b\"c" "d" ∷ at "e" "" ∷ at "<f" "" ∷ []) ∷ [])
     ∷ row "<a 'b' \"c\">" (start "a" (at "'b'" "" ∷ at "\"c\"" "" ∷ []) ∷ [])
     ∷ row "<a B=X dAtA-X='Y'>" (start "a" (at "b" "X" ∷ at "data-x" "Y" ∷ []) ∷ [])
     ∷ row "<a b='&amp;&lt;' c=&amp; d=\"&quot;\" e=&amp>" (start "a" (at "b" "&<" ∷ at "c" "&" ∷ at "d" "\"" ∷ at "e" "&amp" ∷ []) ∷ [])
-    ∷ row_of (codes "<a " ++ 0 ∷ codes "=" ++ 0 ∷ codes " c" ++ 0 ∷ codes "='" ++ 0 ∷ codes "' d=\"" ++ 0 ∷ codes "\">") (start_of (codes "a") (at_of (0xFFFD ∷ []) (0xFFFD ∷ []) ∷ at_of (codes "c" ++ 0xFFFD ∷ []) (0xFFFD ∷ []) ∷ at_of (codes "d") (0xFFFD ∷ []) ∷ []) ∷ [])
+    ∷ row_of (codes "<a " ++ 0 ∷ codes "=" ++ 0 ∷ codes " c" ++ 0 ∷ codes "='" ++ 0 ∷ codes "' d=\"" ++ 0 ∷
+    codes "\">") (start_of (codes "a") (at_of (0xFFFD ∷ []) (0xFFFD ∷ []) ∷ at_of (codes "c" ++ 0xFFFD ∷ [])
+    (0xFFFD ∷ []) ∷ at_of (codes "d") (0xFFFD ∷ []) ∷ []) ∷ [])
     ∷ row_of (codes "<a b='x" ++ 13 ∷ 10 ∷ codes "y'>") (start_of (codes "a") (at_of (codes "b") (codes "x" ++ 10 ∷ codes "y") ∷ []) ∷ [])
     -- attributes of one name
     ∷ row "<a b=1 B=2 b c b='3'>" (repeated (start "a" (at "b" "1" ∷ at "c" "" ∷ [])) ∷ [])

@@ -30,8 +30,12 @@ text_rows =
     ∷ row "&#99999999999999999999999999;" (text_of (0xFFFD ∷ []) ∷ [])
     ∷ row "&#10;&#13;&#1;&#127;" (text_of (10 ∷ 13 ∷ 1 ∷ 127 ∷ []) ∷ [])
     ∷ row "&#0x;" (text_of (0xFFFD ∷ codes "x;") ∷ [])
-    ∷ row "&#128;&#129;&#130;&#131;&#132;&#133;&#134;&#135;&#136;&#137;&#138;&#139;&#140;&#141;&#142;&#143;" (text_of (0x20AC ∷ 0x81 ∷ 0x201A ∷ 0x0192 ∷ 0x201E ∷ 0x2026 ∷ 0x2020 ∷ 0x2021 ∷ 0x02C6 ∷ 0x2030 ∷ 0x0160 ∷ 0x2039 ∷ 0x0152 ∷ 0x8D ∷ 0x017D ∷ 0x8F ∷ []) ∷ [])
-    ∷ row "&#144;&#145;&#146;&#147;&#148;&#149;&#150;&#151;&#152;&#153;&#154;&#155;&#156;&#157;&#158;&#159;" (text_of (0x90 ∷ 0x2018 ∷ 0x2019 ∷ 0x201C ∷ 0x201D ∷ 0x2022 ∷ 0x2013 ∷ 0x2014 ∷ 0x02DC ∷ 0x2122 ∷ 0x0161 ∷ 0x203A ∷ 0x0153 ∷ 0x9D ∷ 0x017E ∷ 0x0178 ∷ []) ∷ [])
+    ∷ row "&#128;&#129;&#130;&#131;&#132;&#133;&#134;&#135;&#136;&#137;&#138;&#139;&#140;&#141;&#142;&#143;"
+    (text_of (0x20AC ∷ 0x81 ∷ 0x201A ∷ 0x0192 ∷ 0x201E ∷ 0x2026 ∷ 0x2020 ∷ 0x2021 ∷ 0x02C6 ∷ 0x2030 ∷ 0x0160 ∷
+    0x2039 ∷ 0x0152 ∷ 0x8D ∷ 0x017D ∷ 0x8F ∷ []) ∷ [])
+    ∷ row "&#144;&#145;&#146;&#147;&#148;&#149;&#150;&#151;&#152;&#153;&#154;&#155;&#156;&#157;&#158;&#159;"
+    (text_of (0x90 ∷ 0x2018 ∷ 0x2019 ∷ 0x201C ∷ 0x201D ∷ 0x2022 ∷ 0x2013 ∷ 0x2014 ∷ 0x02DC ∷ 0x2122 ∷ 0x0161 ∷
+    0x203A ∷ 0x0153 ∷ 0x9D ∷ 0x017E ∷ 0x0178 ∷ []) ∷ [])
     -- named references
     ∷ row "&amp&amp;" (text "&amp&" ∷ [])
     ∷ row "&lt;&gt;&quot;&nbsp;&apos;" (text_of (codes "<>\"" ++ 0xA0 ∷ codes "&apos;") ∷ [])
@@ -57,8 +61,12 @@ longest_rows =
     ∷ row "&acE;" (text_of (0x223E ∷ 0x333 ∷ []) ∷ [])
     -- in an attribute's value a name without ";" is text where it goes on
     ∷ row "<a b=\"&notit\" c=\"&not=\" d=\"&not\">" (start "a" (at "b" "&notit" ∷ at "c" "&not=" ∷ at_of (codes "d") (0xAC ∷ []) ∷ []) ∷ [])
-    ∷ row "<a b=&not c='&not;' d=&not1 e='&not x' f=&not>" (start "a" (at_of (codes "b") (0xAC ∷ []) ∷ at_of (codes "c") (0xAC ∷ codes ";") ∷ at "d" "&not1" ∷ at_of (codes "e") (0xAC ∷ codes " x") ∷ at_of (codes "f") (0xAC ∷ []) ∷ []) ∷ [])
-    ∷ row "<a b='&notin;x' c='&acE;' d='&#65' e=&#65b f='&' g=&&>" (start "a" (at_of (codes "b") (0x2209 ∷ codes "x") ∷ at_of (codes "c") (0x223E ∷ 0x333 ∷ []) ∷ at "d" "A" ∷ at "e" "Ab" ∷ at "f" "&" ∷ at "g" "&&" ∷ []) ∷ [])
+    ∷ row "<a b=&not c='&not;' d=&not1 e='&not x' f=&not>"
+    (start "a" (at_of (codes "b") (0xAC ∷ []) ∷ at_of (codes "c") (0xAC ∷ codes ";") ∷ at "d" "&not1" ∷
+    at_of (codes "e") (0xAC ∷ codes " x") ∷ at_of (codes "f") (0xAC ∷ []) ∷ []) ∷ [])
+    ∷ row "<a b='&notin;x' c='&acE;' d='&#65' e=&#65b f='&' g=&&>"
+    (start "a" (at_of (codes "b") (0x2209 ∷ codes "x") ∷ at_of (codes "c") (0x223E ∷ 0x333 ∷ []) ∷ at "d" "A" ∷
+    at "e" "Ab" ∷ at "f" "&" ∷ at "g" "&&" ∷ []) ∷ [])
     ∷ row "<a b='&#34;' c=&#62;>" (start "a" (at "b" "\"" ∷ at "c" ">" ∷ []) ∷ [])
     ∷ []
 

@@ -105,12 +105,15 @@ pub record SinkLaws {S : Type 0} (is_sound : S → Type 0) (step : Step S) (ende
   pub keeps : (s : S) → is_sound s → (t : Token) (line : ℕ) → IfOk (step s t line) (λ p. is_sound p.0)
   pub ends : (s : S) → is_sound s → is_sound (ended s)
   -- text in two pieces is as in one, and its line is of no account
-  pub pieces : (s : S) → is_sound s → (a b : List ℕ) (line : ℕ) → (step s (CharacterTokens a) line >>= λ p. step p.0 (CharacterTokens b) line) ≡ step s (CharacterTokens (a ++ b)) line
+  pub pieces : (s : S) → is_sound s → (a b : List ℕ) (line : ℕ)
+      → (step s (CharacterTokens a) line >>= λ p. step p.0 (CharacterTokens b) line) ≡ step s (CharacterTokens (a ++ b)) line
   pub lines : (s : S) → is_sound s → (a : List ℕ) (line other : ℕ) → step s (CharacterTokens a) line ≡ step s (CharacterTokens a) other
   -- empty text and errors change nothing, and are refused only where every token is
   pub idle : (s : S) → is_sound s → (t : Token) → IsIdle t → (line : ℕ) → IfOk (step s t line) (λ p. p.0 ≡ s)
-  pub idle_refused : (s : S) → is_sound s → (t : Token) → IsIdle t → (line : ℕ) → IsErr (step s t line) → (any : Token) (other : ℕ) → IsErr (step s any other)
+  pub idle_refused : (s : S) → is_sound s → (t : Token) → IsIdle t → (line : ℕ) → IsErr (step s t line)
+      → (any : Token) (other : ℕ) → IsErr (step s any other)
   -- only a tag is answered by more than that reading goes on
   pub replies : (s : S) → is_sound s → (t : Token) (line : ℕ) → IfOk (step s t line) (λ p. IsReplyTo t p.1)
   -- text in two pieces is quiet exactly if both are
-  pub quiet : (s : S) → is_sound s → (a b : List ℕ) (line : ℕ) → IfOk (step s (CharacterTokens a) line) (λ p. is_quiet s (CharacterTokens (a ++ b)) ≡ (is_quiet s (CharacterTokens a) && is_quiet p.0 (CharacterTokens b)))
+  pub quiet : (s : S) → is_sound s → (a b : List ℕ) (line : ℕ) → IfOk (step s (CharacterTokens a) line)
+      (λ p. is_quiet s (CharacterTokens (a ++ b)) ≡ (is_quiet s (CharacterTokens a) && is_quiet p.0 (CharacterTokens b)))

@@ -1,5 +1,6 @@
 -- Tags and their attributes (HTML Standard, sections 13.2.5.8 and 13.2.5.32 to 13.2.5.40).
-use Rattle.std.specs.Prelude.{ℕ, zero, suc, Bool, true, false, ◌||◌, not, nat_eq, List, [], ◌∷◌, ◌++◌, take, drop, codes, Option, Some, None, is_some, if◌then◌else◌}
+use Rattle.std.specs.Prelude.{ℕ, zero, suc, Bool, true, false, ◌||◌, not, nat_eq, List, [], ◌∷◌, ◌++◌, take, drop, codes}
+use Rattle.std.specs.Prelude.{Option, Some, None, is_some, if◌then◌else◌}
 use Rattle.std.specs.List.{list_any}
 use Rattle.std.specs.Str.{bytes_eq}
 use Rattle.markup.specs.declared.attributes.Attribute.{Attribute}
@@ -7,7 +8,8 @@ use Rattle.html_tokens.specs.declared.tags.Tag.{Tag}
 use Rattle.html_tokens.specs.declared.tags.TagKind.{TagKind}
 use Rattle.html_tokens.specs.declared.tags.TagKind.TheVariants.{StartTag, EndTag}
 use Rattle.html_tokens.specs.declared.token.Token.TheVariants.{TagToken}
-use Rattle.html_tokens.specs.Characters.{is_white_space, ends_tag_name, ends_attribute_name, ends_word, shown, is_null, has_null, lowered, all_lowered, run, white, begins}
+use Rattle.html_tokens.specs.Characters.{is_white_space, ends_tag_name, ends_attribute_name, ends_word, shown, is_null}
+use Rattle.html_tokens.specs.Characters.{has_null, lowered, all_lowered, run, white, begins}
 use Rattle.html_tokens.specs.Table.{Row}
 use Rattle.html_tokens.specs.Reference.{Reference, reference_at, fault_of_reference}
 use Rattle.html_tokens.specs.Item.{InData, InTag, Stand, moved, Item, longer, longer_by, marked, silent, token_item, grave_if}
@@ -60,7 +62,8 @@ reference_len (Some r) = r.len
 -- a value by whether it ends here and whether a reference may stand here; `go` has what follows so many characters
 abbrev pub value_by : List Row → Bool → Bool → Bool → ℕ → List ℕ → (ℕ → Value) → Value
 value_by rows odd true amp c t go = no_more
-value_by rows odd false true c t go = later (is_some (fault_of_reference rows t)) (reference_chars (reference_at true rows t)) (go (reference_len (reference_at true rows t)))
+value_by rows odd false true c t go = later (is_some (fault_of_reference rows t))
+    (reference_chars (reference_at true rows t)) (go (reference_len (reference_at true rows t)))
 value_by rows odd false false c t go = later odd (shown c ∷ []) (go 0)
 
 -- what a value still has after n characters, up to its end or the end of input (sections 13.2.5.36 to 13.2.5.38)

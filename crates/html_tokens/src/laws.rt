@@ -1,6 +1,8 @@
 //! Laws over the definitions of tokenizing. Each function's contract is one law.
 ghost use Rattle.std.specs.Prelude.{⊤};
-ghost use Rattle.html_tokens.specs.Laws.{IsCleanQuiet, IsItemInText, IsReadByItems, IsSkipped, AreNewlinesJoined, IsCutAnywhere, IsNotedReadAlike, IsRunOneText, IsOwnNormalText, IsFirstKept, IsEachTokenSound, ReadsEscapes, AreLinesCounted, JoinsText};
+ghost use Rattle.html_tokens.specs.Laws.{IsCleanQuiet, IsItemInText, IsReadByItems, IsSkipped, AreNewlinesJoined};
+ghost use Rattle.html_tokens.specs.Laws.{IsCutAnywhere, IsNotedReadAlike, IsRunOneText, IsOwnNormalText, IsFirstKept};
+ghost use Rattle.html_tokens.specs.Laws.{IsEachTokenSound, ReadsEscapes, AreLinesCounted, JoinsText};
 ghost use Rattle.html_tokens.specs.RowForms.{five, raw_text};
 ghost use Rattle.html_tokens.specs.Listing;
 ghost use Rattle.html_tokens.specs.TagEquality.{IsTagEquivalence};

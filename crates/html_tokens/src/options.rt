@@ -23,7 +23,12 @@ pub struct TokenizerOpts {
 impl Default for TokenizerOpts {
     ghost use Rattle.std.specs.Prelude.{◌≡◌, true, false, None};
 
-    ghost is_default = { λ opts. opts ≡ record { exact_errors = false; discard_bom = true; initial_state = None; last_start_tag_name = None } };
+    ghost is_default = { λ opts. opts ≡ record {
+      exact_errors = false;
+      discard_bom = true;
+      initial_state = None;
+      last_start_tag_name = None;
+    } };
 
     fn default() -> TokenizerOpts {
         TokenizerOpts {

@@ -18,8 +18,10 @@ where
     S::Handle: Drop,
     requires sound { S.is_sound (S.view sink.old) }
     requires some { 0 < vec_len pieces }
-    ensures whole { (line : ℕ) → OnOk result (S.step (S.view sink.old) (CharacterTokens (joined pieces.items)) line ≡ Ok (S.view sink.new, Continue)) }
-    ensures refused { (line : ℕ) → IfErr result (λ fault. Refuses (S.step (S.view sink.old) (CharacterTokens (joined pieces.items)) line) fault) }
+    ensures whole { (line : ℕ)
+        → OnOk result (S.step (S.view sink.old) (CharacterTokens (joined pieces.items)) line ≡ Ok (S.view sink.new, Continue)) }
+    ensures refused { (line : ℕ)
+        → IfErr result (λ fault. Refuses (S.step (S.view sink.old) (CharacterTokens (joined pieces.items)) line) fault) }
     ensures failed_before { tells_failed result ≡ S.has_failed sink.old }
     ensures failed_after { S.has_failed sink.new ≡ fails result }
     ensures sound { S.has_failed sink.new ≡ false → S.is_sound (S.view sink.new) }

@@ -87,7 +87,8 @@ pub trait TokenSink {
         ensures failed_after { has_failed self.new ≡ fails result }
         ensures unchanged { OnRefused result (view self.new ≡ view self.old) }
         ensures same_errors { OnRefused result (errors self.new ≡ errors self.old) }
-        ensures counts { Counts (is_quiet (view self.old) (TagToken tag.old)) (TagToken tag.old) result (errors self.old) (errors self.new) }
+        ensures counts { Counts (is_quiet (view self.old) (TagToken tag.old)) (TagToken tag.old) result
+            (errors self.old) (errors self.new) }
         ensures sound { has_failed self.new ≡ false → is_sound (view self.new) }
         ensures same_references { references self.new ≡ references self.old }
     {

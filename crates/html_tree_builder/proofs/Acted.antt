@@ -19,8 +19,10 @@ pub stands-of : (a : Answers) (b : Building) (f : Forest) → Grounded (state_of
 stands-of a b f h = record { standing = h.standing; head = h.head; form = h.form; context = h.context }
 
 -- a construction and a tree that are what the action makes of others
-pub acted-stands : (a : Answers) (b c : Building) (f g : Forest) (action : Action) (t : Token) → MayAct action t (state_of a b f) → Stands f b → state_of a c g ≡ act action t (state_of a b f) → Stands g c
-acted-stands a b c f g action t may h is = stands-of a c g (subst Grounded (sym is) (act-grounded action t (state_of a b f) may (grounded-of a b f h)))
+pub acted-stands : (a : Answers) (b c : Building) (f g : Forest) (action : Action) (t : Token)
+    → MayAct action t (state_of a b f) → Stands f b → state_of a c g ≡ act action t (state_of a b f) → Stands g c
+acted-stands a b c f g action t may h is =
+    stands-of a c g (subst Grounded (sym is) (act-grounded action t (state_of a b f) may (grounded-of a b f h)))
 
 -- what a sink answers
 abbrev pub its_answers : {K H O : Type 0} → Ghosts K H O → Answers
@@ -32,4 +34,8 @@ acted-as t s made a b is h = h ∙ ap (λ x. act (action_of x) t s) (sym is)
 
 -- some answers of a sink
 pub no_answers : Answers
-no_answers = record { integration_point = λ f n. false; allows_shadow_roots = λ f n. false; attaches_shadow = λ f host template attributes. false }
+no_answers = record {
+  integration_point = λ f n. false;
+  allows_shadow_roots = λ f n. false;
+  attaches_shadow = λ f host template attributes. false;
+}

@@ -23,7 +23,8 @@ record IsTopped (f : Forest) : Type 0 where
 topped : (f g : Forest) → g ≡ f → IsForest g → HasContents g → above_of f 0 ≡ None → IsTopped g
 topped f g e forest contents top = record { tree = record { forest = forest; contents = contents }; top = ap (λ x. above_of x 0) e ∙ top }
 
-pub document-usable : (setting : Setting) (f g : Forest) (s : State) → g ≡ f → IsForest g → HasContents g → above_of f 0 ≡ None → s ≡ before_document setting g → Usable (hushed s)
+pub document-usable : (setting : Setting) (f g : Forest) (s : State) → g ≡ f → IsForest g → HasContents g
+    → above_of f 0 ≡ None → s ≡ before_document setting g → Usable (hushed s)
 document-usable setting f g s e forest contents top is =
     let at = topped f g e forest contents top in
     subst (λ x. Usable (hushed x)) (sym is) (states-usable.document setting g at.tree at.top)
@@ -47,21 +48,28 @@ some-node : (f : Forest) (n : ℕ) (o : Option QualName) → element_name (data_
 some-node f n None e h = absurd (true≢false (sym h))
 some-node f n (Some name) e h = element-IsNode f n name e
 
-named-same : (f g : Forest) (o : Option ℕ) → g ≡ f → IfSome o (λ n. element_name (data_of f n) ≡ Some (element_name_of Html (codes "form"))) → IfSome o (λ n. element_name (data_of g n) ≡ Some (element_name_of Html (codes "form")))
+named-same : (f g : Forest) (o : Option ℕ) → g ≡ f
+    → IfSome o (λ n. element_name (data_of f n) ≡ Some (element_name_of Html (codes "form")))
+    → IfSome o (λ n. element_name (data_of g n) ≡ Some (element_name_of Html (codes "form")))
 named-same f g o e h = subst (λ x. IfSome o (λ n. element_name (data_of x n) ≡ Some (element_name_of Html (codes "form")))) (sym e) h
 
-form-there : (f : Forest) (o : Option ℕ) → IfSome o (λ n. element_name (data_of f n) ≡ Some (element_name_of Html (codes "form"))) → IfSome o (IsNode f)
+form-there : (f : Forest) (o : Option ℕ)
+    → IfSome o (λ n. element_name (data_of f n) ≡ Some (element_name_of Html (codes "form"))) → IfSome o (IsNode f)
 form-there f None h = tt
 form-there f (Some n) h = element-IsNode f n (element_name_of Html (codes "form")) h
 
 -- a form is a node
-pub form-node : (f g : Forest) (o : Option ℕ) → g ≡ f → IfSome o (λ n. element_name (data_of f n) ≡ Some (element_name_of Html (codes "form"))) → IfSome o (IsNode g)
+pub form-node : (f g : Forest) (o : Option ℕ) → g ≡ f
+    → IfSome o (λ n. element_name (data_of f n) ≡ Some (element_name_of Html (codes "form"))) → IfSome o (IsNode g)
 form-node f g o e h = form-there g o (named-same f g o e h)
 
-pub fragment-usable : (setting : Setting) (n : ℕ) (form : Option ℕ) (f g : Forest) (s : State) → g ≡ f → IsForest g → HasContents g → above_of f 0 ≡ None → IsSome (element_name (data_of f n)) → IfSome form (λ n. element_name (data_of f n) ≡ Some (element_name_of Html (codes "form")))
+pub fragment-usable : (setting : Setting) (n : ℕ) (form : Option ℕ) (f g : Forest) (s : State) → g ≡ f → IsForest g
+    → HasContents g → above_of f 0 ≡ None → IsSome (element_name (data_of f n))
+    → IfSome form (λ n. element_name (data_of f n) ≡ Some (element_name_of Html (codes "form")))
     → s ≡ before_fragment setting (context_in g n) form g → Usable (hushed s)
 fragment-usable setting n form f g s e forest contents top context named is =
     let at = topped f g e forest contents top in
     let there = subst (λ x. IsSome (element_name (data_of x n))) (sym e) context in
     subst (λ x. Usable (hushed x)) (sym is)
-    (states-usable.fragment setting (context_in g n) form g at.tree at.top (named-own n (element_name (data_of g n))) (some-node g n (element_name (data_of g n)) refl there) (named-same f g form e named))
+    (states-usable.fragment setting (context_in g n) form g at.tree at.top
+    (named-own n (element_name (data_of g n))) (some-node g n (element_name (data_of g n)) refl there) (named-same f g form e named))

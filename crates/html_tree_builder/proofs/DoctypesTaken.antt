@@ -12,7 +12,8 @@ use Rattle.html_rules.specs.Step.{first_doctype_taken, if_kept}
 use Rattle.html_rules.specs.declared.insertion_mode.InsertionMode.TheVariants.{BeforeHtml}
 
 -- it is not dropped
-pub kept-doctype : (drop_doctype : Bool) (d : Doctype) (s r : State) → drop_doctype ≡ false → r ≡ append_doctype_to_document d s → r ≡ if_kept drop_doctype d s
+pub kept-doctype : (drop_doctype : Bool) (d : Doctype) (s r : State) → drop_doctype ≡ false
+    → r ≡ append_doctype_to_document d s → r ≡ if_kept drop_doctype d s
 kept-doctype drop_doctype d s r e is = rw e is
 
 -- told, put, laid out, and after it the mode
@@ -26,4 +27,5 @@ first-doctype d s told put laid r is_error iframe_srcdoc q error is_told is_put 
     ∙ ap (set_mode BeforeHtml)
     (is_laid
     ∙ ap (λ m. set_quirks_mode m put) (quirks ∙ ap (λ b. quirks_of b d) srcdoc)
-    ∙ ap (set_quirks_mode (quirks_of s.opts.iframe_srcdoc d)) (is_put ∙ ap (if_kept s.opts.drop_doctype d) (is_told ∙ ap (λ b. choose b (λ _. parse_error s) (λ _. s)) error)))
+    ∙ ap (set_quirks_mode (quirks_of s.opts.iframe_srcdoc d))
+    (is_put ∙ ap (if_kept s.opts.drop_doctype d) (is_told ∙ ap (λ b. choose b (λ _. parse_error s) (λ _. s)) error)))

@@ -15,7 +15,8 @@ is_some-number_if node None = refl
 is_some-number_if node (Some handle) = refl
 
 -- a construction whose mode is the one that is asked for
-pub reset-by : (a : Answers) (b c : Building) (f : Forest) → c ≡ record b { mode = (reset_insertion_mode (state_of a b f)).mode } → state_of a c f ≡ reset_insertion_mode (state_of a b f)
+pub reset-by : (a : Answers) (b c : Building) (f : Forest)
+    → c ≡ record b { mode = (reset_insertion_mode (state_of a b f)).mode } → state_of a c f ≡ reset_insertion_mode (state_of a b f)
 unfolding reset_insertion_mode
 reset-by a b c f e = ap (λ d. state_of a d f) e
 
@@ -24,7 +25,9 @@ abbrev pub left_of : {A : Type 0} {x y : A} → x ≡ y → A
 left_of {x = x} e = x
 
 -- the head that is opened again
-pub pushed-head : (a : Answers) (b : Building) (f : Forest) (n : ℕ) (x : Open) (stack : Stacked) → b.head_elem ≡ Some n → x ≡ record { number = n; namespace = Html; name = codes "head" } → stack ≡ record b.stack { open_elems = x ∷ b.stack.open_elems }
+pub pushed-head : (a : Answers) (b : Building) (f : Forest) (n : ℕ) (x : Open) (stack : Stacked)
+    → b.head_elem ≡ Some n → x ≡ record { number = n; namespace = Html; name = codes "head" }
+    → stack ≡ record b.stack { open_elems = x ∷ b.stack.open_elems }
     → state_of a (record b { stack = stack }) f ≡ push_head_elem (state_of a b f)
 unfolding push_head_elem
 pushed-head a b f n x stack head is pushed = rw (head, pushed, is) refl

@@ -12,11 +12,13 @@ use Rattle.html_tree_builder.specs.Texts.{IsSplit}
 pub split-cut : (bs rest : List ℕ) (c n : ℕ) → IsUtf8 bs → bs ≡ encode_utf8 c ++ rest → n ≡ len_utf8 c → IsCharBoundary bs n
 split-cut bs rest c n u e m = (past-first bs rest c n u e m).0
 
-pub split-first : (bs one left rest : List ℕ) (c n : ℕ) → IsUtf8 bs → bs ≡ encode_utf8 c ++ rest → n ≡ len_utf8 c → one ≡ take n bs → left ≡ drop n bs → IsSplit bs one left
+pub split-first : (bs one left rest : List ℕ) (c n : ℕ) → IsUtf8 bs → bs ≡ encode_utf8 c ++ rest → n ≡ len_utf8 c
+    → one ≡ take n bs → left ≡ drop n bs → IsSplit bs one left
 split-first bs one left rest c n u e m o l =
     let past = past-first bs rest c n u e m in
     let size : n ≡ length (encode_utf8 c) = m ∙ sym (length-encode c) in
-    let front : take n bs ≡ encode_utf8 c ++ [] = ap (take n) e ∙ rw size (take-append_seam (encode_utf8 c) rest) ∙ sym (append-nil (encode_utf8 c)) in
+    let front : take n bs ≡ encode_utf8 c ++ [] = ap (take n) e ∙ rw size (take-append_seam (encode_utf8 c) rest)
+    ∙ sym (append-nil (encode_utf8 c)) in
     rw (o, l, past.1) (record {
       first = c;
       character = chars_past_char (take n bs) [] c (IsUtf8-take bs n u past.0) front ∙ ap (λ cs. c ∷ cs) chars-nil;

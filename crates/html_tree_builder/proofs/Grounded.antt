@@ -13,7 +13,8 @@ use Rattle.html_rules.specs.ForeignContent.{foreign_start}
 use Rattle.html_rules.specs.Names.{Namespace, Html, MathMl, Svg, Other, element_name_of}
 use Rattle.html_rules.specs.Places.{appropriate_place, insert_and_pop_element_for, put_element, with_element}
 use Rattle.html_rules.specs.State.{Open, State, current_number}
-use Rattle.html_rules.specs.Table.{Action, Then, When, SetHeadElem, SetFormElem, ForgetFormElem, InsertFormVoid, InsertVoid, PushHeadElem, InsertForeign, EnterForeign}
+use Rattle.html_rules.specs.Table.{Action, Then, When, SetHeadElem, SetFormElem, ForgetFormElem, InsertFormVoid, InsertVoid}
+use Rattle.html_rules.specs.Table.{PushHeadElem, InsertForeign, EnterForeign}
 use Rattle.html_rules_laws.specs.Soundness.{AreOpened, IsClear, IsOwn, Standing, is_plain_action}
 use Rattle.html_rules_laws.proofs.TreePreserved.ActionsStanding.{actions-Standing}
 use Rattle.html_tree_builder.specs.Acting.{Grounded, MayAct}
@@ -23,7 +24,8 @@ node-grown : (f g : Forest) (o : Option ℕ) → node_count f ≤ node_count g �
 node-grown f g None less h = tt
 node-grown f g (Some n) less h = omega arith
 
-context-grown : (f g : Forest) (o : Option Open) → node_count f ≤ node_count g → IfSome o (λ c. IsNode f c.number) → IfSome o (λ c. IsNode g c.number)
+context-grown : (f g : Forest) (o : Option Open) → node_count f ≤ node_count g → IfSome o (λ c. IsNode f c.number)
+    → IfSome o (λ c. IsNode g c.number)
 context-grown f g None less h = tt
 context-grown f g (Some c) less h = omega arith
 
@@ -50,19 +52,33 @@ current-node s h = current-at s.open_elems h.opened where
   current-at (x ∷ xs) opened = element-IsNode s.forest x.number (element_name_of x.namespace x.name) opened.0.named
 
 -- the element that was put last is a node
-put-more : (namespace : Namespace) (name : List ℕ) (attributes : List Attribute) (dup : Bool) (s : State) → node_count s.forest < node_count (put_element namespace name attributes dup s).forest
+put-more : (namespace : Namespace) (name : List ℕ) (attributes : List Attribute) (dup : Bool) (s : State)
+    → node_count s.forest < node_count (put_element namespace name attributes dup s).forest
 unfolding put_element
-put-more namespace name attributes dup s = omega (arith, (grown-more s.forest namespace name attributes dup), (count-put (with_element s.forest namespace name attributes dup) (appropriate_place s (with_element s.forest namespace name attributes dup)) (node_count s.forest)))
+put-more namespace name attributes dup s = omega (
+  arith,
+  (grown-more s.forest namespace name attributes dup),
+  (count-put (with_element s.forest namespace name attributes dup)
+      (appropriate_place s (with_element s.forest namespace name attributes dup)) (node_count s.forest)),
+)
 
 form-void-grounded : (t : Token) (s : State) → Grounded s → Grounded (for_tag insert_form_void t s)
 form-void-grounded (TagToken tag) s h =
     let put : State = insert_and_pop_element_for tag s in
-    let is = kept-grounded s put h (actions-Standing.plain InsertVoid refl (TagToken tag) s h.standing) (act-grows InsertVoid refl (TagToken tag) s) in
-    record { standing = is.standing; head = is.head; form = put-more Html tag.name tag.attrs tag.had_duplicate_attributes s; context = is.context }
+    let is = kept-grounded s put h (actions-Standing.plain InsertVoid refl (TagToken tag) s h.standing)
+    (act-grows InsertVoid refl (TagToken tag) s) in
+    record {
+      standing = is.standing;
+      head = is.head;
+      form = put-more Html tag.name tag.attrs tag.had_duplicate_attributes s;
+      context = is.context;
+    }
 form-void-grounded _ s h = h
 
-foreign-grounded : (t : Token) (s : State) → IfSome s.context_elem (λ c. IsOwn c.namespace) → Grounded s → Grounded (for_tag foreign_start t s)
-foreign-grounded (TagToken tag) s own h = kept-grounded s (foreign_start tag s) h (actions-Standing.foreign tag s own h.standing) (act-grows InsertForeign refl (TagToken tag) s)
+foreign-grounded : (t : Token) (s : State) → IfSome s.context_elem (λ c. IsOwn c.namespace) → Grounded s
+    → Grounded (for_tag foreign_start t s)
+foreign-grounded (TagToken tag) s own h = kept-grounded s (foreign_start tag s) h
+    (actions-Standing.foreign tag s own h.standing) (act-grows InsertForeign refl (TagToken tag) s)
 foreign-grounded _ s own h = h
 
 head-set : (s : State) → Grounded s → Grounded (set_head_elem s)
@@ -84,7 +100,9 @@ head-none : (s : State) → s.head_elem ≡ None → Standing s → Standing (pu
 unfolding push_head_elem
 head-none s e h = rw e h
 
-head-grounded : (o : Option ℕ) (s : State) → s.head_elem ≡ o → IfSome o (λ n. (element_name (data_of s.forest n) ≡ Some (element_name_of Html (codes "head"))) × IsClear s.forest n s.open_elems) → Grounded s → Grounded (push_head_elem s)
+head-grounded : (o : Option ℕ) (s : State) → s.head_elem ≡ o
+    → IfSome o (λ n. (element_name (data_of s.forest n) ≡ Some (element_name_of Html (codes "head")))
+    × IsClear s.forest n s.open_elems) → Grounded s → Grounded (push_head_elem s)
 head-grounded None s e is h = by-law-head s h (head-none s e h.standing)
 head-grounded (Some n) s e is h = by-law-head s h (actions-Standing.head n s e is.0 is.1 h.standing)
 

@@ -8,7 +8,8 @@ use Rattle.html_tokens.specs.declared.tags.Tag.{Tag}
 use Rattle.html_tokens.specs.declared.tags.TagKind.{TagKind}
 use Rattle.html_tokens.specs.declared.tags.TagKind.TheVariants.{StartTag, EndTag}
 use Rattle.html_tokens.specs.declared.token.Token.{Token}
-use Rattle.html_tokens.specs.declared.token.Token.TheVariants.{DoctypeToken, TagToken, CommentToken, CharacterTokens, NullCharacterToken, EOFToken, ParseError as ErrorToken}
+use Rattle.html_tokens.specs.declared.token.Token.TheVariants.{DoctypeToken, TagToken, CommentToken, CharacterTokens}
+use Rattle.html_tokens.specs.declared.token.Token.TheVariants.{NullCharacterToken, EOFToken, ParseError as ErrorToken}
 use Rattle.html_rules.specs.Actions.{act}
 use Rattle.html_rules.specs.Conditions.{holds}
 use Rattle.html_rules.specs.ForeignContent.{is_end_tag, is_start_tag}
@@ -19,7 +20,9 @@ use Rattle.html_rules.specs.Sets.{mathml_names_of, svg_names_of}
 use Rattle.html_rules.specs.Shape.{is_at_root}
 use Rattle.html_rules.specs.Stack.{parse_error}
 use Rattle.html_rules.specs.State.{State}
-use Rattle.html_rules.specs.Table.{Row, row, Class, AnythingElse, StartTags, Action, Nothing, Then, When, ParseError, CloseItem, EnterForeign, InsertForeign, PopForeign, PushHeadElem, RemoveHeadElem, Conclusion, Done, Acknowledged, Using, UsingThen, UsingCurrentMode}
+use Rattle.html_rules.specs.Table.{Row, row, Class, AnythingElse, StartTags, Action, Nothing, Then, When, ParseError, CloseItem}
+use Rattle.html_rules.specs.Table.{EnterForeign, InsertForeign, PopForeign, PushHeadElem, RemoveHeadElem, Conclusion, Done}
+use Rattle.html_rules.specs.Table.{Acknowledged, Using, UsingThen, UsingCurrentMode}
 use Rattle.html_rules.specs.Tokens.{class_fits}
 use Rattle.html_rules.specs.declared.insertion_mode.InsertionMode.{InsertionMode}
 use Rattle.html_rules.specs.declared.insertion_mode.InsertionMode.TheVariants as mode
@@ -108,22 +111,29 @@ modes-free mode.AfterAfterBody h = refl
 modes-free mode.AfterAfterFrameset h = refl
 
 -- what holds of each row that passes a test and fits holds of the first that fits
-first-of : (ok : Row → Bool) (P : Row → Type 0) (t : Token) (s : State) → ((r : Row) → ok r ≡ true → class_fits r.on t ≡ true → P r) → P (row AnythingElse Nothing Done) → (rs : List Row) → list_all ok rs ≡ true → P (first_fit rs t s)
+first-of : (ok : Row → Bool) (P : Row → Type 0) (t : Token) (s : State)
+    → ((r : Row) → ok r ≡ true → class_fits r.on t ≡ true → P r) → P (row AnythingElse Nothing Done)
+    → (rs : List Row) → list_all ok rs ≡ true → P (first_fit rs t s)
 first-of ok P t s go none [] h = none
 first-of ok P t s go none (r ∷ rs) h =
     let parts = and_parts (ok r) (list_all ok rs) h in
-    by_fit P r (first_fit rs t s) (fits r t s) (λ fit. go r parts.0 (class_of_fits (class_fits r.on t) (λ _. holds r.when t s) fit)) (first-of ok P t s go none rs parts.1)
+    by_fit P r (first_fit rs t s) (fits r t s)
+    (λ fit. go r parts.0 (class_of_fits (class_fits r.on t) (λ _. holds r.when t s) fit)) (first-of ok P t s go none rs parts.1)
 
-ends-free : (may : InsertionMode → Token → State → Type 0) (using : InsertionMode → Token → State → Turn) (t : Token) → ((m : InsertionMode) → not (is_after_head m) ≡ true → (s : State) → may m t s)
+ends-free : (may : InsertionMode → Token → State → Type 0) (using : InsertionMode → Token → State → Turn)
+    (t : Token) → ((m : InsertionMode) → not (is_after_head m) ≡ true → (s : State) → may m t s)
     → (e : Conclusion) → ends_free e ≡ true → (s : State) → MayConclude may using e t s
 ends-free may using t go (Using m) h s = go m h s
-ends-free may using t go (UsingThen m after) h s = let parts = and_parts (not (is_after_head m)) (is_free after) h in (go m parts.0 s, free-act after parts.1 t (using m t s).state)
+ends-free may using t go (UsingThen m after) h s = let parts = and_parts (not (is_after_head m)) (is_free after) h
+    in (go m parts.0 s, free-act after parts.1 t (using m t s).state)
 ends-free may using t go UsingCurrentMode h s = no h
 ends-free may using t go e h s = tt
 
-row-free : (may : InsertionMode → Token → State → Type 0) (using : InsertionMode → Token → State → Turn) (t : Token) → ((m : InsertionMode) → not (is_after_head m) ≡ true → (s : State) → may m t s)
+row-free : (may : InsertionMode → Token → State → Type 0) (using : InsertionMode → Token → State → Turn) (t : Token)
+    → ((m : InsertionMode) → not (is_after_head m) ≡ true → (s : State) → may m t s)
     → (r : Row) → row_free r ≡ true → (s : State) → MayTakeRow may using r t s
-row-free may using t go r h s = let parts = and_parts (is_free r.does) (ends_free r.ends) h in (free-act r.does parts.0 t s, ends-free may using t go r.ends parts.1 (act r.does t s))
+row-free may using t go r h s = let parts = and_parts (is_free r.does) (ends_free r.ends) h in
+    (free-act r.does parts.0 t s, ends-free may using t go r.ends parts.1 (act r.does t s))
 
 uses-free : (n : ℕ) (t : Token) (m : InsertionMode) → not (is_after_head m) ≡ true → (s : State) → MayUse n m t s
 unfolding MayUse
@@ -159,7 +169,8 @@ start-of (StartTags set.HeadContent) t h f = head-start t f
 start-of on t h f = no h
 
 -- the root alone is open, and the head element pointer names a head
-head-may : (o : Option ℕ) (s : State) → Upright s → is_at_root s.open_elems ≡ true → IfSome o (λ n. element_name (data_of s.forest n) ≡ Some (element_name_of Html (codes "head")))
+head-may : (o : Option ℕ) (s : State) → Upright s → is_at_root s.open_elems ≡ true
+    → IfSome o (λ n. element_name (data_of s.forest n) ≡ Some (element_name_of Html (codes "head")))
     → IfSome o (λ n. (element_name (data_of s.forest n) ≡ Some (element_name_of Html (codes "head"))) × IsClear s.forest n s.open_elems)
 head-may None s h root named = tt
 head-may (Some n) s h root named = (named, root-clear s n h root named)
@@ -177,12 +188,15 @@ kind-of (CommentToken text) = (Others, refl)
 kind-of (DoctypeToken d) = (Others, refl)
 kind-of (ErrorToken message) = (Others, refl)
 
-head-row : (n : ℕ) (t : Token) (s : State) → Poised s → is_at_root s.open_elems ≡ true → (a : Action) (e : Conclusion) → opens_head a e ≡ true → MayAct a t s × MayConclude (MayUse n) (using_rules_for n) e t (act a t s)
+head-row : (n : ℕ) (t : Token) (s : State) → Poised s → is_at_root s.open_elems ≡ true
+    → (a : Action) (e : Conclusion) → opens_head a e ≡ true → MayAct a t s × MayConclude (MayUse n) (using_rules_for n) e t (act a t s)
 unfolding parse_error
 head-row n t s h root (Then ParseError PushHeadElem) (UsingThen mode.InHead RemoveHeadElem) o =
     let kind = kind-of t in
-    let told = act-poised kind.0 ParseError refl t kind.1 s h in
-    ((tt, head-may (act ParseError t s).head_elem (act ParseError t s) told.upright root told.upright.head), (uses-free n t mode.InHead refl _, tt))
+    let told = act-poised kind.0 ParseError refl t kind.1 s h in (
+      (tt, head-may (act ParseError t s).head_elem (act ParseError t s) told.upright root told.upright.head),
+      (uses-free n t mode.InHead refl _, tt),
+    )
 head-row n t s h root a e o = no o
 
 -- what is known where the rules are those after a head
@@ -200,7 +214,8 @@ over-root zero t s h = tt
 over-root (suc n) t s h =
     first-of row_of_head (λ r. MayTakeRow (MayUse n) (using_rules_for n) r t s) t s
     (λ r ok on. or_by (row_free r) _ ok (λ free. row-free (MayUse n) (using_rules_for n) t (uses-free n t) r free s)
-    (λ head. let parts = and_parts (takes_head r.on) (opens_head r.does r.ends) head in head-row n t s h.poised (h.root (start-of r.on t parts.0 on)) r.does r.ends parts.1))
+    (λ head. let parts = and_parts (takes_head r.on) (opens_head r.does r.ends) head in head-row n t s h.poised
+    (h.root (start-of r.on t parts.0 on)) r.does r.ends parts.1))
     (tt, tt) (rows mode.AfterHead) after_head-rows
 
 mode-may : (n : ℕ) (t : Token) (m : InsertionMode) (s : State) → (m ≡ mode.AfterHead → IsOverRoot t s) → MayUse n m t s
@@ -227,16 +242,25 @@ popped-free ParseError h = refl
 popped-free a h = no h
 
 popped-over : (a : Action) → is_pop a ≡ true → (t : Token) (s : State) → IsOverRoot t s → IsOverRoot t (act a t s)
-popped-over a h t s is = record { poised = let kind = kind-of t in popped-poised a h t kind.0 kind.1 s is.poised; root = λ start. popped-root a h t s (is.root start) }
+popped-over a h t s is = record {
+  poised = let kind = kind-of t in popped-poised a h t kind.0 kind.1 s is.poised;
+  root = λ start. popped-root a h t s (is.root start);
+}
 
 inserted-may : (a : Action) → is_insert a ≡ true → (t : Token) (s : State) → Upright s → MayAct a t s
 inserted-may InsertForeign h t s is = is.context
 inserted-may a h t s is = no h
 
-foreign-row : (t : Token) (s : State) → Upright s → (s.mode ≡ mode.AfterHead → IsOverRoot t s) → (a : Action) (e : Conclusion) → foreign_ok a e ≡ true → MayAct a t s × MayConclude (MayUse most_modes) (using_rules_for most_modes) e t (act a t s)
+foreign-row : (t : Token) (s : State) → Upright s → (s.mode ≡ mode.AfterHead → IsOverRoot t s)
+    → (a : Action) (e : Conclusion) → foreign_ok a e ≡ true → MayAct a t s × MayConclude (MayUse most_modes)
+    (using_rules_for most_modes) e t (act a t s)
 foreign-row t s is over a Done h = (free-act a h t s, tt)
 foreign-row t s is over a Acknowledged h = (inserted-may a h t s is, tt)
-foreign-row t s is over a UsingCurrentMode h = (free-act a (popped-free a h) t s, mode-may 4 t (act a t s).mode (act a t s) (λ at. popped-over a h t s (over (sym (popped-mode a h t s) ∙ at))))
+foreign-row t s is over a UsingCurrentMode h = (
+  free-act a (popped-free a h) t s,
+  mode-may 4 t (act a t s).mode (act a t s)
+      (λ at. popped-over a h t s (over (sym (popped-mode a h t s) ∙ at))),
+)
 foreign-row t s is over a e h = no h
 
 -- one turn

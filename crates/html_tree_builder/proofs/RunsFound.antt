@@ -8,5 +8,7 @@ use Rattle.html_tree_builder.specs.States.{Building, state_of}
 use Rattle.html_tree_builder.specs.declared.runs.Run.{Run}
 
 -- where foster parenting is not enabled, it goes by the adjusted current node and the mode
-pub run-found : (a : Answers) (b : Building) (f : Forest) (x : Open) (m : InsertionMode) (r : Option Run) → b.foster_parenting ≡ false → adjusted_by b.context_elem b.stack.open_elems ≡ Some x → m ≡ b.mode → r ≡ run_at (Some x) m → r ≡ run_of (state_of a b f)
+pub run-found : (a : Answers) (b : Building) (f : Forest) (x : Open) (m : InsertionMode) (r : Option Run)
+    → b.foster_parenting ≡ false → adjusted_by b.context_elem b.stack.open_elems ≡ Some x → m ≡ b.mode
+    → r ≡ run_at (Some x) m → r ≡ run_of (state_of a b f)
 run-found a b f x m r foster adjusted mode is = rw (foster, adjusted, ← mode) is

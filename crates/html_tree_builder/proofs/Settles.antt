@@ -1,9 +1,11 @@
 -- The turns that settle a token, one after the other.
-use Rattle.std.proofs.Common.{◌≡◌, ◌∙◌, ℕ, zero, suc, ◌+◌, ◌*◌, ◌<◌, ◌≤◌, Bool, true, false, List, [], ◌∷◌, length, refl, sym, ap, subst, arith}
+use Rattle.std.proofs.Common.{◌≡◌, ◌∙◌, ℕ, zero, suc, ◌+◌, ◌*◌, ◌<◌, ◌≤◌, Bool, true, false, List, [], ◌∷◌, length, refl, sym}
+use Rattle.std.proofs.Common.{ap, subst, arith}
 use Rattle.html_tokens.specs.Sink.{Reply}
 use Rattle.html_tokens.specs.declared.replies.TokenSinkResult.TheVariants.{Continue}
 use Rattle.html_tokens.specs.declared.token.Token.{Token}
-use Rattle.html_rules.specs.Rules.{Ending, Finished, Again, Replied, Settled, check_acknowledged, four_for_each, one_more_turn, settle, settled_by, turn, turn_of, within}
+use Rattle.html_rules.specs.Rules.{Ending, Finished, Again, Replied, Settled, check_acknowledged, four_for_each, one_more_turn}
+use Rattle.html_rules.specs.Rules.{settle, settled_by, turn, turn_of, within}
 use Rattle.html_rules.specs.State.{Open, State}
 use Rattle.html_rules_laws.specs.Upright.{MayCome}
 use Rattle.html_rules_laws.proofs.Bools.{no}
@@ -33,15 +35,18 @@ all_turns xs = more 16 (four_turns xs)
 
 -- turns after turns are turns
 
-settled-same : (f g : State → Settled) → ((s : State) → f s ≡ g s) → (e : Ending) (t : Token) (s : State) → settled_by f e t s ≡ settled_by g e t s
+settled-same : (f g : State → Settled) → ((s : State) → f s ≡ g s) → (e : Ending) (t : Token) (s : State)
+    → settled_by f e t s ≡ settled_by g e t s
 settled-same f g h (Finished acknowledged) t s = refl
 settled-same f g h Again t s = ap one_more_turn (h s)
 settled-same f g h (Replied reply) t s = refl
 
-within-more : (k n : ℕ) (t : Token) (beyond : State → Settled) → ((s : State) → beyond s ≡ leads n t s) → (s : State) → within k beyond t s ≡ leads (more k n) t s
+within-more : (k n : ℕ) (t : Token) (beyond : State → Settled) → ((s : State) → beyond s ≡ leads n t s)
+    → (s : State) → within k beyond t s ≡ leads (more k n) t s
 unfolding within
 within-more zero n t beyond h s = h s
-within-more (suc k) n t beyond h s = settled-same (within k beyond t) (leads (more k n) t) (within-more k n t beyond h) (turn t s).ends t (turn t s).state
+within-more (suc k) n t beyond h s = settled-same (within k beyond t) (leads (more k n) t)
+    (within-more k n t beyond h) (turn t s).ends t (turn t s).state
 
 four-leads : (xs : List Open) (t : Token) (s : State) → four_for_each xs t s ≡ leads (four_turns xs) t s
 unfolding four_for_each within
@@ -58,7 +63,8 @@ longer : (n : ℕ) (t : Token) (s : State) → (leads n t s).is_settled ≡ true
 unfolding within
 longer zero t s h = no h
 longer (suc n) t s h = by (turn t s).ends h (longer n t (turn t s).state) where
-  by : (e : Ending) → (settled_by (leads n t) e t (turn t s).state).is_settled ≡ true → ((leads n t (turn t s).state).is_settled ≡ true → leads (suc n) t (turn t s).state ≡ leads n t (turn t s).state)
+  by : (e : Ending) → (settled_by (leads n t) e t (turn t s).state).is_settled ≡ true
+      → ((leads n t (turn t s).state).is_settled ≡ true → leads (suc n) t (turn t s).state ≡ leads n t (turn t s).state)
       → settled_by (leads (suc n) t) e t (turn t s).state ≡ settled_by (leads n t) e t (turn t s).state
   by (Finished acknowledged) h rest = refl
   by Again h rest = ap one_more_turn (rest h)
@@ -82,7 +88,8 @@ first-turn n t s r e made = ap (λ made. settled_by (leads n t) made.ends t made
 
 -- the token is taken again, with a turn less
 
-again-settled : (n : ℕ) (t : Token) (s r : State) → turn_of r Again ≡ turn t s → (leads (suc n) t s).is_settled ≡ true → leads (suc n) t r ≡ leads n t r
+again-settled : (n : ℕ) (t : Token) (s r : State) → turn_of r Again ≡ turn t s
+    → (leads (suc n) t s).is_settled ≡ true → leads (suc n) t r ≡ leads n t r
 again-settled n t s r made h = longer n t r (ap (λ x. x.is_settled) (sym (first-turn n t s r Again made)) ∙ h)
 
 pub goes-on : (n : ℕ) (t : Token) (end : Settled) (s r : State) → IsOnWay n t end s → turn_of r Again ≡ turn t s → IsOnWay n t end r
@@ -97,7 +104,8 @@ goes-on (suc n) t end s r on made =
       reply = ap (λ x. x.reply) same ∙ ap (λ x. x.reply) first ∙ on.reply;
     }
 
-pub one-turn-less : (n : ℕ) (t : Token) (end : Settled) (s r : State) → IsOnWay n t end s → turn_of r Again ≡ turn t s → (leads n t s).turns ≡ suc (leads n t r).turns
+pub one-turn-less : (n : ℕ) (t : Token) (end : Settled) (s r : State) → IsOnWay n t end s
+    → turn_of r Again ≡ turn t s → (leads n t s).turns ≡ suc (leads n t r).turns
 unfolding within
 one-turn-less zero t end s r on made = no on.settled
 one-turn-less (suc n) t end s r on made =
@@ -105,7 +113,8 @@ one-turn-less (suc n) t end s r on made =
     let first : (leads (suc n) t s).turns ≡ suc (leads n t r).turns = ap (λ x. x.turns) (first-turn n t s r Again made) in
     omega (arith, same, first)
 
-pub fewer : (n : ℕ) (t : Token) (end : Settled) (s r : State) → IsOnWay n t end s → turn_of r Again ≡ turn t s → (leads n t r).turns < (leads n t s).turns
+pub fewer : (n : ℕ) (t : Token) (end : Settled) (s r : State) → IsOnWay n t end s → turn_of r Again ≡ turn t s
+    → (leads n t r).turns < (leads n t s).turns
 fewer n t end s r on made = let less = one-turn-less n t end s r on made in omega (arith, less)
 
 -- and may be taken again
@@ -113,7 +122,8 @@ pub comes-again : (t : Token) (s r : State) → MayCome t s → turn_of r Again 
 comes-again t s r may made = subst (MayCome t) (sym (ap (λ x. x.state) made)) (turn-again t s may (sym (ap (λ x. x.ends) made)))
 
 -- the token is done with, and its self-closing flag was looked at
-pub finishes : (n : ℕ) (t : Token) (end : Settled) (s r q : State) (acknowledged : Bool) → IsOnWay n t end s → turn_of r (Finished acknowledged) ≡ turn t s → q ≡ check_acknowledged acknowledged t r → (q ≡ end.state) × (Continue ≡ end.reply)
+pub finishes : (n : ℕ) (t : Token) (end : Settled) (s r q : State) (acknowledged : Bool) → IsOnWay n t end s
+    → turn_of r (Finished acknowledged) ≡ turn t s → q ≡ check_acknowledged acknowledged t r → (q ≡ end.state) × (Continue ≡ end.reply)
 unfolding within
 finishes zero t end s r q acknowledged on made checked = no on.settled
 finishes (suc n) t end s r q acknowledged on made checked =
@@ -121,7 +131,8 @@ finishes (suc n) t end s r q acknowledged on made checked =
     (checked ∙ (ap (λ x. x.state) first ∙ on.state), ap (λ x. x.reply) first ∙ on.reply)
 
 -- the token is done with, and this is answered
-pub replies : (n : ℕ) (t : Token) (end : Settled) (s r : State) (reply : Reply) → IsOnWay n t end s → turn_of r (Replied reply) ≡ turn t s → (r ≡ end.state) × (reply ≡ end.reply)
+pub replies : (n : ℕ) (t : Token) (end : Settled) (s r : State) (reply : Reply) → IsOnWay n t end s
+    → turn_of r (Replied reply) ≡ turn t s → (r ≡ end.state) × (reply ≡ end.reply)
 unfolding within
 replies zero t end s r reply on made = no on.settled
 replies (suc n) t end s r reply on made =
@@ -133,7 +144,8 @@ replies (suc n) t end s r reply on made =
 pub counted-begins : (t : Token) (s : State) (count : ℕ) → count + (leads (all_turns s.open_elems) t s).turns ≡ count + (settle t s).turns
 counted-begins t s count = ap (λ x. count + x.turns) (sym (settle-leads t s))
 
-pub counted-again : (n : ℕ) (t : Token) (end : Settled) (s r : State) (all before now : ℕ) → IsOnWay n t end s → turn_of r Again ≡ turn t s → before + (leads n t s).turns ≡ all → now ≡ before + 1 → now + (leads n t r).turns ≡ all
+pub counted-again : (n : ℕ) (t : Token) (end : Settled) (s r : State) (all before now : ℕ) → IsOnWay n t end s
+    → turn_of r Again ≡ turn t s → before + (leads n t s).turns ≡ all → now ≡ before + 1 → now + (leads n t r).turns ≡ all
 counted-again n t end s r all before now on made h one =
     let less = one-turn-less n t end s r on made in
     omega (arith, less, h, one)
@@ -154,29 +166,34 @@ last-turn (suc n) t s h = by (turn t s).ends where
   by (Replied reply) = one
 
 -- one turn more is no more than all
-pub counted-most : (n : ℕ) (t : Token) (end : Settled) (s : State) (all before now : ℕ) → IsOnWay n t end s → before + (leads n t s).turns ≡ all → now ≡ before + 1 → now ≤ all
+pub counted-most : (n : ℕ) (t : Token) (end : Settled) (s : State) (all before now : ℕ) → IsOnWay n t end s
+    → before + (leads n t s).turns ≡ all → now ≡ before + 1 → now ≤ all
 counted-most n t end s all before now on h one =
     let some = last-turn n t s on.settled in
     omega (arith, some, h, one)
 
-finished-turn : (n : ℕ) (t : Token) (end : Settled) (s r : State) (acknowledged : Bool) → IsOnWay n t end s → turn_of r (Finished acknowledged) ≡ turn t s → (leads n t s).turns ≡ 1
+finished-turn : (n : ℕ) (t : Token) (end : Settled) (s r : State) (acknowledged : Bool) → IsOnWay n t end s
+    → turn_of r (Finished acknowledged) ≡ turn t s → (leads n t s).turns ≡ 1
 unfolding within
 finished-turn zero t end s r acknowledged on made = no on.settled
 finished-turn (suc n) t end s r acknowledged on made = ap (λ x. x.turns) (first-turn n t s r (Finished acknowledged) made)
 
-replied-turn : (n : ℕ) (t : Token) (end : Settled) (s r : State) (reply : Reply) → IsOnWay n t end s → turn_of r (Replied reply) ≡ turn t s → (leads n t s).turns ≡ 1
+replied-turn : (n : ℕ) (t : Token) (end : Settled) (s r : State) (reply : Reply) → IsOnWay n t end s
+    → turn_of r (Replied reply) ≡ turn t s → (leads n t s).turns ≡ 1
 unfolding within
 replied-turn zero t end s r reply on made = no on.settled
 replied-turn (suc n) t end s r reply on made = ap (λ x. x.turns) (first-turn n t s r (Replied reply) made)
 
 -- the last turn is counted
 
-pub counted-finishes : (n : ℕ) (t : Token) (end : Settled) (s r : State) (acknowledged : Bool) (all before now : ℕ) → IsOnWay n t end s → turn_of r (Finished acknowledged) ≡ turn t s → before + (leads n t s).turns ≡ all → now ≡ before + 1 → now ≡ all
+pub counted-finishes : (n : ℕ) (t : Token) (end : Settled) (s r : State) (acknowledged : Bool) (all before now : ℕ)
+    → IsOnWay n t end s → turn_of r (Finished acknowledged) ≡ turn t s → before + (leads n t s).turns ≡ all → now ≡ before + 1 → now ≡ all
 counted-finishes n t end s r acknowledged all before now on made h one =
     let last = finished-turn n t end s r acknowledged on made in
     omega (arith, last, h, one)
 
-pub counted-replies : (n : ℕ) (t : Token) (end : Settled) (s r : State) (reply : Reply) (all before now : ℕ) → IsOnWay n t end s → turn_of r (Replied reply) ≡ turn t s → before + (leads n t s).turns ≡ all → now ≡ before + 1 → now ≡ all
+pub counted-replies : (n : ℕ) (t : Token) (end : Settled) (s r : State) (reply : Reply) (all before now : ℕ)
+    → IsOnWay n t end s → turn_of r (Replied reply) ≡ turn t s → before + (leads n t s).turns ≡ all → now ≡ before + 1 → now ≡ all
 counted-replies n t end s r reply all before now on made h one =
     let last = replied-turn n t end s r reply on made in
     omega (arith, last, h, one)

@@ -24,22 +24,31 @@ use Rattle.html_tree_builder.proofs.WhiteRuns.{white-run}
 
 -- a usable state stands
 pub usable-stands : (a : Answers) (b : Building) (f : Forest) → Usable (state_of a b f) → b.has_ended ≡ false → Stands f b
-usable-stands a b f h going = record { standing = h.steady.upright.standing; head = head-node (state_of a b f) h; form = form-node (state_of a b f) h going; context = h.context }
+usable-stands a b f h going = record {
+  standing = h.steady.upright.standing;
+  head = head-node (state_of a b f) h;
+  form = form-node (state_of a b f) h going;
+  context = h.context;
+}
 
 -- the state goes by the state before alone
 text-state : (text : List ℕ) (x y : Settled) → x.state ≡ y.state → (text_taken text x).state ≡ (text_taken text y).state
 text-state [] x y e = e
 text-state (c ∷ cs) x y e =
-    text-state cs (followed_by x (settle (CharacterTokens (c ∷ [])) x.state)) (followed_by y (settle (CharacterTokens (c ∷ [])) y.state)) (ap (λ s. (settle (CharacterTokens (c ∷ [])) s).state) e)
+    text-state cs (followed_by x (settle (CharacterTokens (c ∷ [])) x.state))
+    (followed_by y (settle (CharacterTokens (c ∷ [])) y.state)) (ap (λ s. (settle (CharacterTokens (c ∷ [])) s).state) e)
 
 -- after its first character the text goes on
-pub next-character : (whole one rest : List ℕ) (s r : State) → IsSplit whole one rest → r ≡ (settle (CharacterTokens (chars one)) s).state → (text_taken (chars rest) (untouched r)).state ≡ (text_taken (chars whole) (untouched s)).state
+pub next-character : (whole one rest : List ℕ) (s r : State) → IsSplit whole one rest
+    → r ≡ (settle (CharacterTokens (chars one)) s).state → (text_taken (chars rest) (untouched r)).state ≡
+    (text_taken (chars whole) (untouched s)).state
 next-character whole one rest s r is e =
     let same : r ≡ (settle (CharacterTokens (is.first ∷ [])) s).state = rw is.character at e in
     rw is.characters (text-state (chars rest) (untouched r) (followed_by (untouched s) (settle (CharacterTokens (is.first ∷ [])) s)) same)
 
 -- a run is taken at once
-pub run-taken : (whole one rest : List ℕ) (run : Run) (s r : State) → IsSplit whole one rest → Some run ≡ run_of s → Usable s → r ≡ act (run_action run) (CharacterTokens (chars whole)) s → r ≡ (text_taken (chars whole) (untouched s)).state
+pub run-taken : (whole one rest : List ℕ) (run : Run) (s r : State) → IsSplit whole one rest → Some run ≡ run_of s
+    → Usable s → r ≡ act (run_action run) (CharacterTokens (chars whole)) s → r ≡ (text_taken (chars whole) (untouched s)).state
 run-taken whole one rest run s r is found h e =
     let taken : r ≡ act (run_action run) (CharacterTokens (is.first ∷ chars rest)) s = rw is.characters at e in
     rw is.characters (taken ∙ sym (text-run run is.first (chars rest) (untouched s) (sym found) h.steady.upright.standing))
@@ -65,13 +74,17 @@ unlined-open s r e = ap (λ x. x.open_elems) e
 pub no-characters : (text : List ℕ) (s : State) → length text ≡ 0 → s ≡ (came_of (CharacterTokens (chars text)) s).state
 no-characters text s e = rw (no-text text e) refl
 
-pub characters-taken : (text rest : List ℕ) (lf : Bool) (s u r : State) → IsUtf8 text → 0 < length text → lf ≡ s.ignore_lf → u ≡ set_ignore_lf false s → chars rest ≡ after_line_feed lf (chars text) → r ≡ (text_taken (chars rest) (untouched u)).state
+pub characters-taken : (text rest : List ℕ) (lf : Bool) (s u r : State) → IsUtf8 text → 0 < length text
+    → lf ≡ s.ignore_lf → u ≡ set_ignore_lf false s → chars rest ≡ after_line_feed lf (chars text)
+    → r ≡ (text_taken (chars rest) (untouched u)).state
     → r ≡ (came_of (CharacterTokens (chars text)) s).state
 unfolding taken
 characters-taken text rest lf s u r utf8 some same unlined behind is =
     let first = some-character text utf8 some in
-    let left : chars rest ≡ after_line_feed s.ignore_lf (first.0 ∷ first.1) = behind ∙ ap (λ b. after_line_feed b (chars text)) same ∙ ap (after_line_feed s.ignore_lf) first.2 in
-    rw first.2 (is ∙ ap (λ cs. (text_taken cs (untouched u)).state) left ∙ ap (λ x. (text_taken (after_line_feed s.ignore_lf (first.0 ∷ first.1)) (untouched x)).state) unlined)
+    let left : chars rest ≡ after_line_feed s.ignore_lf (first.0 ∷ first.1) = behind
+    ∙ ap (λ b. after_line_feed b (chars text)) same ∙ ap (after_line_feed s.ignore_lf) first.2 in
+    rw first.2 (is ∙ ap (λ cs. (text_taken cs (untouched u)).state) left
+    ∙ ap (λ x. (text_taken (after_line_feed s.ignore_lf (first.0 ∷ first.1)) (untouched x)).state) unlined)
 
 -- a text that is not empty is taken at once where it is a run and no line feed is dropped
 
@@ -79,7 +92,8 @@ unlined-same : (s : State) → s.ignore_lf ≡ false → set_ignore_lf false s �
 unfolding set_ignore_lf
 unlined-same s e = ap (λ b. record s { ignore_lf = b }) (sym e)
 
-pub own-run-taken : (text : List ℕ) (run : Run) (s r : State) → nat_eq (length text) 0 ≡ false → s.ignore_lf ≡ false → Some run ≡ run_of s → Usable s → r ≡ act (run_action run) (CharacterTokens text) s
+pub own-run-taken : (text : List ℕ) (run : Run) (s r : State) → nat_eq (length text) 0 ≡ false → s.ignore_lf ≡ false
+    → Some run ≡ run_of s → Usable s → r ≡ act (run_action run) (CharacterTokens text) s
     → r ≡ (came_of (CharacterTokens text) s).state
 unfolding taken
 own-run-taken [] run s r some lf found h e = absurd (cc)
@@ -103,18 +117,22 @@ text_taken-append : (a b : List ℕ) (x : Settled) → text_taken (a ++ b) x ≡
 text_taken-append [] b x = refl
 text_taken-append (c ∷ cs) b x = text_taken-append cs b (followed_by x (settle (CharacterTokens (c ∷ [])) x.state))
 
-texts-usable : (text : List ℕ) (x : Settled) → Usable x.state → x.state.has_ended ≡ false → Usable (text_taken text x).state × ((text_taken text x).state.has_ended ≡ false)
+texts-usable : (text : List ℕ) (x : Settled) → Usable x.state → x.state.has_ended ≡ false
+    → Usable (text_taken text x).state × ((text_taken text x).state.has_ended ≡ false)
 texts-usable [] x h going = (h, going)
 texts-usable (c ∷ cs) x h going =
     let one : Token = CharacterTokens (c ∷ []) in
     texts-usable cs (followed_by x (settle one x.state)) (settled-usable one x.state h going) (settled-going one x.state going)
 
 -- after white space that is a run
-pub white-left : (whole white rest : List ℕ) (run : Run) (s r : State) → HasWhiteFront whole white rest → false ≡ nat_eq (length white) 0 → Some run ≡ white_run_of s → Usable s → s.has_ended ≡ false → r ≡ act (run_action run) (CharacterTokens white) s
+pub white-left : (whole white rest : List ℕ) (run : Run) (s r : State) → HasWhiteFront whole white rest
+    → false ≡ nat_eq (length white) 0 → Some run ≡ white_run_of s → Usable s → s.has_ended ≡ false
+    → r ≡ act (run_action run) (CharacterTokens white) s
     → LeavesText whole rest s r
 white-left whole [] rest run s r is some found h going e = absurd (cc)
 white-left whole (c ∷ cs) rest run s r is some found h going e =
-    let same : r ≡ (text_taken (c ∷ cs) (untouched s)).state = e ∙ sym (white-run run c cs (untouched s) is.white (sym found) h.steady.upright.standing) in
+    let same : r ≡ (text_taken (c ∷ cs) (untouched s)).state = e
+    ∙ sym (white-run run c cs (untouched s) is.white (sym found) h.steady.upright.standing) in
     let kept = texts-usable (c ∷ cs) (untouched s) h going in
     record {
       text = is.text;
@@ -128,7 +146,8 @@ white-left whole (c ∷ cs) rest run s r is some found h going e =
     }
 
 -- after the first character
-pub one-left : (whole one rest : List ℕ) (s r : State) → IsSplit whole one rest → Usable s → s.has_ended ≡ false → r ≡ (settle (CharacterTokens (chars one)) s).state → LeavesText whole rest s r
+pub one-left : (whole one rest : List ℕ) (s r : State) → IsSplit whole one rest → Usable s → s.has_ended ≡ false
+    → r ≡ (settle (CharacterTokens (chars one)) s).state → LeavesText whole rest s r
 one-left whole one rest s r is h going e =
     let t : Token = CharacterTokens (chars one) in
     record {

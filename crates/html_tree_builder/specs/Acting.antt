@@ -22,11 +22,13 @@ abbrev pub IsForeign : Namespace → Type 0
 IsForeign (Other uri) = ⊥
 IsForeign namespace = Unit {0}
 
--- an action may be taken: a head that is opened again is a `head` and stands above nothing that is open, and a context has a namespace of its own
+-- an action may be taken: a head that is opened again is a `head` and stands above nothing that is open, and a context has a namespace of
+-- its own
 abbrev pub MayAct : Action → Token → State → Type 0
 MayAct (Then a b) t s = MayAct a t s × MayAct b t (act a t s)
 MayAct (When c a) t s = MayAct a t s
-MayAct PushHeadElem t s = IfSome s.head_elem (λ n. (element_name (data_of s.forest n) ≡ Some (element_name_of Html (codes "head"))) × IsClear s.forest n s.open_elems)
+MayAct PushHeadElem t s = IfSome s.head_elem
+    (λ n. (element_name (data_of s.forest n) ≡ Some (element_name_of Html (codes "head"))) × IsClear s.forest n s.open_elems)
 MayAct InsertForeign t s = IfSome s.context_elem (λ c. IsOwn c.namespace)
 MayAct (EnterForeign namespace) t s = IsForeign namespace
 MayAct (CloseItem items) t s = IsOfHtml items

@@ -1,6 +1,7 @@
 -- Actions that insert an element for a tag, and those that do not look at the token.
 use Rattle.std.specs.Prelude.{Bool, true, false, ◌&&◌}
-use Rattle.html_rules.specs.Table.{Action, Then, InsertElement, InsertVoid, InsertFormatting, InsertForeign, InsertMarker, FramesetNotOk, IgnoreLineFeed, SaveMode, SwitchTo}
+use Rattle.html_rules.specs.Table.{Action, Then, InsertElement, InsertVoid, InsertFormatting, InsertForeign, InsertMarker}
+use Rattle.html_rules.specs.Table.{FramesetNotOk, IgnoreLineFeed, SaveMode, SwitchTo}
 use Rattle.html_tree_builder.specs.declared.actions.insertions.Insertion.{Insertion}
 use Rattle.html_tree_builder.specs.declared.actions.insertions.Insertion.TheVariants as insertion
 

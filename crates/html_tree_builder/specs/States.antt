@@ -27,14 +27,22 @@ context_of node None = None
 context_of node (Some x) = Some (open_of node x)
 
 abbrev pub options_of : TreeBuilderOpts → Options
-options_of opts = record { scripting_enabled = opts.scripting_enabled; iframe_srcdoc = opts.iframe_srcdoc; drop_doctype = opts.drop_doctype }
+options_of opts = record {
+  scripting_enabled = opts.scripting_enabled;
+  iframe_srcdoc = opts.iframe_srcdoc;
+  drop_doctype = opts.drop_doctype;
+}
 
 -- how the rules are set up, where the sink answers so
 abbrev pub setting_of : Answers → TreeBuilderOpts → Setting
 setting_of answers opts = record { opts = options_of opts; quirks_mode = opts.quirks_mode; answers = answers }
 
 abbrev pub answers_of : (Forest → ℕ → Bool) → (Forest → ℕ → Bool) → (Forest → ℕ → ℕ → List Attribute → Bool) → Answers
-answers_of integration_point allows_shadow_roots attaches_shadow = record { integration_point = integration_point; allows_shadow_roots = allows_shadow_roots; attaches_shadow = attaches_shadow }
+answers_of integration_point allows_shadow_roots attaches_shadow = record {
+  integration_point = integration_point;
+  allows_shadow_roots = allows_shadow_roots;
+  attaches_shadow = attaches_shadow;
+}
 
 -- what the rules go by beside the tree and what the sink answers
 pub record Building : Type 0 where

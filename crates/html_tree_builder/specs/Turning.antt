@@ -13,15 +13,18 @@ use Rattle.html_tree_builder.specs.Acting.{MayAct}
 use Rattle.html_tree_builder.specs.declared.conclusions.Next.{Next}
 use Rattle.html_tree_builder.specs.declared.conclusions.Next.TheVariants as next
 
--- what comes after a row's actions may be done, where `may` says when the rules of another mode may be used, and `using` is what they make of a token
-abbrev pub MayConclude : (InsertionMode → Token → State → Type 0) → (InsertionMode → Token → State → Turn) → Conclusion → Token → State → Type 0
+-- what comes after a row's actions may be done, where `may` says when the rules of another mode may be used, and `using` is what they
+-- make of a token
+abbrev pub MayConclude : (InsertionMode → Token → State → Type 0) → (InsertionMode → Token → State → Turn)
+    → Conclusion → Token → State → Type 0
 MayConclude may using (Using m) t s = may m t s
 MayConclude may using (UsingThen m after) t s = may m t s × MayAct after t (using m t s).state
 MayConclude may using UsingCurrentMode t s = may s.mode t s
 MayConclude may using _ t s = Unit {0}
 
 -- the same of what is next
-abbrev pub MayGoOn : {H : Type 0} → (InsertionMode → Token → State → Type 0) → (InsertionMode → Token → State → Turn) → Next H → Token → State → Type 0
+abbrev pub MayGoOn : {H : Type 0} → (InsertionMode → Token → State → Type 0)
+    → (InsertionMode → Token → State → Turn) → Next H → Token → State → Type 0
 MayGoOn may using (next.Ends ending) t s = Unit {0}
 MayGoOn may using (next.Using m) t s = may m t s
 MayGoOn may using (next.UsingThen m after) t s = may m t s × MayAct (action_of after.now) t (using m t s).state

@@ -66,7 +66,8 @@ impl<Sink: TreeSink> Construction<Sink> {
 
     /// A context that is a template has a template insertion mode.
     fn push_mode_of_context(&mut self, context: &ElementName) -> Result<(), ParseFault>
-        ensures ok { OnOk result ((a : Answers) (f : Forest) (n : ℕ) → state_of a self.new f ≡ with_mode_of (record { number = n; namespace = context.now.namespace; name = context.now.name }) (state_of a self.old f)) }
+        ensures ok { OnOk result ((a : Answers) (f : Forest) (n : ℕ) → state_of a self.new f ≡ with_mode_of
+            (record { number = n; namespace = context.now.namespace; name = context.now.name }) (state_of a self.old f)) }
         ensures fault { IfErr result (λ fault. fault ≡ Memory) }
     {
         if context.is_in(TagSet::Template) {
@@ -77,7 +78,8 @@ impl<Sink: TreeSink> Construction<Sink> {
 
     /// A fragment has its context, and the form that the context stands in.
     fn set_context(&mut self, context: OpenElement<Sink::Handle>, form: Option<Sink::Handle>)
-        ensures { (a : Answers) (f : Forest) → state_of a self.new f ≡ record (state_of a self.old f) { context_elem = Some (open_of Sink.node context); form_elem = number_if Sink.node form } }
+        ensures { (a : Answers) (f : Forest) → state_of a self.new f ≡ record (state_of a self.old f)
+            { context_elem = Some (open_of Sink.node context); form_elem = number_if Sink.node form } }
     {
         self.context_elem = Some(context);
         self.form_elem = form;
@@ -96,7 +98,8 @@ impl<Sink: TreeSink> Construction<Sink> {
         requires top { above_of (Sink.forest sink.old) 0 ≡ None }
         requires context { IsNode (Sink.forest sink.old) (Sink.node context.handle) }
         requires form { IfSome (number_if Sink.node form) (IsNode (Sink.forest sink.old)) }
-        ensures ok { IfOk result (λ made. (a : Answers) → state_of a made (Sink.forest sink.new) ≡ before_fragment (setting_of a opts) (open_of Sink.node context) (number_if Sink.node form) (Sink.forest sink.old)) }
+        ensures ok { IfOk result (λ made. (a : Answers) → state_of a made (Sink.forest sink.new) ≡ before_fragment
+            (setting_of a opts) (open_of Sink.node context) (number_if Sink.node form) (Sink.forest sink.old)) }
         ensures fault { IfErr result (λ fault. fault ≡ Memory) }
     {
         let mut made = Construction::new(alloc, opts);

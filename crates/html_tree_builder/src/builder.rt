@@ -57,7 +57,8 @@ impl<Sink: TreeSink> TreeBuilder<Sink> {
     /// A builder for a document, over a sink whose document stands under nothing. The quirks mode to begin with is not told to the sink.
     pub fn new(alloc: Global, sink: Sink, opts: TreeBuilderOpts) -> TreeBuilder<Sink>
         requires top { above_of (Sink.forest sink) 0 ≡ None }
-        ensures begun { built Sink.TreeSink result.construction (Sink.forest result.sink) ≡ before_document (setting_of (answers_of Sink.integration_point Sink.allows_shadow_roots Sink.attaches_shadow) opts) (Sink.forest sink) }
+        ensures begun { built Sink.TreeSink result.construction (Sink.forest result.sink) ≡ before_document
+            (setting_of (answers_of Sink.integration_point Sink.allows_shadow_roots Sink.attaches_shadow) opts) (Sink.forest sink) }
         ensures usable { Usable (hushed (built Sink.TreeSink result.construction (Sink.forest result.sink))) }
         ensures works { result.has_failed ≡ false }
         ensures turns { result.turns.count ≡ 0 }
@@ -73,8 +74,8 @@ impl<Sink: TreeSink> TreeBuilder<Sink> {
         }
     }
 
-    /// A builder for a fragment in a context, which may stand in a form (HTML Standard, section 13.4). Its root is put into the document. A sink
-    /// for which memory is wanting is dropped.
+    /// A builder for a fragment in a context, which may stand in a form (HTML Standard, section 13.4). Its root is put into the document.
+    /// A sink for which memory is wanting is dropped.
     pub fn new_for_fragment(
         alloc: Global,
         sink: Sink,
@@ -86,8 +87,12 @@ impl<Sink: TreeSink> TreeBuilder<Sink> {
         Sink: Drop,
         requires top { above_of (Sink.forest sink) 0 ≡ None }
         requires context { IsSome (element_name (data_of (Sink.forest sink) (Sink.node context))) }
-        requires form { IfSome (number_if Sink.node form) (λ n. element_name (data_of (Sink.forest sink) n) ≡ Some (element_name_of Html (codes "form"))) }
-        ensures begun { IfOk result (λ builder. built Sink.TreeSink builder.construction (Sink.forest builder.sink) ≡ before_fragment (setting_of (answers_of Sink.integration_point Sink.allows_shadow_roots Sink.attaches_shadow) opts) (context_in (Sink.forest sink) (Sink.node context)) (number_if Sink.node form) (Sink.forest sink)) }
+        requires form { IfSome (number_if Sink.node form) (λ n. element_name (data_of (Sink.forest sink) n) ≡ Some
+            (element_name_of Html (codes "form"))) }
+        ensures begun { IfOk result
+            (λ builder. built Sink.TreeSink builder.construction (Sink.forest builder.sink) ≡ before_fragment
+            (setting_of (answers_of Sink.integration_point Sink.allows_shadow_roots Sink.attaches_shadow) opts)
+            (context_in (Sink.forest sink) (Sink.node context)) (number_if Sink.node form) (Sink.forest sink)) }
         ensures usable { IfOk result (λ builder. Usable (hushed (built Sink.TreeSink builder.construction (Sink.forest builder.sink)))) }
         ensures works { IfOk result (λ builder. builder.has_failed ≡ false) }
         ensures turns { IfOk result (λ builder. builder.turns.count ≡ 0) }
@@ -113,7 +118,8 @@ impl<Sink: TreeSink> TreeBuilder<Sink> {
         self.construction.is_fragment()
     }
 
-    /// The text state in which the tokenizer begins a fragment (HTML Standard, section 13.4); `scripting` says how its context was scripted.
+    /// The text state in which the tokenizer begins a fragment (HTML Standard, section 13.4); `scripting` says how its context was
+    /// scripted.
     pub fn tokenizer_state_for_context_elem(&self, scripting: bool) -> State
         requires { IsSome self.now.construction.context_elem }
         ensures { IfSome self.now.construction.context_elem (λ context. result ≡ tokenizer_state context scripting) }

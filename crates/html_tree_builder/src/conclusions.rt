@@ -100,7 +100,8 @@ impl<'a> NamedToken<'a> {
 
 /// What is answered to a tag that may name the encoding of the document.
 fn encoding_reply<Handle>(alloc: Global, label: Option<&str>) -> Result<Ending<Handle>, ParseFault>
-    ensures ok { IfOk result (λ ending. (node : Handle → ℕ) → ending_of node ending ≡ encoding_reply (option_map (λ label. chars label.now) label.entry)) }
+    ensures ok { IfOk result (λ ending. (node : Handle → ℕ) → ending_of node ending ≡ encoding_reply
+        (option_map (λ label. chars label.now) label.entry)) }
     ensures fault { IfErr result (λ fault. fault ≡ Memory) }
 {
     match label {
@@ -127,8 +128,12 @@ impl<Sink: TreeSink> Construction<Sink> {
         script: Sink::Handle,
         told: &NamedToken<'_>,
     ) -> Result<Next<Sink::Handle>, ParseFault>
-        ensures ok { IfOk result (λ next. (a : Answers) (f : Forest) (using : Mode → Token → State → Turn) → concluded using (conclusion_of ends.now) (token_of told.now.content) (Sink.node script) (state_of a self.old f) ≡ next_turn Sink.node using next (token_of told.now.content) (state_of a self.new f)) }
-        ensures may { IfOk result (λ next. (n : ℕ) (a : Answers) (f : Forest) → MayConclude (MayUse n) (using_rules_for n) (conclusion_of ends.now) (token_of told.now.content) (state_of a self.old f) → MayGoOn (MayUse n) (using_rules_for n) next (token_of told.now.content) (state_of a self.new f)) }
+        ensures ok { IfOk result (λ next. (a : Answers) (f : Forest) (using : Mode → Token → State → Turn)
+            → concluded using (conclusion_of ends.now) (token_of told.now.content) (Sink.node script)
+            (state_of a self.old f) ≡ next_turn Sink.node using next (token_of told.now.content) (state_of a self.new f)) }
+        ensures may { IfOk result (λ next. (n : ℕ) (a : Answers) (f : Forest) → MayConclude (MayUse n)
+            (using_rules_for n) (conclusion_of ends.now) (token_of told.now.content) (state_of a self.old f)
+            → MayGoOn (MayUse n) (using_rules_for n) next (token_of told.now.content) (state_of a self.new f)) }
         ensures stands { OnOk result ((f : Forest) → Stands f self.old → Stands f self.new) }
         ensures fault { IfErr result (λ fault. fault ≡ Memory) }
     {

@@ -48,7 +48,21 @@ impl<Sink: TreeSink> Model for Construction<Sink> {
 
     ghost Value = { Building };
 
-    ghost view = { λ c. record { stack = c.stack; mode = c.mode; orig_mode = c.orig_mode; head_elem = number_if Sink.node c.head_elem; form_elem = number_if Sink.node c.form_elem; frameset_ok = c.frameset_ok; ignore_lf = c.ignore_lf; foster_parenting = c.foster_parenting; pending_table_text = c.pending_table_text; quirks_mode = c.quirks_mode; context_elem = context_of Sink.node c.context_elem; has_ended = c.has_ended; opts = options_of c.opts } };
+    ghost view = { λ c. record {
+      stack = c.stack;
+      mode = c.mode;
+      orig_mode = c.orig_mode;
+      head_elem = number_if Sink.node c.head_elem;
+      form_elem = number_if Sink.node c.form_elem;
+      frameset_ok = c.frameset_ok;
+      ignore_lf = c.ignore_lf;
+      foster_parenting = c.foster_parenting;
+      pending_table_text = c.pending_table_text;
+      quirks_mode = c.quirks_mode;
+      context_elem = context_of Sink.node c.context_elem;
+      has_ended = c.has_ended;
+      opts = options_of c.opts;
+    } };
 }
 
 /// A context, lent.

@@ -40,9 +40,12 @@ impl<Sink: TreeSink> TreeBuilder<Sink> {
         requires usable { Usable (hushed (built Sink.TreeSink self.old.construction (Sink.forest self.old.sink))) }
         requires going { self.old.construction.has_ended ≡ false }
         requires works { self.old.has_failed ≡ false }
-        ensures taken { IsTaken Sink.node (TagToken tag.old) (built Sink.TreeSink self.old.construction (Sink.forest self.old.sink)) (built Sink.TreeSink self.new.construction (Sink.forest self.new.sink)) result }
+        ensures taken { IsTaken Sink.node (TagToken tag.old)
+            (built Sink.TreeSink self.old.construction (Sink.forest self.old.sink))
+            (built Sink.TreeSink self.new.construction (Sink.forest self.new.sink)) result }
         ensures failed { self.new.has_failed ≡ fails result }
-        ensures counted { OnOk result (self.new.turns.count ≡ self.old.turns.count + turns_of (TagToken tag.old) (built Sink.TreeSink self.old.construction (Sink.forest self.old.sink))) }
+        ensures counted { OnOk result (self.new.turns.count ≡ self.old.turns.count + turns_of (TagToken tag.old)
+            (built Sink.TreeSink self.old.construction (Sink.forest self.old.sink))) }
         ensures most { self.new.turns.count ≤ self.old.turns.count + most_turns self.old.construction.stack.open_elems }
         ensures fault { IfErr result (λ fault. fault ≡ Memory) }
     {
@@ -67,14 +70,22 @@ impl<Sink: TreeSink> TreeBuilder<Sink> {
         line_number: u64,
     ) -> Result<TokenSinkResult<Sink::Handle>, ParseFault>
         requires { self.old.has_failed ≡ false → Usable (hushed (built Sink.TreeSink self.old.construction (Sink.forest self.old.sink))) }
-        ensures gives { Gives Sink.node (step (hushed (built Sink.TreeSink self.old.construction (Sink.forest self.old.sink))) (TagToken tag.old) line_number) result (hushed (built Sink.TreeSink self.new.construction (Sink.forest self.new.sink))) }
+        ensures gives { Gives Sink.node
+            (step (hushed (built Sink.TreeSink self.old.construction (Sink.forest self.old.sink)))
+            (TagToken tag.old) line_number) result (hushed (built Sink.TreeSink self.new.construction (Sink.forest self.new.sink))) }
         ensures failed_before { tells_failed result ≡ self.old.has_failed }
         ensures failed_after { self.new.has_failed ≡ fails result }
-        ensures unchanged { OnRefused result (hushed (built Sink.TreeSink self.new.construction (Sink.forest self.new.sink)) ≡ hushed (built Sink.TreeSink self.old.construction (Sink.forest self.old.sink))) }
+        ensures unchanged { OnRefused result
+            (hushed (built Sink.TreeSink self.new.construction (Sink.forest self.new.sink)) ≡ hushed
+            (built Sink.TreeSink self.old.construction (Sink.forest self.old.sink))) }
         ensures same_errors { OnRefused result ((Sink.forest self.new.sink).errors ≡ (Sink.forest self.old.sink).errors) }
-        ensures counts { Counts (is_quiet (hushed (built Sink.TreeSink self.old.construction (Sink.forest self.old.sink))) (TagToken tag.old)) (TagToken tag.old) result (Sink.forest self.old.sink).errors (Sink.forest self.new.sink).errors }
-        ensures sound { self.new.has_failed ≡ false → Usable (hushed (built Sink.TreeSink self.new.construction (Sink.forest self.new.sink))) }
-        ensures counted { OnOk result (self.new.turns.count ≡ self.old.turns.count + turns_of (TagToken tag.old) (built Sink.TreeSink self.old.construction (Sink.forest self.old.sink))) }
+        ensures counts { Counts (is_quiet
+            (hushed (built Sink.TreeSink self.old.construction (Sink.forest self.old.sink))) (TagToken tag.old))
+            (TagToken tag.old) result (Sink.forest self.old.sink).errors (Sink.forest self.new.sink).errors }
+        ensures sound { self.new.has_failed ≡ false
+            → Usable (hushed (built Sink.TreeSink self.new.construction (Sink.forest self.new.sink))) }
+        ensures counted { OnOk result (self.new.turns.count ≡ self.old.turns.count + turns_of (TagToken tag.old)
+            (built Sink.TreeSink self.old.construction (Sink.forest self.old.sink))) }
         ensures most { self.new.turns.count ≤ self.old.turns.count + most_turns self.old.construction.stack.open_elems }
     {
         if self.has_failed {

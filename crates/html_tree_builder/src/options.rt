@@ -20,7 +20,13 @@ impl Default for TreeBuilderOpts {
     ghost use Rattle.std.specs.Prelude.{◌≡◌, true, false};
     ghost use Rattle.markup.specs.declared.quirks.QuirksMode.TheVariants.{NoQuirks};
 
-    ghost is_default = { λ opts. opts ≡ record { exact_errors = false; scripting_enabled = true; iframe_srcdoc = false; drop_doctype = false; quirks_mode = NoQuirks } };
+    ghost is_default = { λ opts. opts ≡ record {
+      exact_errors = false;
+      scripting_enabled = true;
+      iframe_srcdoc = false;
+      drop_doctype = false;
+      quirks_mode = NoQuirks;
+    } };
 
     fn default() -> TreeBuilderOpts {
         TreeBuilderOpts {

@@ -31,7 +31,8 @@ impl NamedToken<'_> {
     /// How many rows of a mode are passed over, since none of them is for the token. Only those of tags are noted.
     fn rows_passed(&self, mode: InsertionMode) -> usize
         requires { IsTold self.now }
-        ensures { (s : State) → first_fit (drop result (rows mode)) (token_of self.now.content) s ≡ first_fit (rows mode) (token_of self.now.content) s }
+        ensures { (s : State) → first_fit (drop result (rows mode)) (token_of self.now.content) s ≡ first_fit
+            (rows mode) (token_of self.now.content) s }
     {
         match self.content {
             Content::Tag(tag) => rows_before(mode, tag.kind, self.class.known),
@@ -44,7 +45,8 @@ impl<Sink: TreeSink> Construction<Sink> {
     /// Whether a condition holds for a token.
     pub(crate) fn holds(&self, sink: &Sink, condition: &Condition, told: &NamedToken<'_>) -> bool
         requires { IsTold told.now }
-        ensures { (a : Answers) (f : Forest) → result ≡ holds (condition_of condition.now) (token_of told.now.content) (state_of a self.now f) }
+        ensures { (a : Answers) (f : Forest) → result ≡ holds (condition_of condition.now)
+            (token_of told.now.content) (state_of a self.now f) }
     {
         match condition {
             Condition::Always => true,
@@ -82,7 +84,8 @@ impl<Sink: TreeSink> Construction<Sink> {
     /// The same. Most rows ask for nothing, and that is seen at once.
     fn is_met(&self, sink: &Sink, condition: &Condition, told: &NamedToken<'_>) -> bool
         requires { IsTold told.now }
-        ensures { (a : Answers) (f : Forest) → result ≡ holds (condition_of condition.now) (token_of told.now.content) (state_of a self.now f) }
+        ensures { (a : Answers) (f : Forest) → result ≡ holds (condition_of condition.now)
+            (token_of told.now.content) (state_of a self.now f) }
     {
         match condition {
             Condition::Always => true,
@@ -101,7 +104,9 @@ impl<Sink: TreeSink> Construction<Sink> {
     /// The first row that is for a token, if there is one.
     fn find(&self, sink: &Sink, rows: &'static [Row], told: &NamedToken<'_>) -> Option<&'static Row>
         requires { IsTold told.now }
-        ensures { (a : Answers) (f : Forest) (rest : List RuleRow) → first_fit (rows_of rows.now ++ rest) (token_of told.now.content) (state_of a self.now f) ≡ row_or result (first_fit rest (token_of told.now.content) (state_of a self.now f)) }
+        ensures { (a : Answers) (f : Forest) (rest : List RuleRow) → first_fit (rows_of rows.now ++ rest)
+            (token_of told.now.content) (state_of a self.now f) ≡ row_or result
+            (first_fit rest (token_of told.now.content) (state_of a self.now f)) }
     {
         for row in rows {
             if self.fits(sink, row, told) {
@@ -114,7 +119,8 @@ impl<Sink: TreeSink> Construction<Sink> {
     /// The first row that is for a token, or what a token takes that no row is for.
     fn first_in(&self, sink: &Sink, rows: &'static [Row], told: &NamedToken<'_>) -> &'static Row
         requires { IsTold told.now }
-        ensures { (a : Answers) (f : Forest) → row_of result.now ≡ first_fit (rows_of rows.now) (token_of told.now.content) (state_of a self.now f) }
+        ensures { (a : Answers) (f : Forest) → row_of result.now ≡ first_fit (rows_of rows.now)
+            (token_of told.now.content) (state_of a self.now f) }
     {
         match self.find(sink, rows, told) {
             Some(row) => row,
@@ -131,7 +137,8 @@ impl<Sink: TreeSink> Construction<Sink> {
         told: &NamedToken<'_>,
     ) -> &'static Row
         requires { IsTold told.now }
-        ensures { (a : Answers) (f : Forest) → row_of result.now ≡ first_fit (drop passed (rows mode)) (token_of told.now.content) (state_of a self.now f) }
+        ensures { (a : Answers) (f : Forest) → row_of result.now ≡ first_fit (drop passed (rows mode))
+            (token_of told.now.content) (state_of a self.now f) }
     {
         let mut place = passed;
         while let Some(row) = row_at(mode, place) {
@@ -151,7 +158,8 @@ impl<Sink: TreeSink> Construction<Sink> {
         told: &NamedToken<'_>,
     ) -> &'static Row
         requires { IsTold told.now }
-        ensures { (a : Answers) (f : Forest) → row_of result.now ≡ first_fit (rows mode) (token_of told.now.content) (state_of a self.now f) }
+        ensures { (a : Answers) (f : Forest) → row_of result.now ≡ first_fit (rows mode) (token_of told.now.content)
+            (state_of a self.now f) }
     {
         let passed = told.rows_passed(mode);
         match row_at(mode, passed) {
@@ -163,7 +171,8 @@ impl<Sink: TreeSink> Construction<Sink> {
     /// The row of foreign content that a token takes.
     pub(crate) fn first_foreign_row(&self, sink: &Sink, told: &NamedToken<'_>) -> &'static Row
         requires { IsTold told.now }
-        ensures { (a : Answers) (f : Forest) → row_of result.now ≡ first_fit in_foreign_content (token_of told.now.content) (state_of a self.now f) }
+        ensures { (a : Answers) (f : Forest) → row_of result.now ≡ first_fit in_foreign_content
+            (token_of told.now.content) (state_of a self.now f) }
     {
         self.first_in(sink, rows_of_foreign_content(), told)
     }

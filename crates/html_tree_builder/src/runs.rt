@@ -70,7 +70,8 @@ fn run_at<Handle>(element: &OpenElement<Handle>, mode: InsertionMode) -> Option<
 impl<Sink: TreeSink> Construction<Sink> {
     /// The adjusted current node: in a fragment in which the root alone is open, the context.
     pub(crate) fn adjusted_current_node(&self) -> Option<&OpenElement<Sink::Handle>>
-        ensures { MatchOption result (adjusted_by self.now.context_elem self.now.stack.open_elems ≡ None) (λ x. adjusted_by self.now.context_elem self.now.stack.open_elems ≡ Some (open_of Sink.node x.now)) }
+        ensures { MatchOption result (adjusted_by self.now.context_elem self.now.stack.open_elems ≡ None)
+            (λ x. adjusted_by self.now.context_elem self.now.stack.open_elems ≡ Some (open_of Sink.node x.now)) }
     {
         adjusted(self.stack.open_elems(), lent(&self.context_elem))
     }
@@ -94,7 +95,8 @@ impl<Sink: TreeSink> Construction<Sink> {
         text: Text,
     ) -> Result<(), ParseFault>
         requires stands { Stands (Sink.forest sink.old) self.old }
-        ensures ok { OnOk result (Performs (act (run_action run) (CharacterTokens text)) self.old self.new (Sink.forest sink.old) (Sink.forest sink.new)) }
+        ensures ok { OnOk result (Performs (act (run_action run) (CharacterTokens text)) self.old self.new
+            (Sink.forest sink.old) (Sink.forest sink.new)) }
         ensures fault { IfErr result (λ fault. fault ≡ Memory) }
     {
         match run {

@@ -40,7 +40,8 @@ impl<Sink: TreeSink> Construction<Sink> {
     /// A self-closing flag that was not acknowledged is an error.
     #[tactic(auto, unfolding(html_rules::specs::Stack::parse_error))]
     pub(crate) fn check_acknowledged(&self, sink: &mut Sink, acknowledged: bool, closes: bool)
-        ensures state { (t : Token) → closes ≡ is_self_closing t → Performs (check_acknowledged acknowledged t) self.now self.now (Sink.forest sink.old) (Sink.forest sink.new) }
+        ensures state { (t : Token) → closes ≡ is_self_closing t → Performs (check_acknowledged acknowledged t)
+            self.now self.now (Sink.forest sink.old) (Sink.forest sink.new) }
         ensures stands { Stands (Sink.forest sink.old) self.now → Stands (Sink.forest sink.new) self.now }
     {
         if !acknowledged && closes {
@@ -59,11 +60,18 @@ impl<Sink: TreeSink> Construction<Sink> {
         requires stands { Stands (Sink.forest sink.old) self.old }
         requires may { MayCome (token_of told.now.content) (built Sink.TreeSink self.old (Sink.forest sink.old)) }
         requires settled { (settle (token_of told.now.content) (built Sink.TreeSink self.old (Sink.forest sink.old))).is_settled ≡ true }
-        ensures state { OnOk result (built Sink.TreeSink self.new (Sink.forest sink.new) ≡ (settle (token_of told.now.content) (built Sink.TreeSink self.old (Sink.forest sink.old))).state) }
-        ensures reply { IfOk result (λ reply. numbered Sink.node reply ≡ (settle (token_of told.now.content) (built Sink.TreeSink self.old (Sink.forest sink.old))).reply) }
+        ensures state { OnOk result
+            (built Sink.TreeSink self.new (Sink.forest sink.new) ≡
+            (settle (token_of told.now.content) (built Sink.TreeSink self.old (Sink.forest sink.old))).state) }
+        ensures reply { IfOk result
+            (λ reply. numbered Sink.node reply ≡
+            (settle (token_of told.now.content) (built Sink.TreeSink self.old (Sink.forest sink.old))).reply) }
         ensures stands { OnOk result (Stands (Sink.forest sink.new) self.new) }
-        ensures counted { OnOk result (turns.new.count ≡ turns.old.count + (settle (token_of told.now.content) (built Sink.TreeSink self.old (Sink.forest sink.old))).turns) }
-        ensures most { turns.new.count ≤ turns.old.count + (settle (token_of told.now.content) (built Sink.TreeSink self.old (Sink.forest sink.old))).turns }
+        ensures counted { OnOk result
+            (turns.new.count ≡ turns.old.count +
+            (settle (token_of told.now.content) (built Sink.TreeSink self.old (Sink.forest sink.old))).turns) }
+        ensures most { turns.new.count ≤ turns.old.count +
+            (settle (token_of told.now.content) (built Sink.TreeSink self.old (Sink.forest sink.old))).turns }
         ensures fault { IfErr result (λ fault. fault ≡ Memory) }
     {
         loop {

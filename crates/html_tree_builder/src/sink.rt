@@ -76,7 +76,8 @@ impl<Sink: TreeSink> Construction<Sink> {
 impl<Sink: TreeSink> TreeBuilder<Sink> {
     /// Tells the sink a line that differs from the last one that it was told.
     pub(crate) fn report_line(&mut self, line: u64)
-        ensures same { built Sink.TreeSink self.new.construction (Sink.forest self.new.sink) ≡ built Sink.TreeSink self.old.construction (Sink.forest self.old.sink) }
+        ensures same { built Sink.TreeSink self.new.construction (Sink.forest self.new.sink) ≡ built Sink.TreeSink
+            self.old.construction (Sink.forest self.old.sink) }
         ensures works { self.new.has_failed ≡ self.old.has_failed }
         ensures turns { self.new.turns.count ≡ self.old.turns.count }
         ensures open { self.new.construction.stack.open_elems ≡ self.old.construction.stack.open_elems }
@@ -97,9 +98,12 @@ impl<Sink: TreeSink> TreeBuilder<Sink> {
         requires usable { Usable (hushed (built Sink.TreeSink self.old.construction (Sink.forest self.old.sink))) }
         requires going { self.old.construction.has_ended ≡ false }
         requires works { self.old.has_failed ≡ false }
-        ensures taken { IsTaken Sink.node token.old (built Sink.TreeSink self.old.construction (Sink.forest self.old.sink)) (built Sink.TreeSink self.new.construction (Sink.forest self.new.sink)) result }
+        ensures taken { IsTaken Sink.node token.old
+            (built Sink.TreeSink self.old.construction (Sink.forest self.old.sink))
+            (built Sink.TreeSink self.new.construction (Sink.forest self.new.sink)) result }
         ensures failed { self.new.has_failed ≡ fails result }
-        ensures counted { OnOk result (self.new.turns.count ≡ self.old.turns.count + turns_of token.old (built Sink.TreeSink self.old.construction (Sink.forest self.old.sink))) }
+        ensures counted { OnOk result (self.new.turns.count ≡ self.old.turns.count + turns_of token.old
+            (built Sink.TreeSink self.old.construction (Sink.forest self.old.sink))) }
         ensures most { self.new.turns.count ≤ self.old.turns.count + most_turns self.old.construction.stack.open_elems }
         ensures fault { IfErr result (λ fault. fault ≡ Memory) }
     {
@@ -124,14 +128,22 @@ impl<Sink: TreeSink> TreeBuilder<Sink> {
         line_number: u64,
     ) -> Result<TokenSinkResult<Sink::Handle>, ParseFault>
         requires { self.old.has_failed ≡ false → Usable (hushed (built Sink.TreeSink self.old.construction (Sink.forest self.old.sink))) }
-        ensures gives { Gives Sink.node (step (hushed (built Sink.TreeSink self.old.construction (Sink.forest self.old.sink))) token.old line_number) result (hushed (built Sink.TreeSink self.new.construction (Sink.forest self.new.sink))) }
+        ensures gives { Gives Sink.node
+            (step (hushed (built Sink.TreeSink self.old.construction (Sink.forest self.old.sink))) token.old
+            line_number) result (hushed (built Sink.TreeSink self.new.construction (Sink.forest self.new.sink))) }
         ensures failed_before { tells_failed result ≡ self.old.has_failed }
         ensures failed_after { self.new.has_failed ≡ fails result }
-        ensures unchanged { OnRefused result (hushed (built Sink.TreeSink self.new.construction (Sink.forest self.new.sink)) ≡ hushed (built Sink.TreeSink self.old.construction (Sink.forest self.old.sink))) }
+        ensures unchanged { OnRefused result
+            (hushed (built Sink.TreeSink self.new.construction (Sink.forest self.new.sink)) ≡ hushed
+            (built Sink.TreeSink self.old.construction (Sink.forest self.old.sink))) }
         ensures same_errors { OnRefused result ((Sink.forest self.new.sink).errors ≡ (Sink.forest self.old.sink).errors) }
-        ensures counts { Counts (is_quiet (hushed (built Sink.TreeSink self.old.construction (Sink.forest self.old.sink))) token.old) token.old result (Sink.forest self.old.sink).errors (Sink.forest self.new.sink).errors }
-        ensures sound { self.new.has_failed ≡ false → Usable (hushed (built Sink.TreeSink self.new.construction (Sink.forest self.new.sink))) }
-        ensures counted { OnOk result (self.new.turns.count ≡ self.old.turns.count + turns_of token.old (built Sink.TreeSink self.old.construction (Sink.forest self.old.sink))) }
+        ensures counts { Counts (is_quiet
+            (hushed (built Sink.TreeSink self.old.construction (Sink.forest self.old.sink))) token.old) token.old
+            result (Sink.forest self.old.sink).errors (Sink.forest self.new.sink).errors }
+        ensures sound { self.new.has_failed ≡ false
+            → Usable (hushed (built Sink.TreeSink self.new.construction (Sink.forest self.new.sink))) }
+        ensures counted { OnOk result (self.new.turns.count ≡ self.old.turns.count + turns_of token.old
+            (built Sink.TreeSink self.old.construction (Sink.forest self.old.sink))) }
         ensures most { self.new.turns.count ≤ self.old.turns.count + most_turns self.old.construction.stack.open_elems }
     {
         if self.has_failed {
@@ -188,14 +200,22 @@ impl<Sink: TreeSink> TokenSink for TreeBuilder<Sink> {
         line_number: u64,
     ) -> Result<TokenSinkResult<Sink::Handle>, ParseFault>
         requires { self.old.has_failed ≡ false → Usable (hushed (built Sink.TreeSink self.old.construction (Sink.forest self.old.sink))) }
-        ensures gives { Gives Sink.node (step (hushed (built Sink.TreeSink self.old.construction (Sink.forest self.old.sink))) token line_number) result (hushed (built Sink.TreeSink self.new.construction (Sink.forest self.new.sink))) }
+        ensures gives { Gives Sink.node
+            (step (hushed (built Sink.TreeSink self.old.construction (Sink.forest self.old.sink))) token
+            line_number) result (hushed (built Sink.TreeSink self.new.construction (Sink.forest self.new.sink))) }
         ensures failed_before { tells_failed result ≡ self.old.has_failed }
         ensures failed_after { self.new.has_failed ≡ fails result }
-        ensures unchanged { OnRefused result (hushed (built Sink.TreeSink self.new.construction (Sink.forest self.new.sink)) ≡ hushed (built Sink.TreeSink self.old.construction (Sink.forest self.old.sink))) }
+        ensures unchanged { OnRefused result
+            (hushed (built Sink.TreeSink self.new.construction (Sink.forest self.new.sink)) ≡ hushed
+            (built Sink.TreeSink self.old.construction (Sink.forest self.old.sink))) }
         ensures same_errors { OnRefused result ((Sink.forest self.new.sink).errors ≡ (Sink.forest self.old.sink).errors) }
-        ensures counts { Counts (is_quiet (hushed (built Sink.TreeSink self.old.construction (Sink.forest self.old.sink))) token) token result (Sink.forest self.old.sink).errors (Sink.forest self.new.sink).errors }
-        ensures sound { self.new.has_failed ≡ false → Usable (hushed (built Sink.TreeSink self.new.construction (Sink.forest self.new.sink))) }
-        ensures counted { OnOk result (self.new.turns.count ≡ self.old.turns.count + turns_of token (built Sink.TreeSink self.old.construction (Sink.forest self.old.sink))) }
+        ensures counts { Counts (is_quiet
+            (hushed (built Sink.TreeSink self.old.construction (Sink.forest self.old.sink))) token) token result
+            (Sink.forest self.old.sink).errors (Sink.forest self.new.sink).errors }
+        ensures sound { self.new.has_failed ≡ false
+            → Usable (hushed (built Sink.TreeSink self.new.construction (Sink.forest self.new.sink))) }
+        ensures counted { OnOk result (self.new.turns.count ≡ self.old.turns.count + turns_of token
+            (built Sink.TreeSink self.old.construction (Sink.forest self.old.sink))) }
         ensures most { self.new.turns.count ≤ self.old.turns.count + most_turns self.old.construction.stack.open_elems }
     {
         let mut token = token;
@@ -209,14 +229,22 @@ impl<Sink: TreeSink> TokenSink for TreeBuilder<Sink> {
         line_number: u64,
     ) -> Result<TokenSinkResult<Sink::Handle>, ParseFault>
         requires { self.old.has_failed ≡ false → Usable (hushed (built Sink.TreeSink self.old.construction (Sink.forest self.old.sink))) }
-        ensures gives { Gives Sink.node (step (hushed (built Sink.TreeSink self.old.construction (Sink.forest self.old.sink))) (TagToken tag.old) line_number) result (hushed (built Sink.TreeSink self.new.construction (Sink.forest self.new.sink))) }
+        ensures gives { Gives Sink.node
+            (step (hushed (built Sink.TreeSink self.old.construction (Sink.forest self.old.sink)))
+            (TagToken tag.old) line_number) result (hushed (built Sink.TreeSink self.new.construction (Sink.forest self.new.sink))) }
         ensures failed_before { tells_failed result ≡ self.old.has_failed }
         ensures failed_after { self.new.has_failed ≡ fails result }
-        ensures unchanged { OnRefused result (hushed (built Sink.TreeSink self.new.construction (Sink.forest self.new.sink)) ≡ hushed (built Sink.TreeSink self.old.construction (Sink.forest self.old.sink))) }
+        ensures unchanged { OnRefused result
+            (hushed (built Sink.TreeSink self.new.construction (Sink.forest self.new.sink)) ≡ hushed
+            (built Sink.TreeSink self.old.construction (Sink.forest self.old.sink))) }
         ensures same_errors { OnRefused result ((Sink.forest self.new.sink).errors ≡ (Sink.forest self.old.sink).errors) }
-        ensures counts { Counts (is_quiet (hushed (built Sink.TreeSink self.old.construction (Sink.forest self.old.sink))) (TagToken tag.old)) (TagToken tag.old) result (Sink.forest self.old.sink).errors (Sink.forest self.new.sink).errors }
-        ensures sound { self.new.has_failed ≡ false → Usable (hushed (built Sink.TreeSink self.new.construction (Sink.forest self.new.sink))) }
-        ensures counted { OnOk result (self.new.turns.count ≡ self.old.turns.count + turns_of (TagToken tag.old) (built Sink.TreeSink self.old.construction (Sink.forest self.old.sink))) }
+        ensures counts { Counts (is_quiet
+            (hushed (built Sink.TreeSink self.old.construction (Sink.forest self.old.sink))) (TagToken tag.old))
+            (TagToken tag.old) result (Sink.forest self.old.sink).errors (Sink.forest self.new.sink).errors }
+        ensures sound { self.new.has_failed ≡ false
+            → Usable (hushed (built Sink.TreeSink self.new.construction (Sink.forest self.new.sink))) }
+        ensures counted { OnOk result (self.new.turns.count ≡ self.old.turns.count + turns_of (TagToken tag.old)
+            (built Sink.TreeSink self.old.construction (Sink.forest self.old.sink))) }
         ensures most { self.new.turns.count ≤ self.old.turns.count + most_turns self.old.construction.stack.open_elems }
     {
         self.process_lent_tag(tag, line_number)

@@ -25,13 +25,17 @@ use markup::count::Count;
 use markup::{ParseFault, TreeSink};
 
 impl<Sink: TreeSink> Construction<Sink> {
-    /// The row that a token takes at first, and how many modes may use one another's rules after it. A row that only uses the rules of another
-    /// mode is passed over.
+    /// The row that a token takes at first, and how many modes may use one another's rules after it. A row that only uses the rules of
+    /// another mode is passed over.
     fn row_of_turn(&self, sink: &Sink, told: &NamedToken<'_>) -> (&'static Row, u8)
         requires told { IsTold told.now }
         requires stands { Stands (Sink.forest sink.now) self.now }
-        ensures turned { turn_by_row (using_rules_for result.1) (row_of result.0.now) (token_of told.now.content) (built Sink.TreeSink self.now (Sink.forest sink.now)) ≡ turn (token_of told.now.content) (built Sink.TreeSink self.now (Sink.forest sink.now)) }
-        ensures may { MayTurn (token_of told.now.content) (built Sink.TreeSink self.now (Sink.forest sink.now)) → MayTakeRow (MayUse result.1) (using_rules_for result.1) (row_of result.0.now) (token_of told.now.content) (built Sink.TreeSink self.now (Sink.forest sink.now)) }
+        ensures turned { turn_by_row (using_rules_for result.1) (row_of result.0.now) (token_of told.now.content)
+            (built Sink.TreeSink self.now (Sink.forest sink.now)) ≡ turn (token_of told.now.content)
+            (built Sink.TreeSink self.now (Sink.forest sink.now)) }
+        ensures may { MayTurn (token_of told.now.content) (built Sink.TreeSink self.now (Sink.forest sink.now))
+            → MayTakeRow (MayUse result.1) (using_rules_for result.1) (row_of result.0.now)
+            (token_of told.now.content) (built Sink.TreeSink self.now (Sink.forest sink.now)) }
     {
         if self.is_foreign(sink, told) {
             return (self.first_foreign_row(sink, told), MOST_MODES);
@@ -56,7 +60,8 @@ impl<Sink: TreeSink> Construction<Sink> {
         requires class { IsClassOf Html tag.old.name class }
         requires stands { Stands (Sink.forest sink.old) self.old }
         requires may { MayTurn (TagToken tag.old) (built Sink.TreeSink self.old (Sink.forest sink.old)) }
-        ensures ok { IfOk result (λ ending. turn_of (built Sink.TreeSink self.new (Sink.forest sink.new)) (ending_of Sink.node ending) ≡ turn (TagToken tag.old) (built Sink.TreeSink self.old (Sink.forest sink.old))) }
+        ensures ok { IfOk result (λ ending. turn_of (built Sink.TreeSink self.new (Sink.forest sink.new))
+            (ending_of Sink.node ending) ≡ turn (TagToken tag.old) (built Sink.TreeSink self.old (Sink.forest sink.old))) }
         ensures stands { IfOk result (λ ending. ending_of Sink.node ending ≡ Again → Stands (Sink.forest sink.new) self.new) }
         ensures kept { IfOk result (λ ending. ending_of Sink.node ending ≡ Again → tag.new ≡ tag.old) }
         ensures fault { IfErr result (λ fault. fault ≡ Memory) }
@@ -88,10 +93,15 @@ impl<Sink: TreeSink> Construction<Sink> {
         requires stands { Stands (Sink.forest sink.old) self.old }
         requires may { MayCome (TagToken tag.old) (built Sink.TreeSink self.old (Sink.forest sink.old)) }
         requires settled { (settle (TagToken tag.old) (built Sink.TreeSink self.old (Sink.forest sink.old))).is_settled ≡ true }
-        ensures state { OnOk result (built Sink.TreeSink self.new (Sink.forest sink.new) ≡ (settle (TagToken tag.old) (built Sink.TreeSink self.old (Sink.forest sink.old))).state) }
-        ensures reply { IfOk result (λ reply. numbered Sink.node reply ≡ (settle (TagToken tag.old) (built Sink.TreeSink self.old (Sink.forest sink.old))).reply) }
-        ensures counted { OnOk result (turns.new.count ≡ turns.old.count + (settle (TagToken tag.old) (built Sink.TreeSink self.old (Sink.forest sink.old))).turns) }
-        ensures most { turns.new.count ≤ turns.old.count + (settle (TagToken tag.old) (built Sink.TreeSink self.old (Sink.forest sink.old))).turns }
+        ensures state { OnOk result
+            (built Sink.TreeSink self.new (Sink.forest sink.new) ≡
+            (settle (TagToken tag.old) (built Sink.TreeSink self.old (Sink.forest sink.old))).state) }
+        ensures reply { IfOk result
+            (λ reply. numbered Sink.node reply ≡ (settle (TagToken tag.old) (built Sink.TreeSink self.old (Sink.forest sink.old))).reply) }
+        ensures counted { OnOk result
+            (turns.new.count ≡ turns.old.count + (settle (TagToken tag.old) (built Sink.TreeSink self.old (Sink.forest sink.old))).turns) }
+        ensures most { turns.new.count ≤ turns.old.count +
+            (settle (TagToken tag.old) (built Sink.TreeSink self.old (Sink.forest sink.old))).turns }
         ensures fault { IfErr result (λ fault. fault ≡ Memory) }
     {
         let closes = is_self_closing(tag);

@@ -71,9 +71,15 @@ impl<Sink: TreeSink> Construction<Sink> {
         requires told { IsTold told.now }
         requires usable { Usable (built Sink.TreeSink self.old (Sink.forest sink.old)) }
         requires going { self.old.has_ended ≡ false }
-        ensures state { OnOk result (built Sink.TreeSink self.new (Sink.forest sink.new) ≡ (settle (token_of told.now.content) (built Sink.TreeSink self.old (Sink.forest sink.old))).state) }
-        ensures reply { IfOk result (λ reply. numbered Sink.node reply ≡ (settle (token_of told.now.content) (built Sink.TreeSink self.old (Sink.forest sink.old))).reply) }
-        ensures counted { OnOk result (turns.new.count ≡ turns.old.count + (settle (token_of told.now.content) (built Sink.TreeSink self.old (Sink.forest sink.old))).turns) }
+        ensures state { OnOk result
+            (built Sink.TreeSink self.new (Sink.forest sink.new) ≡
+            (settle (token_of told.now.content) (built Sink.TreeSink self.old (Sink.forest sink.old))).state) }
+        ensures reply { IfOk result
+            (λ reply. numbered Sink.node reply ≡
+            (settle (token_of told.now.content) (built Sink.TreeSink self.old (Sink.forest sink.old))).reply) }
+        ensures counted { OnOk result
+            (turns.new.count ≡ turns.old.count +
+            (settle (token_of told.now.content) (built Sink.TreeSink self.old (Sink.forest sink.old))).turns) }
         ensures most { turns.new.count ≤ turns.old.count + most_turns self.old.stack.open_elems }
         ensures fault { IfErr result (λ fault. fault ≡ Memory) }
     {
@@ -88,7 +94,8 @@ impl<Sink: TreeSink> Construction<Sink> {
     ) -> Result<(), ParseFault>
         requires usable { Usable (built Sink.TreeSink self.old (Sink.forest sink.old)) }
         requires going { self.old.has_ended ≡ false }
-        ensures ok { OnOk result (built Sink.TreeSink self.new (Sink.forest sink.new) ≡ (settle (CharacterTokens (chars character.now)) (built Sink.TreeSink self.old (Sink.forest sink.old))).state) }
+        ensures ok { OnOk result (built Sink.TreeSink self.new (Sink.forest sink.new) ≡
+            (settle (CharacterTokens (chars character.now)) (built Sink.TreeSink self.old (Sink.forest sink.old))).state) }
         ensures fault { IfErr result (λ fault. fault ≡ Memory) }
     {
         let name = LocalName::empty(self.alloc);
@@ -101,7 +108,8 @@ impl<Sink: TreeSink> Construction<Sink> {
     fn process_text(&mut self, sink: &mut Sink, text: &str) -> Result<(), ParseFault>
         requires usable { Usable (built Sink.TreeSink self.old (Sink.forest sink.old)) }
         requires going { self.old.has_ended ≡ false }
-        ensures ok { OnOk result (built Sink.TreeSink self.new (Sink.forest sink.new) ≡ (text_taken (chars text.now) (untouched (built Sink.TreeSink self.old (Sink.forest sink.old)))).state) }
+        ensures ok { OnOk result (built Sink.TreeSink self.new (Sink.forest sink.new) ≡
+            (text_taken (chars text.now) (untouched (built Sink.TreeSink self.old (Sink.forest sink.old)))).state) }
         ensures fault { IfErr result (λ fault. fault ≡ Memory) }
     {
         let mut rest = text;
@@ -121,7 +129,8 @@ impl<Sink: TreeSink> Construction<Sink> {
     fn process_lent_characters(&mut self, sink: &mut Sink, text: &str) -> Result<(), ParseFault>
         requires usable { Usable (built Sink.TreeSink self.old (Sink.forest sink.old)) }
         requires going { self.old.has_ended ≡ false }
-        ensures ok { OnOk result (built Sink.TreeSink self.new (Sink.forest sink.new) ≡ (came_of (CharacterTokens (chars text.now)) (built Sink.TreeSink self.old (Sink.forest sink.old))).state) }
+        ensures ok { OnOk result (built Sink.TreeSink self.new (Sink.forest sink.new) ≡
+            (came_of (CharacterTokens (chars text.now)) (built Sink.TreeSink self.old (Sink.forest sink.old))).state) }
         ensures fault { IfErr result (λ fault. fault ≡ Memory) }
     {
         if text.is_empty() {
@@ -138,7 +147,8 @@ impl<Sink: TreeSink> Construction<Sink> {
     fn process_characters(&mut self, sink: &mut Sink, text: &mut Text) -> Result<(), ParseFault>
         requires usable { Usable (built Sink.TreeSink self.old (Sink.forest sink.old)) }
         requires going { self.old.has_ended ≡ false }
-        ensures ok { OnOk result (built Sink.TreeSink self.new (Sink.forest sink.new) ≡ (came_of (CharacterTokens text.old) (built Sink.TreeSink self.old (Sink.forest sink.old))).state) }
+        ensures ok { OnOk result (built Sink.TreeSink self.new (Sink.forest sink.new) ≡
+            (came_of (CharacterTokens text.old) (built Sink.TreeSink self.old (Sink.forest sink.old))).state) }
         ensures fault { IfErr result (λ fault. fault ≡ Memory) }
     {
         if text.is_empty() {
@@ -156,7 +166,8 @@ impl<Sink: TreeSink> Construction<Sink> {
     /// An error of a doctype is told.
     #[tactic(auto, unfolding(html_rules::specs::Stack::parse_error))]
     fn report_doctype(&self, sink: &mut Sink, is_error: bool)
-        ensures state { (a : Answers) → state_of a self.now (Sink.forest sink.new) ≡ choose is_error (λ _. parse_error (state_of a self.now (Sink.forest sink.old))) (λ _. state_of a self.now (Sink.forest sink.old)) }
+        ensures state { (a : Answers) → state_of a self.now (Sink.forest sink.new) ≡ choose is_error
+            (λ _. parse_error (state_of a self.now (Sink.forest sink.old))) (λ _. state_of a self.now (Sink.forest sink.old)) }
         ensures stands { Stands (Sink.forest sink.old) self.now → Stands (Sink.forest sink.new) self.now }
     {
         if is_error {
@@ -167,7 +178,8 @@ impl<Sink: TreeSink> Construction<Sink> {
     /// A doctype is put into the document, unless none is to be there.
     fn append_doctype(&mut self, sink: &mut Sink, doctype: Doctype) -> Result<(), ParseFault>
         requires stands { Stands (Sink.forest sink.old) self.old }
-        ensures ok { OnOk result (Performs (if_kept self.old.opts.drop_doctype doctype) self.old self.new (Sink.forest sink.old) (Sink.forest sink.new)) }
+        ensures ok { OnOk result (Performs (if_kept self.old.opts.drop_doctype doctype) self.old self.new
+            (Sink.forest sink.old) (Sink.forest sink.new)) }
         ensures fault { IfErr result (λ fault. fault ≡ Memory) }
     {
         if self.opts.drop_doctype {
@@ -195,7 +207,8 @@ impl<Sink: TreeSink> Construction<Sink> {
     #[inline(never)]
     fn process_doctype(&mut self, sink: &mut Sink, doctype: &mut Doctype) -> Result<(), ParseFault>
         requires stands { Stands (Sink.forest sink.old) self.old }
-        ensures ok { OnOk result (Performs (doctype_taken self.old.mode doctype.old) self.old self.new (Sink.forest sink.old) (Sink.forest sink.new)) }
+        ensures ok { OnOk result (Performs (doctype_taken self.old.mode doctype.old) self.old self.new
+            (Sink.forest sink.old) (Sink.forest sink.new)) }
         ensures fault { IfErr result (λ fault. fault ≡ Memory) }
     {
         match self.mode {
@@ -226,9 +239,15 @@ impl<Sink: TreeSink> Construction<Sink> {
         requires told { IsTold told.now }
         requires usable { Usable (built Sink.TreeSink self.old (Sink.forest sink.old)) }
         requires going { self.old.has_ended ≡ false }
-        ensures state { OnOk result (built Sink.TreeSink self.new (Sink.forest sink.new) ≡ (settle (token_of told.now.content) (set_ignore_lf false (built Sink.TreeSink self.old (Sink.forest sink.old)))).state) }
-        ensures reply { IfOk result (λ reply. numbered Sink.node reply ≡ (settle (token_of told.now.content) (set_ignore_lf false (built Sink.TreeSink self.old (Sink.forest sink.old)))).reply) }
-        ensures counted { OnOk result (turns.new.count ≡ turns.old.count + (settle (token_of told.now.content) (set_ignore_lf false (built Sink.TreeSink self.old (Sink.forest sink.old)))).turns) }
+        ensures state { OnOk result
+            (built Sink.TreeSink self.new (Sink.forest sink.new) ≡
+            (settle (token_of told.now.content) (set_ignore_lf false (built Sink.TreeSink self.old (Sink.forest sink.old)))).state) }
+        ensures reply { IfOk result
+            (λ reply. numbered Sink.node reply ≡
+            (settle (token_of told.now.content) (set_ignore_lf false (built Sink.TreeSink self.old (Sink.forest sink.old)))).reply) }
+        ensures counted { OnOk result
+            (turns.new.count ≡ turns.old.count +
+            (settle (token_of told.now.content) (set_ignore_lf false (built Sink.TreeSink self.old (Sink.forest sink.old)))).turns) }
         ensures most { turns.new.count ≤ turns.old.count + most_turns self.old.stack.open_elems }
         ensures fault { IfErr result (λ fault. fault ≡ Memory) }
     {
@@ -246,9 +265,15 @@ impl<Sink: TreeSink> Construction<Sink> {
     ) -> Result<TokenSinkResult<Sink::Handle>, ParseFault>
         requires usable { Usable (built Sink.TreeSink self.old (Sink.forest sink.old)) }
         requires going { self.old.has_ended ≡ false }
-        ensures state { OnOk result (built Sink.TreeSink self.new (Sink.forest sink.new) ≡ (settle (TagToken tag.old) (set_ignore_lf false (built Sink.TreeSink self.old (Sink.forest sink.old)))).state) }
-        ensures reply { IfOk result (λ reply. numbered Sink.node reply ≡ (settle (TagToken tag.old) (set_ignore_lf false (built Sink.TreeSink self.old (Sink.forest sink.old)))).reply) }
-        ensures counted { OnOk result (turns.new.count ≡ turns.old.count + (settle (TagToken tag.old) (set_ignore_lf false (built Sink.TreeSink self.old (Sink.forest sink.old)))).turns) }
+        ensures state { OnOk result
+            (built Sink.TreeSink self.new (Sink.forest sink.new) ≡
+            (settle (TagToken tag.old) (set_ignore_lf false (built Sink.TreeSink self.old (Sink.forest sink.old)))).state) }
+        ensures reply { IfOk result
+            (λ reply. numbered Sink.node reply ≡
+            (settle (TagToken tag.old) (set_ignore_lf false (built Sink.TreeSink self.old (Sink.forest sink.old)))).reply) }
+        ensures counted { OnOk result
+            (turns.new.count ≡ turns.old.count +
+            (settle (TagToken tag.old) (set_ignore_lf false (built Sink.TreeSink self.old (Sink.forest sink.old)))).turns) }
         ensures most { turns.new.count ≤ turns.old.count + most_turns self.old.stack.open_elems }
         ensures fault { IfErr result (λ fault. fault ≡ Memory) }
     {
@@ -269,9 +294,13 @@ impl<Sink: TreeSink> Construction<Sink> {
     ) -> Result<TokenSinkResult<Sink::Handle>, ParseFault>
         requires usable { Usable (built Sink.TreeSink self.old (Sink.forest sink.old)) }
         requires going { self.old.has_ended ≡ false }
-        ensures state { OnOk result (built Sink.TreeSink self.new (Sink.forest sink.new) ≡ (came_of token.old (built Sink.TreeSink self.old (Sink.forest sink.old))).state) }
-        ensures reply { IfOk result (λ reply. numbered Sink.node reply ≡ (came_of token.old (built Sink.TreeSink self.old (Sink.forest sink.old))).reply) }
-        ensures counted { OnOk result (turns.new.count ≡ turns.old.count + turns_of token.old (built Sink.TreeSink self.old (Sink.forest sink.old))) }
+        ensures state { OnOk result
+            (built Sink.TreeSink self.new (Sink.forest sink.new) ≡
+            (came_of token.old (built Sink.TreeSink self.old (Sink.forest sink.old))).state) }
+        ensures reply { IfOk result
+            (λ reply. numbered Sink.node reply ≡ (came_of token.old (built Sink.TreeSink self.old (Sink.forest sink.old))).reply) }
+        ensures counted { OnOk result
+            (turns.new.count ≡ turns.old.count + turns_of token.old (built Sink.TreeSink self.old (Sink.forest sink.old))) }
         ensures most { turns.new.count ≤ turns.old.count + most_turns self.old.stack.open_elems }
         ensures fault { IfErr result (λ fault. fault ≡ Memory) }
     {
@@ -309,9 +338,15 @@ impl<Sink: TreeSink> Construction<Sink> {
         requires nameless { [] ≡ name_of (token_of content) }
         requires usable { Usable (built Sink.TreeSink self.old (Sink.forest sink.old)) }
         requires going { self.old.has_ended ≡ false }
-        ensures state { OnOk result (built Sink.TreeSink self.new (Sink.forest sink.new) ≡ (settle (token_of content.entry) (set_ignore_lf false (built Sink.TreeSink self.old (Sink.forest sink.old)))).state) }
-        ensures reply { IfOk result (λ reply. numbered Sink.node reply ≡ (settle (token_of content.entry) (set_ignore_lf false (built Sink.TreeSink self.old (Sink.forest sink.old)))).reply) }
-        ensures counted { OnOk result (turns.new.count ≡ turns.old.count + (settle (token_of content.entry) (set_ignore_lf false (built Sink.TreeSink self.old (Sink.forest sink.old)))).turns) }
+        ensures state { OnOk result
+            (built Sink.TreeSink self.new (Sink.forest sink.new) ≡
+            (settle (token_of content.entry) (set_ignore_lf false (built Sink.TreeSink self.old (Sink.forest sink.old)))).state) }
+        ensures reply { IfOk result
+            (λ reply. numbered Sink.node reply ≡
+            (settle (token_of content.entry) (set_ignore_lf false (built Sink.TreeSink self.old (Sink.forest sink.old)))).reply) }
+        ensures counted { OnOk result
+            (turns.new.count ≡ turns.old.count +
+            (settle (token_of content.entry) (set_ignore_lf false (built Sink.TreeSink self.old (Sink.forest sink.old)))).turns) }
         ensures most { turns.new.count ≤ turns.old.count + most_turns self.old.stack.open_elems }
         ensures fault { IfErr result (λ fault. fault ≡ Memory) }
     {

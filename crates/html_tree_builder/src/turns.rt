@@ -31,7 +31,9 @@ impl<Sink: TreeSink> Construction<Sink> {
         requires told { IsTold told.now }
         requires stands { Stands (Sink.forest sink.old) self.old }
         requires may { MayUse left mode (token_of told.now.content) (built Sink.TreeSink self.old (Sink.forest sink.old)) }
-        ensures ok { IfOk result (λ ending. turn_of (built Sink.TreeSink self.new (Sink.forest sink.new)) (ending_of Sink.node ending) ≡ using_rules_for left mode (token_of told.now.content) (built Sink.TreeSink self.old (Sink.forest sink.old))) }
+        ensures ok { IfOk result (λ ending. turn_of (built Sink.TreeSink self.new (Sink.forest sink.new))
+            (ending_of Sink.node ending) ≡ using_rules_for left mode (token_of told.now.content)
+            (built Sink.TreeSink self.old (Sink.forest sink.old))) }
         ensures stands { OnOk result (Stands (Sink.forest sink.new) self.new) }
         ensures fault { IfErr result (λ fault. fault ≡ Memory) }
     {
@@ -53,8 +55,11 @@ impl<Sink: TreeSink> Construction<Sink> {
     ) -> Result<Ending<Sink::Handle>, ParseFault>
         requires told { IsTold told.now }
         requires stands { Stands (Sink.forest sink.old) self.old }
-        requires may { MayTakeRow (MayUse left) (using_rules_for left) (row_of row.now) (token_of told.now.content) (built Sink.TreeSink self.old (Sink.forest sink.old)) }
-        ensures ok { IfOk result (λ ending. turn_of (built Sink.TreeSink self.new (Sink.forest sink.new)) (ending_of Sink.node ending) ≡ turn_by_row (using_rules_for left) (row_of row.now) (token_of told.now.content) (built Sink.TreeSink self.old (Sink.forest sink.old))) }
+        requires may { MayTakeRow (MayUse left) (using_rules_for left) (row_of row.now) (token_of told.now.content)
+            (built Sink.TreeSink self.old (Sink.forest sink.old)) }
+        ensures ok { IfOk result (λ ending. turn_of (built Sink.TreeSink self.new (Sink.forest sink.new))
+            (ending_of Sink.node ending) ≡ turn_by_row (using_rules_for left) (row_of row.now)
+            (token_of told.now.content) (built Sink.TreeSink self.old (Sink.forest sink.old))) }
         ensures stands { OnOk result (Stands (Sink.forest sink.new) self.new) }
         ensures fault { IfErr result (λ fault. fault ≡ Memory) }
     {
@@ -75,8 +80,11 @@ impl<Sink: TreeSink> Construction<Sink> {
     ) -> Result<Ending<Sink::Handle>, ParseFault>
         requires told { IsTold told.now }
         requires stands { Stands (Sink.forest sink.old) self.old }
-        requires may { MayGoOn (MayUse left) (using_rules_for left) next (token_of told.now.content) (built Sink.TreeSink self.old (Sink.forest sink.old)) }
-        ensures ok { IfOk result (λ ending. turn_of (built Sink.TreeSink self.new (Sink.forest sink.new)) (ending_of Sink.node ending) ≡ next_turn Sink.node (using_rules_for left) next (token_of told.now.content) (built Sink.TreeSink self.old (Sink.forest sink.old))) }
+        requires may { MayGoOn (MayUse left) (using_rules_for left) next (token_of told.now.content)
+            (built Sink.TreeSink self.old (Sink.forest sink.old)) }
+        ensures ok { IfOk result (λ ending. turn_of (built Sink.TreeSink self.new (Sink.forest sink.new))
+            (ending_of Sink.node ending) ≡ next_turn Sink.node (using_rules_for left) next
+            (token_of told.now.content) (built Sink.TreeSink self.old (Sink.forest sink.old))) }
         ensures stands { OnOk result (Stands (Sink.forest sink.new) self.new) }
         ensures fault { IfErr result (λ fault. fault ≡ Memory) }
     {
@@ -100,7 +108,8 @@ impl<Sink: TreeSink> Construction<Sink> {
         requires told { IsTold told.now }
         requires stands { Stands (Sink.forest sink.old) self.old }
         requires may { MayTurn (token_of told.now.content) (built Sink.TreeSink self.old (Sink.forest sink.old)) }
-        ensures ok { IfOk result (λ ending. turn_of (built Sink.TreeSink self.new (Sink.forest sink.new)) (ending_of Sink.node ending) ≡ turn (token_of told.now.content) (built Sink.TreeSink self.old (Sink.forest sink.old))) }
+        ensures ok { IfOk result (λ ending. turn_of (built Sink.TreeSink self.new (Sink.forest sink.new))
+            (ending_of Sink.node ending) ≡ turn (token_of told.now.content) (built Sink.TreeSink self.old (Sink.forest sink.old))) }
         ensures stands { OnOk result (Stands (Sink.forest sink.new) self.new) }
         ensures fault { IfErr result (λ fault. fault ≡ Memory) }
     {

@@ -91,7 +91,8 @@ impl<Sink: TreeSink> Construction<Sink> {
         requires split { IsSplit text.now first.now behind.now }
         requires usable { Usable (built Sink.TreeSink self.old (Sink.forest sink.old)) }
         requires going { self.old.has_ended ≡ false }
-        ensures ok { IfOk result (λ rest. LeavesText text.now rest.now (built Sink.TreeSink self.old (Sink.forest sink.old)) (built Sink.TreeSink self.new (Sink.forest sink.new))) }
+        ensures ok { IfOk result (λ rest. LeavesText text.now rest.now
+            (built Sink.TreeSink self.old (Sink.forest sink.old)) (built Sink.TreeSink self.new (Sink.forest sink.new))) }
         ensures fault { IfErr result (λ fault. fault ≡ Memory) }
     {
         if let Some(run) = self.white_run() {

@@ -1,5 +1,6 @@
 -- Indexes beside lists of attributes.
-use Rattle.std.proofs.Common.{◌≡◌, ◌∙◌, ℕ, suc, ◌+◌, ◌<◌, Bool, true, false, cond, List, [], ◌∷◌, ◌++◌, length, take, get_or, Option, Some, None, Result, Ok, Err, refl, sym, ap, subst, arith, true≢false, Bor, IfSome, IsSome}
+use Rattle.std.proofs.Common.{◌≡◌, ◌∙◌, ℕ, suc, ◌+◌, ◌<◌, Bool, true, false, cond, List, [], ◌∷◌, ◌++◌, length, take, get_or}
+use Rattle.std.proofs.Common.{Option, Some, None, Result, Ok, Err, refl, sym, ap, subst, arith, true≢false, Bor, IfSome, IsSome}
 use Rattle.std.specs.Prelude.{◌||◌, ◌&&◌, not, is_ok, is_some, OnOk}
 use Rattle.std.specs.BTreeMap.{is_at}
 use Rattle.std.specs.Cmp.Lexicographic.{slice_cmp, nat_list_eq_equiv, texts_ties}
@@ -24,14 +25,18 @@ first_place-none None = refl
 first_place-none (Some n) = refl
 
 -- a search among one more
-more_by : (b : Bool) (place found : Option ℕ) (last : Option ℕ) → found ≡ first_place place last → (n : ℕ) → cond b (Some n) found ≡ first_place (cond b (Some n) place) last
+more_by : (b : Bool) (place found : Option ℕ) (last : Option ℕ) → found ≡ first_place place last → (n : ℕ)
+    → cond b (Some n) found ≡ first_place (cond b (Some n) place) last
 more_by true place found last e n = refl
 more_by false place found last e n = e
 
-position-more : (t : Attribute → Bool) (i : ℕ) (l : List Attribute) (x : Attribute) → position_from t i (l ++ x ∷ []) ≡ first_place (position_from t i l) (cond (t x) (Some (i + length l)) None)
+position-more : (t : Attribute → Bool) (i : ℕ) (l : List Attribute) (x : Attribute)
+    → position_from t i (l ++ x ∷ []) ≡ first_place (position_from t i l) (cond (t x) (Some (i + length l)) None)
 position-more t i [] x = ap (λ n. cond (t x) (Some n) None) (omega arith)
 position-more t i (y ∷ l) x =
-    more_by (t y) (position_from t (i + 1) l) (position_from t (i + 1) (l ++ x ∷ [])) (cond (t x) (Some (i + length (y ∷ l))) None) (position-more t (i + 1) l x ∙ ap (λ n. first_place (position_from t (i + 1) l) (cond (t x) (Some n) None)) (omega arith)) i
+    more_by (t y) (position_from t (i + 1) l) (position_from t (i + 1) (l ++ x ∷ []))
+    (cond (t x) (Some (i + length (y ∷ l))) None)
+    (position-more t (i + 1) l x ∙ ap (λ n. first_place (position_from t (i + 1) l) (cond (t x) (Some n) None)) (omega arith)) i
 
 -- a search finds something just where something passes
 some_by : (b : Bool) (n : ℕ) (place : Option ℕ) (any : Bool) → is_some place ≡ any → is_some (cond b (Some n) place) ≡ (b || any)
@@ -54,11 +59,18 @@ abbrev Found : (Attribute → Bool) → ℕ → List Attribute → Option ℕ �
 Found t i l None = find t l ≡ None
 Found t i l (Some place) = IsFound t i l place
 
-found_next : (t : Attribute → Bool) (i : ℕ) (x : Attribute) (l : List Attribute) → t x ≡ false → (place : Option ℕ) → Found t (i + 1) l place → Found t i (x ∷ l) place
+found_next : (t : Attribute → Bool) (i : ℕ) (x : Attribute) (l : List Attribute) → t x ≡ false → (place : Option ℕ)
+    → Found t (i + 1) l place → Found t i (x ∷ l) place
 found_next t i x l e None h = rw e h
-found_next t i x l e (Some place) h = record { behind = suc h.behind; at = omega (arith, h.at); inside = omega (arith, h.inside); is = rw e h.is }
+found_next t i x l e (Some place) h = record {
+  behind = suc h.behind;
+  at = omega (arith, h.at);
+  inside = omega (arith, h.inside);
+  is = rw e h.is;
+}
 
-found_by : (t : Attribute → Bool) (i : ℕ) (x : Attribute) (l : List Attribute) (b : Bool) → t x ≡ b → Found t (i + 1) l (position_from t (i + 1) l) → Found t i (x ∷ l) (cond b (Some i) (position_from t (i + 1) l))
+found_by : (t : Attribute → Bool) (i : ℕ) (x : Attribute) (l : List Attribute) (b : Bool) → t x ≡ b
+    → Found t (i + 1) l (position_from t (i + 1) l) → Found t i (x ∷ l) (cond b (Some i) (position_from t (i + 1) l))
 found_by t i x l true e h = record { behind = 0; at = omega arith; inside = omega arith; is = rw e refl }
 found_by t i x l false e h = found_next t i x l e (position_from t (i + 1) l) h
 
@@ -71,14 +83,16 @@ pub find-none : (name : List ℕ) (l : List Attribute) → place_of name l ≡ N
 find-none name l e = let t : Attribute → Bool = λ a. bytes_eq name a.name.local in subst (λ place. Found t 0 l place) e (found t 0 l)
 
 -- what is found stands at its place
-pub find-at : (name : List ℕ) (l : List Attribute) (place : ℕ) → place_of name l ≡ Some place → slice_get l place ≡ find (λ a. bytes_eq name a.name.local) l
+pub find-at : (name : List ℕ) (l : List Attribute) (place : ℕ) → place_of name l ≡ Some place
+    → slice_get l place ≡ find (λ a. bytes_eq name a.name.local) l
 find-at name l place e =
     let t : Attribute → Bool = λ a. bytes_eq name a.name.local in
     let there : Found t 0 l (Some place) = subst (λ place. Found t 0 l place) e (found t 0 l) in
     ap (λ n. slice_get l n) (omega (arith, there.at)) ∙ there.is
 
 -- what a slice lends at a place of it
-pub lent : (l : List Attribute) (place : ℕ) (r : Option (Bor Attribute)) → place < length l → (place < length l → IsSome r) → IfSome r (λ x. x.now ≡ get_or l place x.now) → option_copied r ≡ slice_get l place
+pub lent : (l : List Attribute) (place : ℕ) (r : Option (Bor Attribute)) → place < length l
+    → (place < length l → IsSome r) → IfSome r (λ x. x.now ≡ get_or l place x.now) → option_copied r ≡ slice_get l place
 lent l place None inside some at = absurd (true≢false (sym (some inside)))
 lent l place (Some x) inside some at = ap (λ a. Some a) at ∙ sym (slice_get-get_or l place x.now inside)
 
@@ -89,7 +103,8 @@ place-inside name l place e =
     let there : Found t 0 l (Some place) = subst (λ place. Found t 0 l place) e (found t 0 l) in
     omega (arith, there.at, there.inside)
 
-has_local_name-more : (name : List ℕ) (attributes : List Attribute) (attribute : Attribute) → has_local_name name (attributes ++ attribute ∷ []) ≡ (has_local_name name attributes || bytes_eq name attribute.name.local)
+has_local_name-more : (name : List ℕ) (attributes : List Attribute) (attribute : Attribute) → has_local_name name
+    (attributes ++ attribute ∷ []) ≡ (has_local_name name attributes || bytes_eq name attribute.name.local)
 has_local_name-more name attributes attribute =
     list_any-append (λ a. bytes_eq name a.name.local) attributes (attribute ∷ [])
     ∙ ap (λ b. has_local_name name attributes || b) (or-false (bytes_eq name attribute.name.local))
@@ -102,19 +117,25 @@ distinct_by false false true g = refl
 distinct_by false false false g = refl
 
 -- an attribute more keeps names distinct where its own is new
-distinct-more : (attributes : List Attribute) (attribute : Attribute) → are_distinct (attributes ++ attribute ∷ []) ≡ (are_distinct attributes && not (has_local_name attribute.name.local attributes))
+distinct-more : (attributes : List Attribute) (attribute : Attribute) → are_distinct (attributes ++ attribute ∷
+    []) ≡ (are_distinct attributes && not (has_local_name attribute.name.local attributes))
 distinct-more [] attribute = refl
 distinct-more (first ∷ rest) attribute =
-    ap (λ b. not b && are_distinct (rest ++ attribute ∷ [])) (has_local_name-more first.name.local rest attribute ∙ ap (λ b. has_local_name first.name.local rest || b) (nat_list_eq_equiv.symm first.name.local attribute.name.local))
-    ∙ (ap (λ b. not (has_local_name first.name.local rest || bytes_eq attribute.name.local first.name.local) && b) (distinct-more rest attribute)
-    ∙ distinct_by (has_local_name first.name.local rest) (bytes_eq attribute.name.local first.name.local) (are_distinct rest) (has_local_name attribute.name.local rest))
+    ap (λ b. not b && are_distinct (rest ++ attribute ∷ [])) (has_local_name-more first.name.local rest attribute
+    ∙ ap (λ b. has_local_name first.name.local rest || b) (nat_list_eq_equiv.symm first.name.local attribute.name.local))
+    ∙ (ap (λ b. not (has_local_name first.name.local rest || bytes_eq attribute.name.local first.name.local) && b)
+    (distinct-more rest attribute)
+    ∙ distinct_by (has_local_name first.name.local rest) (bytes_eq attribute.name.local first.name.local)
+    (are_distinct rest) (has_local_name attribute.name.local rest))
 
-pub IsIndex-more : (old new : AttributeIndex) (attributes : List Attribute) (attribute : Attribute) → IsIndex old attributes → AddsPlace attribute.name.local (length attributes) old new → IsIndex new (attributes ++ attribute ∷ [])
+pub IsIndex-more : (old new : AttributeIndex) (attributes : List Attribute) (attribute : Attribute)
+    → IsIndex old attributes → AddsPlace attribute.name.local (length attributes) old new → IsIndex new (attributes ++ attribute ∷ [])
 IsIndex-more old new attributes attribute h more = record {
   places = λ name.
       more.places name
       ∙ (ap (λ place. first_place place (cond (bytes_eq name attribute.name.local) (Some (length attributes)) None)) (h.places name)
-      ∙ sym (position-more (λ a. bytes_eq name a.name.local) 0 attributes attribute ∙ ap (λ n. first_place (place_of name attributes) (cond (bytes_eq name attribute.name.local) (Some n) None)) (omega arith)));
+      ∙ sym (position-more (λ a. bytes_eq name a.name.local) 0 attributes attribute
+      ∙ ap (λ n. first_place (place_of name attributes) (cond (bytes_eq name attribute.name.local) (Some n) None)) (omega arith)));
   are_distinct =
       more.are_distinct
       ∙ (ap (λ b. b && not (is_some (place_in old.places attribute.name.local))) h.are_distinct
@@ -123,18 +144,21 @@ IsIndex-more old new attributes attribute h more = record {
       ∙ sym (distinct-more attributes attribute))));
 }
 
-pub FitsIndex-more : (old new : Option (Box AttributeIndex)) (attributes : List Attribute) (attribute : Attribute) → FitsIndex old attributes → AddsPlaceIf attribute.name.local (length attributes) old new → FitsIndex new (attributes ++ attribute ∷ [])
+pub FitsIndex-more : (old new : Option (Box AttributeIndex)) (attributes : List Attribute) (attribute : Attribute)
+    → FitsIndex old attributes → AddsPlaceIf attribute.name.local (length attributes) old new → FitsIndex new (attributes ++ attribute ∷ [])
 FitsIndex-more None None attributes attribute h more = tt
 FitsIndex-more None (Some new) attributes attribute h more = absurd more
 FitsIndex-more (Some old) None attributes attribute h more = tt
 FitsIndex-more (Some old) (Some new) attributes attribute h more = IsIndex-more old.value new.value attributes attribute h more
 
 -- the index says which local names there are
-pub IsIndex-names : (index : AttributeIndex) (attributes : List Attribute) → IsIndex index attributes → (name : List ℕ) → is_some (place_in index.places name) ≡ has_local_name name attributes
+pub IsIndex-names : (index : AttributeIndex) (attributes : List Attribute) → IsIndex index attributes
+    → (name : List ℕ) → is_some (place_in index.places name) ≡ has_local_name name attributes
 IsIndex-names index attributes h name =
     ap (λ place. is_some place) (h.places name) ∙ position-any (λ a. bytes_eq name a.name.local) 0 attributes
 
-put_by : (b : Bool) (old : Option ℕ) (place : ℕ) → (b ≡ true → old ≡ None) → cond b (Some place) old ≡ first_place old (cond b (Some place) None)
+put_by : (b : Bool) (old : Option ℕ) (place : ℕ) → (b ≡ true → old ≡ None) → cond b (Some place) old ≡ first_place
+    old (cond b (Some place) None)
 put_by true old place e = ap (λ o. first_place o (Some place)) (sym (e refl))
 put_by false old place e = sym (first_place-none old)
 
@@ -148,20 +172,31 @@ went_well (Ok x) h e = h
 went_well (Err fault) h e = absurd cc
 
 -- a key that was put into the map has a place more
-pub AddsPlace-put : (old new : AttributeIndex) (key name : List ℕ) (place : ℕ) → key ≡ name → is_some (place_in old.places name) ≡ false → ((other : List ℕ) → place_in new.places other ≡ cond (is_at (slice_cmp nat_cmp key) other) (Some place) (place_in old.places other)) → new.are_distinct ≡ old.are_distinct → AddsPlace name place old new
+pub AddsPlace-put : (old new : AttributeIndex) (key name : List ℕ) (place : ℕ) → key ≡ name
+    → is_some (place_in old.places name) ≡ false
+    → ((other : List ℕ) → place_in new.places other ≡ cond (is_at (slice_cmp nat_cmp key) other) (Some place)
+    (place_in old.places other)) → new.are_distinct ≡ old.are_distinct → AddsPlace name place old new
 AddsPlace-put old new key name place e missing h d = record {
   places = λ other.
-      let same : is_at (slice_cmp nat_cmp key) other ≡ bytes_eq other name = sym (texts_ties key other) ∙ (nat_list_eq_equiv.symm key other ∙ ap (bytes_eq other) e) in
+      let same : is_at (slice_cmp nat_cmp key) other ≡ bytes_eq other name = sym (texts_ties key other)
+      ∙ (nat_list_eq_equiv.symm key other ∙ ap (bytes_eq other) e) in
       h other ∙ (ap (λ b. cond b (Some place) (place_in old.places other)) same
-      ∙ put_by (bytes_eq other name) (place_in old.places other) place (λ is. ap (place_in old.places) ((texts_by_value other name).0 is) ∙ no_place _ missing));
+      ∙ put_by (bytes_eq other name) (place_in old.places other) place
+      (λ is. ap (place_in old.places) ((texts_by_value other name).0 is) ∙ no_place _ missing));
   are_distinct = d ∙ sym (ap (λ b. old.are_distinct && not b) missing ∙ and-true old.are_distinct);
 }
 
 -- an index of a front says where one more is
-pub IsIndex-next : (old new : AttributeIndex) (attributes : List Attribute) (place : ℕ) (attribute : Attribute) → place < length attributes → attribute ≡ get_or attributes place attribute → IsIndex old (take place attributes) → AddsPlace attribute.name.local place old new → IsIndex new (take (place + 1) attributes)
+pub IsIndex-next : (old new : AttributeIndex) (attributes : List Attribute) (place : ℕ) (attribute : Attribute)
+    → place < length attributes → attribute ≡ get_or attributes place attribute
+    → IsIndex old (take place attributes) → AddsPlace attribute.name.local place old new → IsIndex new (take (place + 1) attributes)
 IsIndex-next old new attributes place attribute inside at h more =
     let next : place + 1 ≡ suc place = omega arith in
-    subst (IsIndex new) (sym (ap (λ n. take n attributes) next ∙ (take-suc attributes place attribute inside ∙ ap (λ a. take place attributes ++ a ∷ []) (sym at)))) (IsIndex-more old new (take place attributes) attribute h (subst (λ n. AddsPlace attribute.name.local n old new) (sym (length-take-le place attributes (omega (arith, inside)))) more))
+    subst (IsIndex new) (sym (ap (λ n. take n attributes) next
+    ∙ (take-suc attributes place attribute inside ∙ ap (λ a. take place attributes ++ a ∷ []) (sym at))))
+    (IsIndex-more old new (take place attributes) attribute h
+    (subst (λ n. AddsPlace attribute.name.local n old new) (sym (length-take-le place attributes (omega (arith, inside)))) more))
 
-pub FitsIndex-at : (o : Option (Box AttributeIndex)) (index : Box AttributeIndex) (attributes : List Attribute) → o ≡ Some index → FitsIndex o attributes → IsIndex index.value attributes
+pub FitsIndex-at : (o : Option (Box AttributeIndex)) (index : Box AttributeIndex) (attributes : List Attribute)
+    → o ≡ Some index → FitsIndex o attributes → IsIndex index.value attributes
 FitsIndex-at o index attributes e h = subst (λ o. FitsIndex o attributes) e h

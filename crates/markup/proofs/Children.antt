@@ -26,7 +26,8 @@ is_among-without_other k n [] h = refl
 is_among-without_other k n (m ∷ ms) h =
     elim (cases_eq m n) [
       | inl same ↦ let apart : k ≢ m = λ e. h (e ∙ same) in rw (eq-eqb m n same, ne_eqb k m apart) (is_among-without_other k n ms h)
-      | inr other ↦ rw (ne_eqb m n other) (elim (cases_Bool (k == m)) [ inl e ↦ rw e refl | inr e ↦ rw e (is_among-without_other k n ms h) ])
+      | inr other ↦ rw (ne_eqb m n other)
+          (elim (cases_Bool (k == m)) [ inl e ↦ rw e refl | inr e ↦ rw e (is_among-without_other k n ms h) ])
     ]
 
 pub IsDistinct-push : (c : ℕ) (ns : List ℕ) → IsDistinct ns → is_among c ns ≡ false → IsDistinct (ns ++ c ∷ [])
@@ -86,10 +87,14 @@ IsDistinct-before c n (m ∷ ns) d h =
           ]
     ]
 
-pub IsDistinct-append : (ns ms : List ℕ) → IsDistinct ns → IsDistinct ms → ((n : ℕ) → is_among n ns ≡ true → is_among n ms ≡ false) → IsDistinct (ns ++ ms)
+pub IsDistinct-append : (ns ms : List ℕ) → IsDistinct ns → IsDistinct ms
+    → ((n : ℕ) → is_among n ns ≡ true → is_among n ms ≡ false) → IsDistinct (ns ++ ms)
 IsDistinct-append [] ms d e h = e
-IsDistinct-append (n ∷ ns) ms d e h =
-    (neither n ns ms d.0 (h n (rw (eq-eqb n n refl) refl)), IsDistinct-append ns ms d.1 e (λ k found. h k (elim (cases_Bool (k == n)) [ inl same ↦ rw same refl | inr other ↦ rw other found ])))
+IsDistinct-append (n ∷ ns) ms d e h = (
+  neither n ns ms d.0 (h n (rw (eq-eqb n n refl) refl)),
+  IsDistinct-append ns ms d.1 e
+      (λ k found. h k (elim (cases_Bool (k == n)) [ inl same ↦ rw same refl | inr other ↦ rw other found ])),
+)
   where
     neither : (n : ℕ) (ns ms : List ℕ) → is_among n ns ≡ false → is_among n ms ≡ false → is_among n (ns ++ ms) ≡ false
     neither n [] ms h k = k
@@ -101,11 +106,13 @@ IsDistinct-append (n ∷ ns) ms d e h =
 
 pub is_among-append_left : (n : ℕ) (ns ms : List ℕ) → is_among n ms ≡ false → is_among n (ns ++ ms) ≡ is_among n ns
 is_among-append_left n [] ms h = h
-is_among-append_left n (m ∷ ns) ms h = elim (cases_Bool (n == m)) [ inl same ↦ rw same refl | inr other ↦ rw other (is_among-append_left n ns ms h) ]
+is_among-append_left n (m ∷ ns) ms h = elim (cases_Bool (n == m))
+    [ inl same ↦ rw same refl | inr other ↦ rw other (is_among-append_left n ns ms h) ]
 
 pub is_among-append_right : (n : ℕ) (ns ms : List ℕ) → is_among n ms ≡ true → is_among n (ns ++ ms) ≡ true
 is_among-append_right n [] ms h = h
-is_among-append_right n (m ∷ ns) ms h = elim (cases_Bool (n == m)) [ inl same ↦ rw same refl | inr other ↦ rw other (is_among-append_right n ns ms h) ]
+is_among-append_right n (m ∷ ns) ms h = elim (cases_Bool (n == m))
+    [ inl same ↦ rw same refl | inr other ↦ rw other (is_among-append_right n ns ms h) ]
 
 pub is_among-last : (n : ℕ) (ns : List ℕ) → last_of ns ≡ Some n → is_among n ns ≡ true
 is_among-last n [] e = absurd (cc)
@@ -121,7 +128,8 @@ is_among-those_before k n (m ∷ ms) h =
       | inr differs ↦
           elim (cases_Bool (k == m)) [
             | inl same ↦ rw same refl
-            | inr other ↦ let later : is_among k (those_before n ms) ≡ true = rw (differs, other) at h in rw other (is_among-those_before k n ms later)
+            | inr other ↦ let later : is_among k (those_before n ms) ≡ true = rw (differs, other) at h in
+                rw other (is_among-those_before k n ms later)
           ]
     ]
 

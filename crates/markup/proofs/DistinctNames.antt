@@ -1,5 +1,6 @@
 -- Of attributes with distinct local names one at most has a given one.
-use Rattle.std.proofs.Common.{◌≡◌, ◌∙◌, ℕ, ◌+◌, Bool, true, false, cond, nat_eq, List, [], ◌∷◌, Option, Some, None, refl, sym, ap, ap₂, subst, true≢false}
+use Rattle.std.proofs.Common.{◌≡◌, ◌∙◌, ℕ, ◌+◌, Bool, true, false, cond, nat_eq, List, [], ◌∷◌, Option, Some, None, refl, sym}
+use Rattle.std.proofs.Common.{ap, ap₂, subst, true≢false}
 use Rattle.std.specs.Prelude.{◌||◌, ◌&&◌, not}
 use Rattle.std.specs.Cmp.Lexicographic.{nat_list_eq_equiv}
 use Rattle.std.specs.List.{find, list_any, list_all}
@@ -34,20 +35,26 @@ not_true : (b : Bool) → not b ≡ true → b ≡ false
 not_true true e = absurd (true≢false (sym e))
 not_true false e = refl
 
-none_passes : (name : List ℕ) (p : Attribute → Bool) → Names name p → (l : List Attribute) → has_local_name name l ≡ false → list_any p l ≡ false
+none_passes : (name : List ℕ) (p : Attribute → Bool) → Names name p → (l : List Attribute)
+    → has_local_name name l ≡ false → list_any p l ≡ false
 none_passes name p names [] e = refl
 none_passes name p names (a ∷ rest) e =
     let parts = or_parts (bytes_eq name a.name.local) (has_local_name name rest) e in
     ap₂ (λ x y. x || y) (fails_by (p a) (λ is. sym (names a is) ∙ parts.0)) (none_passes name p names rest parts.1)
 
-only_by : (name : List ℕ) (p : Attribute → Bool) → Names name p → (a : Attribute) (rest : List Attribute) → not (has_local_name a.name.local rest) ≡ true → list_any p rest ≡ passes p (find (λ b. bytes_eq name b.name.local) rest) → (b : Bool) → bytes_eq name a.name.local ≡ b → (p a || list_any p rest) ≡ passes p (cond b (Some a) (find (λ b. bytes_eq name b.name.local) rest))
+only_by : (name : List ℕ) (p : Attribute → Bool) → Names name p → (a : Attribute) (rest : List Attribute)
+    → not (has_local_name a.name.local rest) ≡ true → list_any p rest ≡ passes p
+    (find (λ b. bytes_eq name b.name.local) rest) → (b : Bool) → bytes_eq name a.name.local ≡ b
+    → (p a || list_any p rest) ≡ passes p (cond b (Some a) (find (λ b. bytes_eq name b.name.local) rest))
 only_by name p names a rest new go true e =
-    let others : has_local_name name rest ≡ false = ap (λ n. has_local_name n rest) ((texts_by_value name a.name.local).0 e) ∙ not_true _ new in
+    let others : has_local_name name rest ≡ false = ap (λ n. has_local_name n rest)
+    ((texts_by_value name a.name.local).0 e) ∙ not_true _ new in
     ap (λ b. p a || b) (none_passes name p names rest others) ∙ or-false (p a)
 only_by name p names a rest new go false e = ap (λ b. b || list_any p rest) (fails_by (p a) (λ is. sym (names a is) ∙ e)) ∙ go
 
 -- whether one passes is whether the first with that local name does
-pub any-only : (name : List ℕ) (p : Attribute → Bool) → Names name p → (l : List Attribute) → are_distinct l ≡ true → list_any p l ≡ passes p (find (λ b. bytes_eq name b.name.local) l)
+pub any-only : (name : List ℕ) (p : Attribute → Bool) → Names name p → (l : List Attribute) → are_distinct l ≡ true
+    → list_any p l ≡ passes p (find (λ b. bytes_eq name b.name.local) l)
 any-only name p names [] e = refl
 any-only name p names (a ∷ rest) e =
     let parts = and_parts (not (has_local_name a.name.local rest)) (are_distinct rest) e in
@@ -55,18 +62,21 @@ any-only name p names (a ∷ rest) e =
 
 attribute-names : (attribute : Attribute) → Names attribute.name.local (attribute_eq attribute)
 attribute-names attribute other e =
-    subst (λ a. bytes_eq attribute.name.local a.name.local ≡ true) ((attributes_by_value attribute other).0 e) (nat_list_eq_equiv.refl attribute.name.local)
+    subst (λ a. bytes_eq attribute.name.local a.name.local ≡ true) ((attributes_by_value attribute other).0 e)
+    (nat_list_eq_equiv.refl attribute.name.local)
 
 name-names : (name : QualName) → Names name.local (λ attribute. same_name attribute.name name)
 name-names name other e =
     subst (λ n. bytes_eq n.local other.name.local ≡ true) ((names_by_value other.name name).0 e) (nat_list_eq_equiv.refl other.name.local)
 
 -- a name is there just where the first with its local name has it
-pub has-first : (name : QualName) (l : List Attribute) → are_distinct l ≡ true → has_attribute name l ≡ passes (λ attribute. same_name attribute.name name) (find (λ b. bytes_eq name.local b.name.local) l)
+pub has-first : (name : QualName) (l : List Attribute) → are_distinct l ≡ true → has_attribute name l ≡ passes
+    (λ attribute. same_name attribute.name name) (find (λ b. bytes_eq name.local b.name.local) l)
 has-first name l e = any-only name.local (λ attribute. same_name attribute.name name) (name-names name) l e
 
 -- an attribute is there just where it is the first with its local name
-pub contains-first : (attribute : Attribute) (l : List Attribute) → are_distinct l ≡ true → list_any (attribute_eq attribute) l ≡ passes (attribute_eq attribute) (find (λ b. bytes_eq attribute.name.local b.name.local) l)
+pub contains-first : (attribute : Attribute) (l : List Attribute) → are_distinct l ≡ true
+    → list_any (attribute_eq attribute) l ≡ passes (attribute_eq attribute) (find (λ b. bytes_eq attribute.name.local b.name.local) l)
 contains-first attribute l e = any-only attribute.name.local (attribute_eq attribute) (attribute-names attribute) l e
 
 times : Attribute → List Attribute → ℕ
@@ -77,9 +87,12 @@ times-is : (a : Attribute) (l : List Attribute) → times a l ≡ count_of a l
 unfolding times
 times-is a l = is_count_by (times a) (attribute_eq a) refl (λ b l. refl) l
 
-once_by : (a b : Attribute) (l : List Attribute) → not (has_local_name b.name.local l) ≡ true → times a l ≡ cond (list_any (attribute_eq a) l) 1 0 → (e : Bool) → attribute_eq a b ≡ e → cond e (1 + times a l) (times a l) ≡ cond (e || list_any (attribute_eq a) l) 1 0
+once_by : (a b : Attribute) (l : List Attribute) → not (has_local_name b.name.local l) ≡ true
+    → times a l ≡ cond (list_any (attribute_eq a) l) 1 0 → (e : Bool) → attribute_eq a b ≡ e
+    → cond e (1 + times a l) (times a l) ≡ cond (e || list_any (attribute_eq a) l) 1 0
 once_by a b l new go true e =
-    let others : has_local_name a.name.local l ≡ false = ap (λ n. has_local_name n l) ((texts_by_value a.name.local b.name.local).0 (attribute-names a b e)) ∙ not_true _ new in
+    let others : has_local_name a.name.local l ≡ false = ap (λ n. has_local_name n l)
+    ((texts_by_value a.name.local b.name.local).0 (attribute-names a b e)) ∙ not_true _ new in
     ap (λ n. 1 + n) (go ∙ ap (λ b. cond b 1 0) (none_passes a.name.local (attribute_eq a) (attribute-names a) l others))
 once_by a b l new go false e = go
 
@@ -96,17 +109,20 @@ or-true true = refl
 or-true false = refl
 
 -- two tests that agree on a list's elements agree on the list
-all-same : (p q : Attribute → Bool) (l : List Attribute) → ((a : Attribute) → list_any (attribute_eq a) l ≡ true → p a ≡ q a) → list_all p l ≡ list_all q l
+all-same : (p q : Attribute → Bool) (l : List Attribute)
+    → ((a : Attribute) → list_any (attribute_eq a) l ≡ true → p a ≡ q a) → list_all p l ≡ list_all q l
 all-same p q [] h = refl
 all-same p q (x ∷ l) h =
-    ap₂ (λ b c. b && c) (h x (ap (λ b. b || list_any (attribute_eq x) l) ((attributes_by_value x x).1 refl))) (all-same p q l (λ a is. h a (ap (λ b. attribute_eq a x || b) is ∙ or-true (attribute_eq a x))))
+    ap₂ (λ b c. b && c) (h x (ap (λ b. b || list_any (attribute_eq x) l) ((attributes_by_value x x).1 refl)))
+    (all-same p q l (λ a is. h a (ap (λ b. attribute_eq a x || b) is ∙ or-true (attribute_eq a x))))
 
 one_is : (b : Bool) → nat_eq 1 (cond b 1 0) ≡ b
 one_is true = refl
 one_is false = refl
 
 -- of lists with distinct local names, being as often is being there
-pub same_counts-distinct : (first second : List Attribute) → are_distinct first ≡ true → are_distinct second ≡ true → have_same_counts first second ≡ list_all (λ a. list_any (attribute_eq a) second) first
+pub same_counts-distinct : (first second : List Attribute) → are_distinct first ≡ true → are_distinct second ≡ true
+    → have_same_counts first second ≡ list_all (λ a. list_any (attribute_eq a) second) first
 same_counts-distinct first second d e =
     all-same _ (λ a. list_any (attribute_eq a) second) first (λ a is.
     ap₂ nat_eq (sym (times-is a first) ∙ (once a first d ∙ ap (λ b. cond b 1 0) is)) (sym (times-is a second) ∙ once a second e)

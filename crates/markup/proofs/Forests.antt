@@ -1,8 +1,12 @@
 -- Each change leaves a forest, and what it does to parents, lists and data.
-use Rattle.std.proofs.Common.{◌≡◌, ◌≢◌, ◌+◌, ◌-◌, ◌<◌, ℕ, suc, zero, true, false, List, [], Option, Some, None, sym, ap, ◌∙◌, refl, subst, inl, inr, ◌⊎◌, arith}
+use Rattle.std.proofs.Common.{◌≡◌, ◌≢◌, ◌+◌, ◌-◌, ◌<◌, ℕ, suc, zero, true, false, List, [], Option, Some, None, sym, ap, ◌∙◌}
+use Rattle.std.proofs.Common.{refl, subst, inl, inr, ◌⊎◌, arith}
 use Rattle.std.proofs.lemmas.List.{length-set}
 use Rattle.std.proofs.lemmas.Bool.{cases_eq, cases_Bool, cases_lt, cond_both}
-use Rattle.markup.specs.Forest.{Forest, NodeData, Place, node_count, data_of, children_of, is_among, parent_of, parent_at, children_with, is_contents, holds_children, above_of, Above, Ends, IsForest, IsDistinct, IsLoose, IsParent, IsPlace, with_node, with_children, with_data, put, empty_forest, create_element, without, remove, remove_under}
+use Rattle.markup.specs.Forest.{Forest, NodeData, Place, node_count, data_of, children_of, is_among, parent_of, parent_at}
+use Rattle.markup.specs.Forest.{children_with, is_contents, holds_children, above_of, Above, Ends, IsForest, IsDistinct}
+use Rattle.markup.specs.Forest.{IsLoose, IsParent, IsPlace, with_node, with_children, with_data, put, empty_forest}
+use Rattle.markup.specs.Forest.{create_element, without, remove, remove_under}
 use Rattle.markup.specs.Forest.NodeData.{Document, Contents, Element}
 use Rattle.markup.specs.Forest.Place.{Last, Before}
 use Rattle.markup.specs.Forest.Ends.{top}
@@ -10,8 +14,16 @@ use Rattle.markup.specs.declared.names.QualName.{QualName}
 use Rattle.markup.specs.declared.attributes.Attribute.{Attribute}
 use Rattle.markup.specs.declared.flags.ElementFlags.{ElementFlags}
 use Rattle.markup.specs.declared.quirks.QuirksMode.{QuirksMode}
-use Rattle.markup.proofs.Children.{is_among-push_same, is_among-push_other, is_among-without_same, is_among-without_other, is_among-before_same, is_among-before_other, IsDistinct-push, IsDistinct-without, IsDistinct-before, without-absent}
-use Rattle.markup.proofs.Parents.{parent_of-only, parent_of-none, is_among-parent, is_among-no_parent, children_of-with_children, children_of-with_children_other, data_of-with_children, node_count-with_children, node_count-with_node, children_of-with_node, parent_of-with_node, parent_of-past, above_of-same, above_of-with_node_old, among_with_children, parent_of-with_children, no_parent-from_loose, children_of-with_data, data_of-with_data, data_of-with_data_other, parent_of-with_data, parent-IsNode, data_of-past, children_of-past, data_of-with_node_old, data_of-with_node_new}
+use Rattle.markup.proofs.Children.{is_among-push_same, is_among-push_other, is_among-without_same, is_among-without_other}
+use Rattle.markup.proofs.Children.{is_among-before_same, is_among-before_other, IsDistinct-push, IsDistinct-without}
+use Rattle.markup.proofs.Children.{IsDistinct-before, without-absent}
+use Rattle.markup.proofs.Parents.{parent_of-only, parent_of-none, is_among-parent, is_among-no_parent}
+use Rattle.markup.proofs.Parents.{children_of-with_children, children_of-with_children_other, data_of-with_children}
+use Rattle.markup.proofs.Parents.{node_count-with_children, node_count-with_node, children_of-with_node, parent_of-with_node}
+use Rattle.markup.proofs.Parents.{parent_of-past, above_of-same, above_of-with_node_old, among_with_children}
+use Rattle.markup.proofs.Parents.{parent_of-with_children, no_parent-from_loose, children_of-with_data, data_of-with_data}
+use Rattle.markup.proofs.Parents.{data_of-with_data_other, parent_of-with_data, parent-IsNode, data_of-past, children_of-past}
+use Rattle.markup.proofs.Parents.{data_of-with_node_old, data_of-with_node_new}
 use Rattle.markup.proofs.Walks.{IsPut, IsLess, IsGrown, Above-grown, Ends-less, Ends-put, not_above-childless}
 
 -- places
@@ -32,7 +44,8 @@ record IsOneMore (ns : List ℕ) (c : ℕ) (cs : List ℕ) : Type 0 where
   keeps : (n : ℕ) → n ≢ c → is_among n cs ≡ is_among n ns
   distinct : IsDistinct cs
 
-IsOneMore-children_with : (f : Forest) (place : Place) (c : ℕ) → IsForest f → IsPlace f place → parent_of f c ≡ None → IsOneMore (children_of f (parent_at place)) c (children_with place c (children_of f (parent_at place)))
+IsOneMore-children_with : (f : Forest) (place : Place) (c : ℕ) → IsForest f → IsPlace f place → parent_of f c ≡ None
+    → IsOneMore (children_of f (parent_at place)) c (children_with place c (children_of f (parent_at place)))
 IsOneMore-children_with f (Last p) c is at free = record {
   has = is_among-push_same c (children_of f p);
   keeps = λ n other. is_among-push_other n c (children_of f p) other;
@@ -56,11 +69,13 @@ pub record IsPutAt (f g : Forest) (place : Place) (c : ℕ) : Type 0 where
   pub same_data : (n : ℕ) → data_of g n ≡ data_of f n
 
 -- whatever p's list becomes, as long as it has c beside what it had
-module _ (f : Forest) (p c : ℕ) (cs : List ℕ) (is : IsForest f) (at : IsParent f p) (loose : IsLoose f p c) (more : IsOneMore (children_of f p) c cs) where
+module _ (f : Forest) (p c : ℕ) (cs : List ℕ) (is : IsForest f) (at : IsParent f p) (loose : IsLoose f p c)
+    (more : IsOneMore (children_of f p) c cs) where
   put_free : parent_of f c ≡ None
   put_free = (no_parent-from_loose f c loose.no_parent).0
 
-  put_among : (n q : ℕ) → is_among n (children_of (with_children f p cs) q) ≡ true → (is_among n (children_of f q) ≡ true) ⊎ ((q ≡ p) × (n ≡ c))
+  put_among : (n q : ℕ) → is_among n (children_of (with_children f p cs) q) ≡ true
+      → (is_among n (children_of f q) ≡ true) ⊎ ((q ≡ p) × (n ≡ c))
   put_among n q h =
       elim (among_with_children f p cs n q at.there h) [
         | inl w ↦ elim (cases_eq n c) [ inl same ↦ inr (w.0, same) | inr other ↦ inl (rw (w.0) (sym (more.keeps n other) ∙ w.1)) ]
@@ -87,7 +102,8 @@ module _ (f : Forest) (p c : ℕ) (cs : List ℕ) (is : IsForest f) (at : IsPare
     document_first = data_of-with_children f p 0 cs ∙ is.document_first;
     one_parent = λ q n h. elim (put_among n q h) [
       | inl old ↦ elim (cases_eq n c) [
-        | inl same ↦ absurd (let absent = is_among-no_parent f c put_free q in let old' : is_among c (children_of f q) ≡ true = rw (← same) old in cc)
+        | inl same ↦ absurd (let absent = is_among-no_parent f c put_free q in let old' : is_among c
+            (children_of f q) ≡ true = rw (← same) old in cc)
         | inr other ↦ put_parents n other ∙ is.one_parent q n old
       ]
       | inr w ↦ rw (w.0, w.1) put_parent
@@ -96,8 +112,10 @@ module _ (f : Forest) (p c : ℕ) (cs : List ℕ) (is : IsForest f) (at : IsPare
       | inl same ↦ rw (same, children_of-with_children f p cs at.there) more.distinct
       | inr other ↦ rw (children_of-with_children_other f p q cs other) (is.once q)
     ];
-    in_range = λ q n h. rw (node_count-with_children f p cs) (elim (put_among n q h) [ inl old ↦ is.in_range q n old | inr w ↦ rw (w.1) loose.there ]);
-    holders = λ q n h. ap holds_children (data_of-with_children f p q cs) ∙ elim (put_among n q h) [ inl old ↦ is.holders q n old | inr w ↦ rw (w.0) at.holds ];
+    in_range = λ q n h. rw (node_count-with_children f p cs)
+        (elim (put_among n q h) [ inl old ↦ is.in_range q n old | inr w ↦ rw (w.1) loose.there ]);
+    holders = λ q n h. ap holds_children (data_of-with_children f p q cs) ∙ elim (put_among n q h)
+        [ inl old ↦ is.holders q n old | inr w ↦ rw (w.0) at.holds ];
     contents_stay = λ n h.
         let contents : is_contents (data_of f n) ≡ true = ap is_contents (sym (data_of-with_children f p n cs)) ∙ h in
         let plain = (no_parent-from_loose f c loose.no_parent).1 in
@@ -107,7 +125,8 @@ module _ (f : Forest) (p c : ℕ) (cs : List ℕ) (is : IsForest f) (at : IsPare
     ends = λ n. Ends-put f (with_children f p cs) p c put_edges loose.not_above (is.ends p) n (is.ends n);
   }
 
-pub IsPutAt-put : (f : Forest) (place : Place) (c : ℕ) → IsForest f → IsPlace f place → IsLoose f (parent_at place) c → IsPutAt f (put f place c) place c
+pub IsPutAt-put : (f : Forest) (place : Place) (c : ℕ) → IsForest f → IsPlace f place
+    → IsLoose f (parent_at place) c → IsPutAt f (put f place c) place c
 IsPutAt-put f place c is at loose = record {
   is = put_forest f p c cs is parent' loose more;
   put = put_edges f p c cs is parent' loose more;
@@ -148,35 +167,47 @@ module _ (f : Forest) (n p : ℕ) (is : IsForest f) (stands : parent_of f n ≡ 
   there : p < node_count f
   there = parent-IsNode f n p stands
 
-  among_less : (k q : ℕ) → is_among k (children_of (with_children f p (without n (children_of f p))) q) ≡ true → (is_among k (children_of f q) ≡ true) × (k ≢ n)
+  among_less : (k q : ℕ) → is_among k (children_of (with_children f p (without n (children_of f p))) q) ≡ true
+      → (is_among k (children_of f q) ≡ true) × (k ≢ n)
   among_less k q h =
       elim (among_with_children f p _ k q there h) [
         | inl w ↦
-            let apart : k ≢ n = λ same. let none = is_among-without_same n (children_of f p) in let some = subst (λ (x : ℕ). is_among x (without n (children_of f p)) ≡ true) same w.1 in absurd (cc) in
+            let apart : k ≢ n = λ same. let none = is_among-without_same n (children_of f p) in let some =
+            subst (λ (x : ℕ). is_among x (without n (children_of f p)) ≡ true) same w.1 in absurd (cc) in
             (rw (w.0) (sym (is_among-without_other k n (children_of f p) apart) ∙ w.1), apart)
-        | inr w ↦ (w.1, λ same. let at : is_among n (children_of f q) ≡ true = rw (← same) w.1 in let e = is.one_parent q n at in w.0 (let e' : q ≡ p = cc in e'))
+        | inr w ↦ (
+          w.1,
+          λ same. let at : is_among n (children_of f q) ≡ true = rw (← same) w.1 in let e =
+              is.one_parent q n at in w.0 (let e' : q ≡ p = cc in e'),
+        )
       ]
 
   removed_parent : parent_of (with_children f p (without n (children_of f p))) n ≡ None
   removed_parent =
       parent_of-none (with_children f p (without n (children_of f p))) n
-      (λ q. elim (cases_Bool (is_among n (children_of (with_children f p (without n (children_of f p))) q))) [ inl found ↦ absurd ((among_less n q found).1 refl) | inr absent ↦ absent ])
+      (λ q. elim (cases_Bool (is_among n (children_of (with_children f p (without n (children_of f p))) q)))
+      [ inl found ↦ absurd ((among_less n q found).1 refl) | inr absent ↦ absent ])
 
   removed_parents : (k : ℕ) → k ≢ n → parent_of (with_children f p (without n (children_of f p))) k ≡ parent_of f k
   removed_parents k other = parent_of-with_children f p _ k there (is_among-without_other k n (children_of f p) other)
 
   removed_others : (k : ℕ) → k ≢ n → above_of (with_children f p (without n (children_of f p))) k ≡ above_of f k
-  removed_others k other = above_of-same f (with_children f p (without n (children_of f p))) k (data_of-with_children f p k _) (removed_parents k other)
+  removed_others k other = above_of-same f (with_children f p (without n (children_of f p))) k
+      (data_of-with_children f p k _) (removed_parents k other)
 
   -- a node with a parent is no contents
   removed_plain : is_contents (data_of f n) ≡ false
-  removed_plain = elim (cases_Bool (is_contents (data_of f n))) [ inl contents ↦ absurd (let stays = is.contents_stay n contents in cc) | inr plain ↦ plain ]
+  removed_plain = elim (cases_Bool (is_contents (data_of f n)))
+      [ inl contents ↦ absurd (let stays = is.contents_stay n contents in cc) | inr plain ↦ plain ]
 
   removed_free : above_of (with_children f p (without n (children_of f p))) n ≡ None
   removed_free = rw (data_of-with_children f p n (without n (children_of f p)), removed_plain) removed_parent
 
   removed_less : IsLess f (with_children f p (without n (children_of f p)))
-  removed_less = record { less = λ k. elim (cases_eq k n) [ inl same ↦ inr (rw same removed_free) | inr other ↦ inl (removed_others k other) ] }
+  removed_less = record {
+    less =
+        λ k. elim (cases_eq k n) [ inl same ↦ inr (rw same removed_free) | inr other ↦ inl (removed_others k other) ];
+  }
 
   removed_lists : (q : ℕ) → children_of (with_children f p (without n (children_of f p))) q ≡ without n (children_of f q)
   removed_lists q =
@@ -261,10 +292,13 @@ IsForest-with_node f about is = record {
   in_range = λ p n h. let old : n < node_count f = is.in_range p n (before p n h) in omega (arith, node_count-with_node f about);
   holders = λ p n h. elim (cases_lt p (node_count f)) [
     | inl old ↦ ap holds_children (data_of-with_node_old f about p old) ∙ is.holders p n (before p n h)
-    | inr past ↦ absurd (let none : is_among n (children_of f p) ≡ false = ap (is_among n) (children_of-past f p past) in let some = before p n h in cc)
+    | inr past ↦ absurd (let none : is_among n (children_of f p) ≡ false =
+        ap (is_among n) (children_of-past f p past) in let some = before p n h in cc)
   ];
-  contents_stay = λ n h. parent_of-with_node f about n ∙ elim (cases_lt n (node_count f)) [ inl old ↦ is.contents_stay n (kept n old h) | inr past ↦ parent_of-past f is n past ];
-  contents_follow = λ n h. elim (cases_lt n (node_count f)) [ inl old ↦ is.contents_follow n (kept n old h) | inr past ↦ omega (arith, is.document) ];
+  contents_stay = λ n h. parent_of-with_node f about n ∙ elim (cases_lt n (node_count f))
+      [ inl old ↦ is.contents_stay n (kept n old h) | inr past ↦ parent_of-past f is n past ];
+  contents_follow = λ n h. elim (cases_lt n (node_count f))
+      [ inl old ↦ is.contents_follow n (kept n old h) | inr past ↦ omega (arith, is.document) ];
   ends = λ n. ended n;
 }
   where
@@ -287,13 +321,24 @@ IsForest-with_node f about is = record {
     no_parent = parent_of-with_node f about (node_count f) ∙ parent_of-past f is (node_count f) (omega arith)
 
     apart : Above f (node_count f) (node_count f - 1) → ⊥
-    apart = not_above-childless f is (node_count f) (node_count f - 1) (children_of-past f (node_count f) (omega arith)) (ap is_contents (data_of-past f (node_count f + 1) (omega arith))) (omega (arith, is.document))
+    apart = not_above-childless f is (node_count f) (node_count f - 1)
+        (children_of-past f (node_count f) (omega arith))
+        (ap is_contents (data_of-past f (node_count f + 1) (omega arith))) (omega (arith, is.document))
 
     ended : (n : ℕ) → Ends (with_node f about) n
     ended n =
         elim (cases_Bool (is_contents about)) [
-          | inl contents ↦ Ends-put f (with_node f about) (node_count f - 1) (node_count f) (record { others = others; edge = rw (data_of-with_node_new f about, contents) refl }) apart (is.ends (node_count f - 1)) n (is.ends n)
-          | inr plain ↦ Ends-less f (with_node f about) (record { less = λ m. elim (cases_eq m (node_count f)) [ inl same ↦ inr (rw (same, data_of-with_node_new f about, plain) no_parent) | inr other ↦ inl (others m other) ] }) n (is.ends n)
+          | inl contents ↦ Ends-put f (with_node f about) (node_count f - 1) (node_count f)
+              (record { others = others; edge = rw (data_of-with_node_new f about, contents) refl }) apart
+              (is.ends (node_count f - 1)) n (is.ends n)
+          | inr plain ↦ Ends-less f (with_node f about)
+              (record {
+                less = λ m. elim (cases_eq m (node_count f)) [
+                  | inl same ↦ inr (rw (same, data_of-with_node_new f about, plain) no_parent)
+                  | inr other ↦
+                      inl (others m other)
+                ];
+              }) n (is.ends n)
         ]
 
 pub IsMade-with_node : (f : Forest) (about : NodeData) → IsForest f → is_contents about ≡ false → IsMade f (with_node f about) about
@@ -307,7 +352,9 @@ IsMade-with_node f about is plain = record {
   same_data = data_of-with_node_old f about;
   loose = λ p there. record {
     there = omega (arith, node_count-with_node f about);
-    no_parent = let plain' : is_contents (data_of (with_node f about) (node_count f)) ≡ false = ap is_contents (data_of-with_node_new f about) ∙ plain in rw plain' (parent_of-with_node f about (node_count f) ∙ parent_of-past f is (node_count f) (omega arith));
+    no_parent = let plain' : is_contents (data_of (with_node f about) (node_count f)) ≡ false =
+        ap is_contents (data_of-with_node_new f about) ∙ plain in
+        rw plain' (parent_of-with_node f about (node_count f) ∙ parent_of-past f is (node_count f) (omega arith));
     not_above =
         not_above-childless (with_node f about) (IsForest-with_node f about is) (node_count f) p
         (children_of-with_node f about (node_count f) ∙ children_of-past f (node_count f) (omega arith))
@@ -324,7 +371,9 @@ IsLoose-grown f g p c grown there loose = record {
   not_above = λ a. loose.not_above (Above-grown f g grown c p there a);
 }
 
-pub IsMade-create_element : (f : Forest) (name : QualName) (attributes : List Attribute) (flags : ElementFlags) → IsForest f → IsMade f (create_element f name attributes flags) (Element name attributes flags.template flags.mathml_annotation_xml_integration_point)
+pub IsMade-create_element : (f : Forest) (name : QualName) (attributes : List Attribute) (flags : ElementFlags)
+    → IsForest f → IsMade f (create_element f name attributes flags)
+    (Element name attributes flags.template flags.mathml_annotation_xml_integration_point)
 IsMade-create_element f name attributes flags is =
     cond_both flags.template (with_node g Contents) g (λ (x : Forest). IsMade f x about) (λ e. with_contents) (λ e. alone)
   where
@@ -334,16 +383,22 @@ IsMade-create_element f name attributes flags is =
     g : Forest
     g = with_node f (Element name attributes flags.template flags.mathml_annotation_xml_integration_point)
 
-    alone : IsMade f (with_node f (Element name attributes flags.template flags.mathml_annotation_xml_integration_point)) (Element name attributes flags.template flags.mathml_annotation_xml_integration_point)
+    alone : IsMade f (with_node f
+        (Element name attributes flags.template flags.mathml_annotation_xml_integration_point))
+        (Element name attributes flags.template flags.mathml_annotation_xml_integration_point)
     alone = IsMade-with_node f about is refl
 
     one : node_count (with_node f (Element name attributes flags.template flags.mathml_annotation_xml_integration_point)) ≡ node_count f + 1
     one = node_count-with_node f about
 
-    two : node_count (with_node (with_node f (Element name attributes flags.template flags.mathml_annotation_xml_integration_point)) Contents) ≡ node_count f + 1 + 1
+    two : node_count (with_node
+        (with_node f (Element name attributes flags.template flags.mathml_annotation_xml_integration_point))
+        Contents) ≡ node_count f + 1 + 1
     two = node_count-with_node g Contents ∙ ap (λ (k : ℕ). k + 1) one
 
-    with_contents : IsMade f (with_node (with_node f (Element name attributes flags.template flags.mathml_annotation_xml_integration_point)) Contents) (Element name attributes flags.template flags.mathml_annotation_xml_integration_point)
+    with_contents : IsMade f (with_node
+        (with_node f (Element name attributes flags.template flags.mathml_annotation_xml_integration_point))
+        Contents) (Element name attributes flags.template flags.mathml_annotation_xml_integration_point)
     with_contents = record {
       is = IsForest-with_node g Contents alone.is;
       grown = record {
@@ -355,7 +410,8 @@ IsMade-create_element f name attributes flags is =
       parents = λ n. parent_of-with_node g Contents n ∙ alone.parents n;
       lists = λ q. children_of-with_node g Contents q ∙ alone.lists q;
       same_data = λ n there. data_of-with_node_old g Contents n (omega (arith, one)) ∙ alone.same_data n there;
-      loose = λ p there. IsLoose-grown g (with_node g Contents) p (node_count f) (IsGrown-with_node g Contents) (omega (arith, one)) (alone.loose p there);
+      loose = λ p there. IsLoose-grown g (with_node g Contents) p (node_count f) (IsGrown-with_node g Contents)
+          (omega (arith, one)) (alone.loose p there);
     }
 
 -- other data of the same kind as that of a node
@@ -373,7 +429,8 @@ pub record IsInPlace (f g : Forest) (n : ℕ) : Type 0 where
   pub count : node_count g ≡ node_count f
   pub same_data : (k : ℕ) → k ≢ n → data_of g k ≡ data_of f k
 
-pub IsInPlace-with_data : (f : Forest) (n : ℕ) (about : NodeData) → IsForest f → n < node_count f → IsKind f n about → IsInPlace f (with_data f n about) n
+pub IsInPlace-with_data : (f : Forest) (n : ℕ) (about : NodeData) → IsForest f → n < node_count f → IsKind f n about
+    → IsInPlace f (with_data f n about) n
 IsInPlace-with_data f n about is there kind = record {
   is = record {
     document = rw count' is.document;
@@ -420,7 +477,8 @@ IsInPlace-with_data f n about is there kind = record {
     same_above k = rw (kept k, parent_of-with_data f n about k) refl
 
 -- the count of errors and the mode are no part of the tree
-pub IsForest-same_nodes : (f : Forest) (mode : QuirksMode) (errors : ℕ) → IsForest f → IsForest (record { nodes = f.nodes; quirks = mode; errors = errors })
+pub IsForest-same_nodes : (f : Forest) (mode : QuirksMode) (errors : ℕ) → IsForest f
+    → IsForest (record { nodes = f.nodes; quirks = mode; errors = errors })
 IsForest-same_nodes f mode errors is = record {
   document = is.document;
   document_first = is.document_first;

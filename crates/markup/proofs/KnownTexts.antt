@@ -14,7 +14,8 @@ unfolding names
 names-plain = refl
 
 -- the text at a place of the table that is lent is the known name there
-pub name-text : (table : List (Bor (List ℕ))) (k : ℕ) (d : Bor (List ℕ)) → map (λ name. name.now) table ≡ names → k < length names → chars (get_or table k d).now ≡ get_or names k []
+pub name-text : (table : List (Bor (List ℕ))) (k : ℕ) (d : Bor (List ℕ)) → map (λ name. name.now) table ≡ names
+    → k < length names → chars (get_or table k d).now ≡ get_or names k []
 name-text table k d e l =
     let l' : k < length table = omega (arith, ap length e, length-map table (λ (name : Bor (List ℕ)). name.now)) in
     let at : get_or names k [] ≡ (get_or table k d).now = rw (← e) (get_or-map (λ (name : Bor (List ℕ)). name.now) table k d [] l') in

@@ -17,7 +17,8 @@ differ bytes name true e short long =
     let same : length bytes ≡ length name = ap length ((bytes_eq-Decides bytes name).0 e) in
     absurd (omega (arith, same, short, long))
 
-none_among : (bytes : List ℕ) (texts : List (List ℕ)) → list_all (λ name. nat_le (length name) 31) texts ≡ true → 31 < length bytes → list_any (bytes_eq bytes) texts ≡ false
+none_among : (bytes : List ℕ) (texts : List (List ℕ)) → list_all (λ name. nat_le (length name) 31) texts ≡ true
+    → 31 < length bytes → list_any (bytes_eq bytes) texts ≡ false
 none_among bytes [] h long = refl
 none_among bytes (text ∷ texts) h long =
     let parts = and_parts _ _ h in

@@ -26,7 +26,8 @@ names-lowered : are_lowered LOWERED names ≡ true
 unfolding names
 names-lowered = refl
 
-lowered-at : (places : List ℕ) (texts : List (List ℕ)) → are_lowered places texts ≡ true → (k d : ℕ) → k < length texts → is_lowered (get_or places k d) (get_or texts k []) ≡ true
+lowered-at : (places : List ℕ) (texts : List (List ℕ)) → are_lowered places texts ≡ true → (k d : ℕ)
+    → k < length texts → is_lowered (get_or places k d) (get_or texts k []) ≡ true
 lowered-at places [] h k d l = absurd (omega arith)
 lowered-at [] (text ∷ texts) h k d l = absurd cc
 lowered-at (place ∷ places) (text ∷ texts) h zero d l = (and_parts _ _ h).0

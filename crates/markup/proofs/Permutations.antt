@@ -1,10 +1,12 @@
 -- Two lists of one length in which each element is as often are the same in some order.
-use Rattle.std.proofs.Common.{◌≡◌, ◌∙◌, ℕ, ◌+◌, ◌<◌, Bool, true, false, cond, nat_eq, List, [], ◌∷◌, ◌++◌, length, IsPermutation, count_by, refl, sym, ap, subst, arith, eq-eqb}
+use Rattle.std.proofs.Common.{◌≡◌, ◌∙◌, ℕ, ◌+◌, ◌<◌, Bool, true, false, cond, nat_eq, List, [], ◌∷◌, ◌++◌, length}
+use Rattle.std.proofs.Common.{IsPermutation, count_by, refl, sym, ap, subst, arith, eq-eqb}
 use Rattle.std.specs.Bool.{Decides}
 use Rattle.std.specs.List.{list_all}
 use Rattle.std.proofs.lemmas.Bool.{and_parts, eqb-true}
 use Rattle.std.proofs.lemmas.List.Recursion.{is_count_by}
-use Rattle.std.proofs.lemmas.List.Sorted.{IsPermutation-refl, IsPermutation-sym, IsPermutation-trans, IsPermutation-cons, IsPermutation-middle, length_permutation, sum_by-IsPermutation}
+use Rattle.std.proofs.lemmas.List.Sorted.{IsPermutation-refl, IsPermutation-sym, IsPermutation-trans, IsPermutation-cons}
+use Rattle.std.proofs.lemmas.List.Sorted.{IsPermutation-middle, length_permutation, sum_by-IsPermutation}
 
 module _ {X : Type 0} (E : X → X → Bool) (decides : (a b : X) → Decides (E a b) (a ≡ b)) where
   -- how often an element is in a list
@@ -21,7 +23,8 @@ module _ {X : Type 0} (E : X → X → Bool) (decides : (a b : X) → Decides (E
   Cut : X → List X → Type 0
   Cut x ys = (front : List X) × (back : List X) × (ys ≡ front ++ x ∷ back)
 
-  cut_by : (b : Bool) (x y : X) (ys : List X) → E x y ≡ b → 0 < cond b (1 + often x ys) (often x ys) → (0 < often x ys → Cut x ys) → Cut x (y ∷ ys)
+  cut_by : (b : Bool) (x y : X) (ys : List X) → E x y ≡ b → 0 < cond b (1 + often x ys) (often x ys)
+      → (0 < often x ys → Cut x ys) → Cut x (y ∷ ys)
   unfolding Cut
   cut_by true x y ys e h go = ([], ys, ap (λ z. z ∷ ys) (sym ((decides x y).0 e)))
   cut_by false x y ys e h go = let there = go h in (y ∷ there.0, there.1, ap (λ zs. y ∷ zs) there.2)
@@ -49,7 +52,8 @@ module _ {X : Type 0} (E : X → X → Bool) (decides : (a b : X) → Decides (E
       let there = cut x ys (subst (λ n. 0 < n) (h x in_xs) in_xs) in
       let front : List X = there.0 in
       let back : List X = there.1 in
-      let moved : IsPermutation ys (x ∷ (front ++ back)) = subst (λ l. IsPermutation l (x ∷ (front ++ back))) (sym there.2) (IsPermutation-middle front x back) in
+      let moved : IsPermutation ys (x ∷ (front ++ back)) = subst (λ l. IsPermutation l (x ∷ (front ++ back)))
+      (sym there.2) (IsPermutation-middle front x back) in
       let shorter : length xs ≡ length (front ++ back) = omega (arith, length_permutation _ _ moved) in
       let fewer : (z : X) → 0 < often z xs → often z xs ≡ often z (front ++ back) =
       λ z k. less (E z x) _ _ (h z (more (E z x) _ k) ∙ sym (often-permutation z _ _ moved)) in
@@ -68,9 +72,11 @@ module _ {X : Type 0} (E : X → X → Bool) (decides : (a b : X) → Decides (E
   all_true p h [] = refl
   all_true p h (x ∷ xs) = rw (h x) (all_true p h xs)
 
-  pub permutation_from_counts : (xs ys : List X) → length xs ≡ length ys → list_all (λ x. nat_eq (count_by (E x) xs) (count_by (E x) ys)) xs ≡ true → IsPermutation xs ys
+  pub permutation_from_counts : (xs ys : List X) → length xs ≡ length ys
+      → list_all (λ x. nat_eq (count_by (E x) xs) (count_by (E x) ys)) xs ≡ true → IsPermutation xs ys
   permutation_from_counts xs ys l all =
       same_counts xs ys l (λ x h. often-is x xs ∙ eqb-true _ _ (each _ xs all x h) ∙ sym (often-is x ys))
 
-  pub counts_from_permutation : (xs ys : List X) → IsPermutation xs ys → list_all (λ x. nat_eq (count_by (E x) xs) (count_by (E x) ys)) xs ≡ true
+  pub counts_from_permutation : (xs ys : List X) → IsPermutation xs ys
+      → list_all (λ x. nat_eq (count_by (E x) xs) (count_by (E x) ys)) xs ≡ true
   counts_from_permutation xs ys moved = all_true _ (λ x. eq-eqb _ _ (sym (sum_by-IsPermutation (λ y. cond (E x y) 1 0) xs ys moved))) xs

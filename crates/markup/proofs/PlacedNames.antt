@@ -1,5 +1,6 @@
 -- Each known name is at the place that its hash leads to.
-use Rattle.std.proofs.Common.{◌≡◌, ◌∙◌, ℕ, zero, suc, ◌+◌, ◌<◌, ◌==◌, ◌&&◌, Bool, true, false, List, [], ◌∷◌, length, get_or, refl, ap, sym, arith, eqb-true}
+use Rattle.std.proofs.Common.{◌≡◌, ◌∙◌, ℕ, zero, suc, ◌+◌, ◌<◌, ◌==◌, ◌&&◌, Bool, true, false, List, [], ◌∷◌, length, get_or}
+use Rattle.std.proofs.Common.{refl, ap, sym, arith, eqb-true}
 use Rattle.std.specs.List.{list_any}
 use Rattle.std.specs.Str.{bytes_eq}
 use Rattle.std.proofs.lemmas.Bool.{and_parts}
@@ -19,13 +20,16 @@ names-placed : are_placed 0 names ≡ true
 unfolding names place_at
 names-placed = refl
 
-placed-from : (first : ℕ) (texts : List (List ℕ)) → are_placed first texts ≡ true → (k : ℕ) → k < length texts → (d : List ℕ) → place_at (name_hash (get_or texts k d)) ≡ first + k
+placed-from : (first : ℕ) (texts : List (List ℕ)) → are_placed first texts ≡ true → (k : ℕ) → k < length texts
+    → (d : List ℕ) → place_at (name_hash (get_or texts k d)) ≡ first + k
 placed-from first [] h k l d = absurd (omega arith)
 placed-from first (text ∷ texts) h zero l d =
-    let here : place_at (name_hash text) ≡ first = eqb-true _ _ (and_parts (place_at (name_hash text) == first) (are_placed (suc first) texts) h).0 in
+    let here : place_at (name_hash text) ≡ first =
+    eqb-true _ _ (and_parts (place_at (name_hash text) == first) (are_placed (suc first) texts) h).0 in
     omega (arith, here)
 placed-from first (text ∷ texts) h (suc k) l d =
-    let later = placed-from (suc first) texts (and_parts (place_at (name_hash text) == first) (are_placed (suc first) texts) h).1 k (omega arith) d in
+    let later = placed-from (suc first) texts
+    (and_parts (place_at (name_hash text) == first) (are_placed (suc first) texts) h).1 k (omega arith) d in
     omega (arith, later)
 
 placed : (k : ℕ) → k < length names → (d : List ℕ) → place_at (name_hash (get_or names k d)) ≡ k
@@ -40,7 +44,8 @@ apart bytes name true e h =
 apart bytes name false e h = e
 
 -- bytes that do not stand where their hash leads to are no known name
-pub none_placed : (bytes : List ℕ) (place : ℕ) → place ≡ place_at (name_hash bytes) → (place < length names → get_or names place bytes ≡ bytes → false ≡ true) → list_any (bytes_eq bytes) names ≡ false
+pub none_placed : (bytes : List ℕ) (place : ℕ) → place ≡ place_at (name_hash bytes)
+    → (place < length names → get_or names place bytes ≡ bytes → false ≡ true) → list_any (bytes_eq bytes) names ≡ false
 none_placed bytes place p h =
     list_any_none (bytes_eq bytes) names (λ k d l. apart bytes (get_or names k d) _ refl (λ e.
     let here : place ≡ k = p ∙ ap (λ b. place_at (name_hash b)) e ∙ placed k l d in
@@ -49,14 +54,16 @@ none_placed bytes place p h =
 -- a name has one place
 one_place : (i j : ℕ) (name : List ℕ) → IsNameAt i name → IsNameAt j name → i ≡ j
 one_place i j name first second =
-    let same : place_at (name_hash (get_or names i [])) ≡ place_at (name_hash (get_or names j [])) = ap (λ n. place_at (name_hash n)) (first.there ∙ sym second.there) in
+    let same : place_at (name_hash (get_or names i [])) ≡ place_at (name_hash (get_or names j [])) =
+    ap (λ n. place_at (name_hash n)) (first.there ∙ sym second.there) in
     sym (placed i first.within []) ∙ same ∙ placed j second.within []
 
 -- known names are the same where their places are
 pub same_places : (i j : ℕ) (a b : List ℕ) → IsNameAt i a → IsNameAt j b → (i == j) ≡ bytes_eq a b
 same_places i j a b first second =
     same_from_decides {P = a ≡ b} (i == j) (bytes_eq a b)
-    (Decides-like {P = i ≡ j} {Q = a ≡ b} (i == j) (λ e. sym first.there ∙ ap (λ k. get_or names k []) e ∙ second.there) (λ e. one_place i j b (rw e at first) second) (Decides-eqb i j))
+    (Decides-like {P = i ≡ j} {Q = a ≡ b} (i == j) (λ e. sym first.there ∙ ap (λ k. get_or names k []) e
+    ∙ second.there) (λ e. one_place i j b (rw e at first) second) (Decides-eqb i j))
     (bytes_eq-Decides a b)
 
 -- a text that is no known name is none of them

@@ -17,7 +17,8 @@ IsAscii-plain (b ∷ bs) h (suc i) = IsAscii-plain bs (and_parts _ _ h).1 i
 pub bytes_eq-chars : (bs cs : List ℕ) → IsUtf8 bs → IsUtf8 cs → bytes_eq bs cs ≡ bytes_eq (chars bs) (chars cs)
 bytes_eq-chars bs cs u v =
     same_from_decides {P = chars bs ≡ chars cs} (bytes_eq bs cs) (bytes_eq (chars bs) (chars cs))
-    (Decides-like {P = bs ≡ cs} {Q = chars bs ≡ chars cs} (bytes_eq bs cs) (ap chars) (λ e. sym (encodes-chars bs u) ∙ (ap encodes e ∙ encodes-chars cs v)) (bytes_eq-Decides bs cs))
+    (Decides-like {P = bs ≡ cs} {Q = chars bs ≡ chars cs} (bytes_eq bs cs) (ap chars)
+    (λ e. sym (encodes-chars bs u) ∙ (ap encodes e ∙ encodes-chars cs v)) (bytes_eq-Decides bs cs))
     (bytes_eq-Decides (chars bs) (chars cs))
 
 pub chars-plain : (bs : List ℕ) → is_plain bs ≡ true → chars bs ≡ bs

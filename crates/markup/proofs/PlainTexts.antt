@@ -14,10 +14,12 @@ plain-at (t ∷ texts) h zero l = (and_parts _ _ h).0
 plain-at (t ∷ texts) h (suc k) l = plain-at texts (and_parts _ _ h).1 k (omega arith)
 
 one_plain : (bs text : List ℕ) → IsUtf8 bs → is_plain text ≡ true → bytes_eq bs text ≡ bytes_eq (chars bs) text
-one_plain bs text u h = bytes_eq-chars bs text u (IsUtf8-from_ascii text (IsAscii-plain text h)) ∙ ap (bytes_eq (chars bs)) (chars-plain text h)
+one_plain bs text u h = bytes_eq-chars bs text u (IsUtf8-from_ascii text (IsAscii-plain text h))
+    ∙ ap (bytes_eq (chars bs)) (chars-plain text h)
 
 -- bytes are among such texts where their characters are
-pub among_plain : (bs : List ℕ) → IsUtf8 bs → (texts : List (List ℕ)) → list_all is_plain texts ≡ true → list_any (bytes_eq bs) texts ≡ list_any (bytes_eq (chars bs)) texts
+pub among_plain : (bs : List ℕ) → IsUtf8 bs → (texts : List (List ℕ)) → list_all is_plain texts ≡ true
+    → list_any (bytes_eq bs) texts ≡ list_any (bytes_eq (chars bs)) texts
 among_plain bs u [] h = refl
 among_plain bs u (t ∷ texts) h =
     let parts = and_parts _ _ h in

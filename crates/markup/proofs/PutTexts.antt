@@ -1,7 +1,10 @@
 -- Text, new nodes and attributes at their places: what is left of the older nodes.
 use Rattle.std.proofs.Common.{◌≡◌, ◌==◌, ◌<◌, ℕ, true, false, List, ◌++◌, Option, Some, None, length, sym, ap, ◌∙◌, refl, inl, inr, arith}
 use Rattle.std.proofs.lemmas.Bool.{cases_lt, cond_both}
-use Rattle.markup.specs.Forest.{Forest, NodeData, Place, node_count, data_of, children_of, parent_of, parent_at, is_contents, holds_children, element_name, text_of, template_of, IsForest, IsParent, IsPlace, with_node, with_data, put_new, put_text, joined_text, previous_at, data_if, those_before, with_attributes, add_attributes}
+use Rattle.markup.specs.Forest.{Forest, NodeData, Place, node_count, data_of, children_of, parent_of, parent_at, is_contents}
+use Rattle.markup.specs.Forest.{holds_children, element_name, text_of, template_of, IsForest, IsParent, IsPlace, with_node}
+use Rattle.markup.specs.Forest.{with_data, put_new, put_text, joined_text, previous_at, data_if, those_before, with_attributes}
+use Rattle.markup.specs.Forest.{add_attributes}
 use Rattle.markup.specs.Forest.NodeData.{Document, Contents, Doctype, Comment, ProcessingInstruction, Element, Text}
 use Rattle.markup.specs.Forest.Place.{Last, Before}
 use Rattle.markup.specs.declared.names.QualName.{QualName}
@@ -114,10 +117,12 @@ IsKind-text f n old new is e = record {
 }
 
 -- a text gets other characters
-pub IsInPlace-text : (f : Forest) (n : ℕ) (old new : List ℕ) → IsForest f → text_of (data_of f n) ≡ Some old → IsInPlace f (with_data f n (Text new)) n
+pub IsInPlace-text : (f : Forest) (n : ℕ) (old new : List ℕ) → IsForest f → text_of (data_of f n) ≡ Some old
+    → IsInPlace f (with_data f n (Text new)) n
 IsInPlace-text f n old new is e = IsInPlace-with_data f n (Text new) is (text-IsNode f n old e) (IsKind-text f n old new is e)
 
-IsTexted-with_data : (f : Forest) (n : ℕ) (old new : List ℕ) → IsForest f → text_of (data_of f n) ≡ Some old → IsTexted f (with_data f n (Text new))
+IsTexted-with_data : (f : Forest) (n : ℕ) (old new : List ℕ) → IsForest f → text_of (data_of f n) ≡ Some old
+    → IsTexted f (with_data f n (Text new))
 IsTexted-with_data f n old new is e = record {
   is = in_place.is;
   grown = record { more = omega (arith, in_place.count); olds = λ k less. in_place.aboves k };
@@ -129,7 +134,8 @@ IsTexted-with_data f n old new is e = record {
     in_place = IsInPlace-text f n old new is e
 
 -- a place stays one while nodes are made
-pub IsPlace-with_node : (f : Forest) (place : Place) (about : NodeData) → IsForest f → is_contents about ≡ false → IsPlace f place → IsPlace (with_node f about) place
+pub IsPlace-with_node : (f : Forest) (place : Place) (about : NodeData) → IsForest f → is_contents about ≡ false
+    → IsPlace f place → IsPlace (with_node f about) place
 IsPlace-with_node f (Last p) about is plain at = record {
   there = let there = at.there in let more = (IsMade-with_node f about is plain).grown.more in omega arith;
   holds = ap holds_children ((IsMade-with_node f about is plain).same_data p at.there) ∙ at.holds;
@@ -141,16 +147,19 @@ pub record IsPutNew (f g : Forest) (place : Place) (about : NodeData) : Type 0 w
   pub made : IsMade f (with_node f about) about
   pub put : IsPutAt (with_node f about) g place (node_count f)
 
-pub IsPutNew-put_new : (f : Forest) (place : Place) (about : NodeData) → IsForest f → is_contents about ≡ false → IsPlace f place → IsPutNew f (put_new f place about) place about
+pub IsPutNew-put_new : (f : Forest) (place : Place) (about : NodeData) → IsForest f → is_contents about ≡ false
+    → IsPlace f place → IsPutNew f (put_new f place about) place about
 IsPutNew-put_new f place about is plain at = record {
   made = made;
-  put = IsPutAt-put (with_node f about) place (node_count f) made.is (IsPlace-with_node f place about is plain at) (made.loose (parent_at place) (IsParent-place f place is at).there);
+  put = IsPutAt-put (with_node f about) place (node_count f) made.is (IsPlace-with_node f place about is plain at)
+      (made.loose (parent_at place) (IsParent-place f place is at).there);
 }
   where
     made : IsMade f (with_node f about) about
     made = IsMade-with_node f about is plain
 
-pub IsTexted-put_new : (f : Forest) (place : Place) (about : NodeData) → IsForest f → is_contents about ≡ false → IsPlace f place → IsTexted f (put_new f place about)
+pub IsTexted-put_new : (f : Forest) (place : Place) (about : NodeData) → IsForest f → is_contents about ≡ false
+    → IsPlace f place → IsTexted f (put_new f place about)
 IsTexted-put_new f place about is plain at = record {
   is = new.put.is;
   grown = record {
@@ -164,9 +173,11 @@ IsTexted-put_new f place about is plain at = record {
     new : IsPutNew f (put_new f place about) place about
     new = IsPutNew-put_new f place about is plain at
 
-pub IsTexted-put_text : (f : Forest) (place : Place) (characters : List ℕ) → IsForest f → IsPlace f place → IsTexted f (put_text f place characters)
+pub IsTexted-put_text : (f : Forest) (place : Place) (characters : List ℕ) → IsForest f → IsPlace f place
+    → IsTexted f (put_text f place characters)
 IsTexted-put_text f place characters is at =
-    cond_both (length characters == 0) f (joined_text f place characters (previous_at f place) (text_of (data_if f (previous_at f place)))) (λ (x : Forest). IsTexted f x)
+    cond_both (length characters == 0) f
+    (joined_text f place characters (previous_at f place) (text_of (data_if f (previous_at f place)))) (λ (x : Forest). IsTexted f x)
     (λ e. IsTexted-same f is)
     (λ e. by_previous (previous_at f place))
   where
@@ -184,7 +195,8 @@ IsTexted-put_text f place characters is at =
 -- the node just before a place is a node
 pub previous-IsNode : (f : Forest) (place : Place) (n : ℕ) → IsForest f → previous_at f place ≡ Some n → n < node_count f
 previous-IsNode f (Last p) n is e = is.in_range p n (is_among-last n (children_of f p) e)
-previous-IsNode f (Before p s) n is e = is.in_range p n (is_among-those_before n s (children_of f p) (is_among-last n (those_before s (children_of f p)) e))
+previous-IsNode f (Before p s) n is e =
+    is.in_range p n (is_among-those_before n s (children_of f p) (is_among-last n (those_before s (children_of f p)) e))
 
 -- attributes
 
@@ -231,5 +243,7 @@ template_of-with_attributes (Comment a) others = refl
 template_of-with_attributes (ProcessingInstruction a b) others = refl
 template_of-with_attributes (Element a b c d) others = refl
 
-pub IsInPlace-add_attributes : (f : Forest) (n : ℕ) (others : List Attribute) → IsForest f → n < node_count f → IsInPlace f (add_attributes f n others) n
-IsInPlace-add_attributes f n others is there = IsInPlace-with_data f n (with_attributes (data_of f n) others) is there (IsKind-with_attributes f n others is)
+pub IsInPlace-add_attributes : (f : Forest) (n : ℕ) (others : List Attribute) → IsForest f → n < node_count f
+    → IsInPlace f (add_attributes f n others) n
+IsInPlace-add_attributes f n others is there = IsInPlace-with_data f n (with_attributes (data_of f n) others) is
+    there (IsKind-with_attributes f n others is)

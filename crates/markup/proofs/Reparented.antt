@@ -2,9 +2,12 @@
 use Rattle.std.proofs.Common.{◌≡◌, ◌≢◌, ◌<◌, ℕ, true, false, List, [], ◌++◌, Some, sym, ap, ◌∙◌, refl, inl, inr, arith, set}
 use Rattle.std.proofs.lemmas.List.{set-get_or, set-set}
 use Rattle.std.proofs.lemmas.Bool.{cases_eq, cases_Bool}
-use Rattle.markup.specs.Forest.{Forest, Node, no_node, node_count, data_of, children_of, is_among, parent_of, is_contents, holds_children, Above, IsForest, IsParent, with_children, reparent_children}
+use Rattle.markup.specs.Forest.{Forest, Node, no_node, node_count, data_of, children_of, is_among, parent_of, is_contents}
+use Rattle.markup.specs.Forest.{holds_children, Above, IsForest, IsParent, with_children, reparent_children}
 use Rattle.markup.proofs.Children.{is_among-append_left, is_among-append_right, IsDistinct-append}
-use Rattle.markup.proofs.Parents.{parent_of-only, parent_of-same, is_among-no_parent, children_of-with_children, children_of-with_children_other, data_of-with_children, node_count-with_children, above_of-same}
+use Rattle.markup.proofs.Parents.{parent_of-only, parent_of-same, is_among-no_parent, children_of-with_children}
+use Rattle.markup.proofs.Parents.{children_of-with_children_other, data_of-with_children, node_count-with_children}
+use Rattle.markup.proofs.Parents.{above_of-same}
 use Rattle.markup.proofs.Walks.{IsMoved, Above-up, Ends-moved}
 
 -- the children of one node move after those of another
@@ -22,13 +25,16 @@ pub record IsReparented (f g : Forest) (from to : ℕ) : Type 0 where
 -- moved after themselves they stay as they are
 pub reparent_children-same : (f : Forest) (n : ℕ) → n < node_count f → reparent_children f n n ≡ f
 reparent_children-same f n there =
-    ap (λ (cs : List ℕ). with_children (with_children f n []) n cs) (ap (λ (cs : List ℕ). cs ++ children_of f n) (children_of-with_children f n [] there))
+    ap (λ (cs : List ℕ). with_children (with_children f n []) n cs)
+    (ap (λ (cs : List ℕ). cs ++ children_of f n) (children_of-with_children f n [] there))
     ∙ ap (λ (nodes : List Node). record f { nodes = nodes })
-    (ap (λ about. set (with_children f n []).nodes n (record { about = about; children = children_of f n })) (data_of-with_children f n n [])
+    (ap (λ about. set (with_children f n []).nodes n (record { about = about; children = children_of f n }))
+    (data_of-with_children f n n [])
     ∙ (set-set f.nodes n (record { about = data_of f n; children = [] }) (record { about = data_of f n; children = children_of f n })
     ∙ set-get_or f.nodes n no_node))
 
-module _ (f : Forest) (from to : ℕ) (is : IsForest f) (there_from : from < node_count f) (at : IsParent f to) (apart : (c : ℕ) → is_among c (children_of f from) ≡ true → Above f c to → ⊥) where
+module _ (f : Forest) (from to : ℕ) (is : IsForest f) (there_from : from < node_count f) (at : IsParent f to)
+    (apart : (c : ℕ) → is_among c (children_of f from) ≡ true → Above f c to → ⊥) where
   data_same : (n : ℕ) → data_of (reparent_children f from to) n ≡ data_of f n
   data_same n = data_of-with_children (with_children f from []) to n _ ∙ data_of-with_children f from n []
 
@@ -50,7 +56,8 @@ module _ (f : Forest) (from to : ℕ) (is : IsForest f) (there_from : from < nod
     other_node same = apart_nodes (sym same)
 
     lists_from : children_of (reparent_children f from to) from ≡ []
-    lists_from = children_of-with_children_other (with_children f from []) to from _ apart_nodes ∙ children_of-with_children f from [] there_from
+    lists_from = children_of-with_children_other (with_children f from []) to from _ apart_nodes
+        ∙ children_of-with_children f from [] there_from
 
     lists_to : children_of (reparent_children f from to) to ≡ children_of f to ++ children_of f from
     lists_to =
@@ -58,7 +65,8 @@ module _ (f : Forest) (from to : ℕ) (is : IsForest f) (there_from : from < nod
         ∙ ap (λ ns. ns ++ children_of f from) (children_of-with_children_other f from to [] other_node)
 
     -- a node that does not move keeps its lists
-    stays_among : (n q : ℕ) → is_among n (children_of f from) ≡ false → is_among n (children_of (reparent_children f from to) q) ≡ is_among n (children_of f q)
+    stays_among : (n q : ℕ) → is_among n (children_of f from) ≡ false
+        → is_among n (children_of (reparent_children f from to) q) ≡ is_among n (children_of f q)
     stays_among n q h =
         elim (cases_eq q from) [
           | inl same ↦ rw (same, lists_from) (sym h)
@@ -77,7 +85,8 @@ module _ (f : Forest) (from to : ℕ) (is : IsForest f) (there_from : from < nod
         elim (cases_eq q to) [
           | inl same ↦ same
           | inr b ↦ elim (cases_eq q from) [
-            | inl same ↦ absurd (let gone : is_among n (children_of (reparent_children f from to) q) ≡ false = rw (same, lists_from) refl in cc)
+            | inl same ↦ absurd (let gone : is_among n (children_of (reparent_children f from to) q) ≡ false =
+                rw (same, lists_from) refl in cc)
             | inr a ↦
                 let old : is_among n (children_of f q) ≡ true = ap (is_among n) (sym (lists_other q a b)) ∙ found in
                 absurd (a (let one = is.one_parent q n old in let two = is.one_parent from n h in let e : q ≡ from = cc in e))
@@ -86,7 +95,8 @@ module _ (f : Forest) (from to : ℕ) (is : IsForest f) (there_from : from < nod
 
     moves_parent : (n : ℕ) → is_among n (children_of f from) ≡ true → parent_of (reparent_children f from to) n ≡ Some to
     moves_parent n h =
-        parent_of-only (reparent_children f from to) n to (ap (is_among n) lists_to ∙ is_among-append_right n (children_of f to) (children_of f from) h) (λ q found. moves_to n q h found)
+        parent_of-only (reparent_children f from to) n to
+        (ap (is_among n) lists_to ∙ is_among-append_right n (children_of f to) (children_of f from) h) (λ q found. moves_to n q h found)
 
     moved_edges : IsMoved f (reparent_children f from to) (λ n. is_among n (children_of f from)) to
     moved_edges = record {
@@ -106,7 +116,12 @@ module _ (f : Forest) (from to : ℕ) (is : IsForest f) (there_from : from < nod
         | inl same ↦ rw (same, lists_from) tt
         | inr a ↦ elim (cases_eq q to) [
           | inl same ↦ rw (same, lists_to) (IsDistinct-append (children_of f to) (children_of f from) (is.once to) (is.once from)
-              (λ n found. elim (cases_Bool (is_among n (children_of f from))) [ inl both ↦ absurd (other_node (let one = is.one_parent to n found in let two = is.one_parent from n both in let e : to ≡ from = cc in e)) | inr absent ↦ absent ]))
+              (λ n found. elim (cases_Bool (is_among n (children_of f from))) [
+                | inl both ↦ absurd (other_node
+                    (let one = is.one_parent to n found in let two = is.one_parent from n both in
+                    let e : to ≡ from = cc in e))
+                | inr absent ↦ absent
+              ]))
           | inr b ↦ rw (lists_other q a b) (is.once q)
         ]
       ];
@@ -123,7 +138,8 @@ module _ (f : Forest) (from to : ℕ) (is : IsForest f) (there_from : from < nod
           let free = is.contents_stay n contents in
           stays_parent n (is_among-no_parent f n free from) ∙ free;
       contents_follow = λ n h. is.contents_follow n (ap is_contents (sym (data_same n)) ∙ h);
-      ends = λ n. Ends-moved f (reparent_children f from to) (λ m. is_among m (children_of f from)) to moved_edges apart (is.ends to) n (is.ends n);
+      ends = λ n. Ends-moved f (reparent_children f from to) (λ m. is_among m (children_of f from)) to moved_edges
+          apart (is.ends to) n (is.ends n);
     }
 
     reparented_apart : IsReparented f (reparent_children f from to) from to
@@ -159,7 +175,8 @@ IsReparented-same f n is = record {
 }
 
 -- none of the children is above the node that they move into
-pub IsReparented-reparent_children : (f : Forest) (from to : ℕ) → IsForest f → from < node_count f → IsParent f to → ((c : ℕ) → is_among c (children_of f from) ≡ true → Above f c to → ⊥) → IsReparented f (reparent_children f from to) from to
+pub IsReparented-reparent_children : (f : Forest) (from to : ℕ) → IsForest f → from < node_count f → IsParent f to
+    → ((c : ℕ) → is_among c (children_of f from) ≡ true → Above f c to → ⊥) → IsReparented f (reparent_children f from to) from to
 IsReparented-reparent_children f from to is there at apart =
     elim (cases_eq from to) [
       | inl same ↦ rw (← same) (rw (reparent_children-same f from there) (IsReparented-same f from is))
@@ -167,7 +184,8 @@ IsReparented-reparent_children f from to is there at apart =
     ]
 
 -- where one node is not above another one, nor is a child of it
-pub not_above-child : (f : Forest) (from to : ℕ) → IsForest f → (Above f from to → ⊥) → (c : ℕ) → is_among c (children_of f from) ≡ true → Above f c to → ⊥
+pub not_above-child : (f : Forest) (from to : ℕ) → IsForest f → (Above f from to → ⊥) → (c : ℕ)
+    → is_among c (children_of f from) ≡ true → Above f c to → ⊥
 not_above-child f from to is apart c h up =
     elim (cases_Bool (is_contents (data_of f c))) [
       | inl contents ↦ absurd (let free = is.contents_stay c contents in let stands = is.one_parent from c h in cc)

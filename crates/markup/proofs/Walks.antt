@@ -1,5 +1,6 @@
 -- Who stands above whom, after nodes were made, put, moved or taken out.
-use Rattle.std.proofs.Common.{◌≡◌, ◌≢◌, ◌==◌, ◌+◌, ◌-◌, ◌<◌, ◌≤◌, ℕ, Bool, true, false, [], Some, None, sym, ap, ◌∙◌, refl, inl, inr, ◌⊎◌, arith}
+use Rattle.std.proofs.Common.{◌≡◌, ◌≢◌, ◌==◌, ◌+◌, ◌-◌, ◌<◌, ◌≤◌, ℕ, Bool, true, false, [], Some, None, sym, ap, ◌∙◌, refl, inl}
+use Rattle.std.proofs.Common.{inr, ◌⊎◌, arith}
 use Rattle.std.proofs.lemmas.Bool.{cases_Bool, eqb-true, eq-eqb}
 use Rattle.markup.specs.Forest.{Forest, node_count, data_of, children_of, is_among, parent_of, is_contents, above_of, Above, Ends, IsForest}
 use Rattle.markup.specs.Forest.Above.{here, further}
@@ -81,7 +82,8 @@ Above-antisym f is a b here down = refl
 Above-antisym f is a b (further {n = k} {m} e r) down = absurd (Above-child f is k m e (Above-trans f k a m down r))
 
 -- a node with no child, and with no contents, has nothing under it
-pub nothing_under : (f : Forest) → IsForest f → (c : ℕ) → children_of f c ≡ [] → is_contents (data_of f (c + 1)) ≡ false → (m : ℕ) → above_of f m ≡ Some c → ⊥
+pub nothing_under : (f : Forest) → IsForest f → (c : ℕ) → children_of f c ≡ []
+    → is_contents (data_of f (c + 1)) ≡ false → (m : ℕ) → above_of f m ≡ Some c → ⊥
 nothing_under f is c childless no_contents m e =
     elim (cases_Bool (is_contents (data_of f m))) [
       | inl contents ↦
@@ -98,7 +100,8 @@ nothing_under f is c childless no_contents m e =
           cc
     ]
 
-pub not_above-childless : (f : Forest) → IsForest f → (c p : ℕ) → children_of f c ≡ [] → is_contents (data_of f (c + 1)) ≡ false → p ≢ c → Above f c p → ⊥
+pub not_above-childless : (f : Forest) → IsForest f → (c p : ℕ) → children_of f c ≡ []
+    → is_contents (data_of f (c + 1)) ≡ false → p ≢ c → Above f c p → ⊥
 not_above-childless f is c p childless no_contents other a =
     elim (under-from_above f c p a) [ inl same ↦ other same | inr w ↦ nothing_under f is c childless no_contents w.0 w.1 ]
 
@@ -125,7 +128,8 @@ Above-moved f g moves p is a n (further {n = k} {m} e r) =
     ]
 
 -- where no node above n moves, nothing new stands above it
-pub Above-moved_free : (f g : Forest) (moves : ℕ → Bool) (p : ℕ) → IsMoved f g moves p → (a n : ℕ) → ((c : ℕ) → moves c ≡ true → Above f c n → ⊥) → Above g a n → Above f a n
+pub Above-moved_free : (f g : Forest) (moves : ℕ → Bool) (p : ℕ) → IsMoved f g moves p → (a n : ℕ)
+    → ((c : ℕ) → moves c ≡ true → Above f c n → ⊥) → Above g a n → Above f a n
 Above-moved_free f g moves p is a n free here = here
 Above-moved_free f g moves p is a n free (further {n = k} {m} e r) =
     elim (cases_Bool (moves k)) [
@@ -140,7 +144,8 @@ Above-put f g p c is a n r = Above-moved f g (λ n. n == c) p (IsMoved-put f g p
 
 pub Above-put_free : (f g : Forest) (p c : ℕ) → IsPut f g p c → (a n : ℕ) → (Above f c n → ⊥) → Above g a n → Above f a n
 Above-put_free f g p c is a n free r =
-    Above-moved_free f g (λ n. n == c) p (IsMoved-put f g p c is) a n (λ k moved up. let same : k ≡ c = eqb-true k c moved in free (rw (← same) up)) r
+    Above-moved_free f g (λ n. n == c) p (IsMoved-put f g p c is) a n
+    (λ k moved up. let same : k ≡ c = eqb-true k c moved in free (rw (← same) up)) r
 
 -- an older node has nothing new above it
 pub Above-grown : (f g : Forest) → IsGrown f g → (a n : ℕ) → n < node_count f → Above g a n → Above f a n
@@ -153,7 +158,8 @@ Above-grown f g is a n there (further {n = k} {m} e r) =
 
 pub Ends-less : (f g : Forest) → IsLess f g → (m : ℕ) → Ends f m → Ends g m
 Ends-less f g is m (top {n} e) = elim (is.less n) [ inl same ↦ top (same ∙ e) | inr free ↦ top free ]
-Ends-less f g is m (below {n} {m = above} e r) = elim (is.less n) [ inl same ↦ below (same ∙ e) (Ends-less f g is above r) | inr free ↦ top free ]
+Ends-less f g is m (below {n} {m = above} e r) = elim (is.less n)
+    [ inl same ↦ below (same ∙ e) (Ends-less f g is above r) | inr free ↦ top free ]
 
 module _ (f g : Forest) (moves : ℕ → Bool) (p : ℕ) (is : IsMoved f g moves p) (apart : (c : ℕ) → moves c ≡ true → Above f c p → ⊥) where
   still : (n m : ℕ) → ((c : ℕ) → moves c ≡ true → Above f c m → ⊥) → m ≡ n → moves n ≡ false
@@ -167,10 +173,19 @@ module _ (f g : Forest) (moves : ℕ → Bool) (p : ℕ) (is : IsMoved f g moves
   -- where no node that moves is above p
   pub Ends-moved : Ends f p → (m : ℕ) → Ends f m → Ends g m
   Ends-moved end m (top {n} e) =
-      elim (cases_Bool (moves n)) [ inl moved ↦ below (is.edges n moved) (walk_apart p apart end) | inr stays ↦ top (is.others n stays ∙ e) ]
+      elim (cases_Bool (moves n)) [
+        | inl moved ↦ below (is.edges n moved) (walk_apart p apart end)
+        | inr stays ↦ top
+            (is.others n stays ∙ e)
+      ]
   Ends-moved end m (below {n} {m = above} e r) =
-      elim (cases_Bool (moves n)) [ inl moved ↦ below (is.edges n moved) (walk_apart p apart end) | inr stays ↦ below (is.others n stays ∙ e) (Ends-moved end above r) ]
+      elim (cases_Bool (moves n)) [
+        | inl moved ↦ below (is.edges n moved) (walk_apart p apart end)
+        | inr stays ↦
+            below (is.others n stays ∙ e) (Ends-moved end above r)
+      ]
 
 pub Ends-put : (f g : Forest) (p c : ℕ) → IsPut f g p c → (Above f c p → ⊥) → Ends f p → (m : ℕ) → Ends f m → Ends g m
 Ends-put f g p c is apart end m r =
-    Ends-moved f g (λ n. n == c) p (IsMoved-put f g p c is) (λ k moved up. let same : k ≡ c = eqb-true k c moved in apart (rw (← same) up)) end m r
+    Ends-moved f g (λ n. n == c) p (IsMoved-put f g p c is)
+    (λ k moved up. let same : k ≡ c = eqb-true k c moved in apart (rw (← same) up)) end m r

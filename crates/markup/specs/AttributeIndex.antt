@@ -25,7 +25,8 @@ first_place (Some first) place = Some first
 
 -- an index has an attribute more: its local name and its place
 pub record AddsPlace (name : List ℕ) (place : ℕ) (old new : AttributeIndex) : Type 0 where
-  pub places : (other : List ℕ) → place_in new.places other ≡ first_place (place_in old.places other) (cond (bytes_eq other name) (Some place) None)
+  pub places : (other : List ℕ) → place_in new.places other ≡ first_place (place_in old.places other)
+      (cond (bytes_eq other name) (Some place) None)
   pub are_distinct : new.are_distinct ≡ (old.are_distinct && not (is_some (place_in old.places name)))
 
 -- the index, where there is one, says where the attributes are

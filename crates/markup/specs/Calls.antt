@@ -74,7 +74,8 @@ StopsBefore refuses reached [] fault new = (fault ≡ Memory) × (new ≡ reache
 StopsBefore refuses reached (call ∷ calls) fault new = ((fault ≡ Memory) × (new ≡ reached)) ⊎ refuses reached call fault new
 
 -- so many of the calls were made, and then the walk stopped
-pub record Stops {S : Type 0} (step : Step S) (refuses : Refuses S) (old : S) (calls : List Call) (fault : SerializeFault) (new : S) : Type 0 where
+pub record Stops {S : Type 0} (step : Step S) (refuses : Refuses S) (old : S) (calls : List Call)
+    (fault : SerializeFault) (new : S) : Type 0 where
   pub made : List Call
   pub left : List Call
   pub reached : S

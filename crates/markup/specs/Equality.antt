@@ -39,14 +39,19 @@ parts_by_value a b =
     let d = and-Decides _ _ (texts_by_value a.0 b.0) (texts_by_value a.1 b.1) in
     (λ e. let h = d.0 e in λ i. (h.0 i, h.1 i), λ e. d.1 (ap (λ n. n.0) e, ap (λ n. n.1) e))
 
-pub names_by_value : (a b : QualName) → Decides (option_eq (pointwise nat_eq) a.prefix b.prefix && (pointwise nat_eq a.ns b.ns && pointwise nat_eq a.local b.local)) (a ≡ b)
+pub names_by_value : (a b : QualName) → Decides (option_eq (pointwise nat_eq) a.prefix b.prefix
+    && (pointwise nat_eq a.ns b.ns && pointwise nat_eq a.local b.local)) (a ≡ b)
 names_by_value a b =
-    let d = and-Decides _ _ (options_by_value a.prefix b.prefix) (and-Decides _ _ (texts_by_value a.ns b.ns) (texts_by_value a.local b.local)) in (
+    let d = and-Decides _ _ (options_by_value a.prefix b.prefix)
+    (and-Decides _ _ (texts_by_value a.ns b.ns) (texts_by_value a.local b.local)) in (
       λ e. let h = d.0 e in λ i. record { prefix = h.0 i; ns = h.1.0 i; local = h.1.1 i },
       λ e. d.1 (ap (λ n. n.prefix) e, (ap (λ n. n.ns) e, ap (λ n. n.local) e)),
     )
 
-pub attributes_by_value : (a b : Attribute) → Decides ((option_eq (pointwise nat_eq) a.name.prefix b.name.prefix && (pointwise nat_eq a.name.ns b.name.ns && pointwise nat_eq a.name.local b.name.local)) && pointwise nat_eq a.value b.value) (a ≡ b)
+pub attributes_by_value : (a b : Attribute)
+    → Decides ((option_eq (pointwise nat_eq) a.name.prefix b.name.prefix
+    && (pointwise nat_eq a.name.ns b.name.ns && pointwise nat_eq a.name.local b.name.local))
+    && pointwise nat_eq a.value b.value) (a ≡ b)
 attributes_by_value a b =
     let d = and-Decides _ _ (names_by_value a.name b.name) (texts_by_value a.value b.value) in (
       λ e. let h = d.0 e in λ i. record { name = h.0 i; value = h.1 i },
@@ -55,7 +60,8 @@ attributes_by_value a b =
 
 -- `==` of attributes
 abbrev pub attribute_eq : Attribute → Attribute → Bool
-attribute_eq a b = (option_eq (pointwise nat_eq) a.name.prefix b.name.prefix && (pointwise nat_eq a.name.ns b.name.ns && pointwise nat_eq a.name.local b.name.local)) && pointwise nat_eq a.value b.value
+attribute_eq a b = (option_eq (pointwise nat_eq) a.name.prefix b.name.prefix
+    && (pointwise nat_eq a.name.ns b.name.ns && pointwise nat_eq a.name.local b.name.local)) && pointwise nat_eq a.value b.value
 
 -- lists of attributes are the same where each is
 pub attribute_lists_by_value : (a b : List Attribute) → Decides (pointwise attribute_eq a b) (a ≡ b)

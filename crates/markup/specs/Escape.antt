@@ -1,4 +1,5 @@
--- Escaping a string, and the written forms of tags and of what stands beside them (HTML Standard, section 13.3, "Serializing HTML fragments").
+-- Escaping a string, and the written forms of tags and of what stands beside them (HTML Standard, section 13.3, "Serializing HTML
+-- fragments").
 use Rattle.std.specs.Prelude.{ℕ, Bool, true, false, cond, List, [], ◌∷◌, ◌++◌, Option, Some, codes, nat_eq}
 use Rattle.std.specs.Str.{bytes_eq}
 use Rattle.markup.specs.Namespaces.{known_namespace}
@@ -53,7 +54,8 @@ attribute_prefix name = prefix_by (known_namespace name.ns) (bytes_eq name.local
 
 abbrev pub written_attribute : Attribute → List ℕ
 written_attribute attribute =
-    codes " " ++ (attribute_prefix attribute.name ++ (attribute.name.local ++ (codes "=\"" ++ (escape_value attribute.value ++ codes "\""))))
+    codes " " ++ (attribute_prefix attribute.name
+    ++ (attribute.name.local ++ (codes "=\"" ++ (escape_value attribute.value ++ codes "\""))))
 
 abbrev pub written_attributes : List Attribute → List ℕ
 written_attributes [] = []

@@ -1,6 +1,7 @@
 -- The tree that a sink has built so far (DOM Standard, section 4.2). Nodes are named by numbers, in the order in which they were made.
 -- The document is 0. The contents of a template are a node of their own, whose number follows the template's.
-use Rattle.std.specs.Prelude.{◌≡◌, ◌==◌, ◌+◌, ◌-◌, ◌<◌, ℕ, suc, Bool, true, false, cond, List, [], ◌∷◌, ◌++◌, Option, Some, None, length, slice_index_or, slice_set, filter, not}
+use Rattle.std.specs.Prelude.{◌≡◌, ◌==◌, ◌+◌, ◌-◌, ◌<◌, ℕ, suc, Bool, true, false, cond, List, [], ◌∷◌, ◌++◌, Option, Some}
+use Rattle.std.specs.Prelude.{None, length, slice_index_or, slice_set, filter, not}
 pub use Rattle.devices.specs.Devices.{one_more}
 use Rattle.markup.specs.Names.{has_attribute}
 use Rattle.markup.specs.declared.names.QualName.{QualName}
@@ -280,7 +281,8 @@ with_missing attributes (more ∷ others) =
 
 -- what is no element stays as it is
 abbrev pub with_attributes : NodeData → List Attribute → NodeData
-with_attributes (Element name attributes template integration_point) others = Element name (with_missing attributes others) template integration_point
+with_attributes (Element name attributes template integration_point) others =
+    Element name (with_missing attributes others) template integration_point
 with_attributes about others = about
 
 abbrev pub add_attributes : Forest → ℕ → List Attribute → Forest

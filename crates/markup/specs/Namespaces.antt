@@ -36,7 +36,8 @@ if_named name known other = cond (bytes_eq name (name_of known)) (Some known) ot
 -- the known namespace of a name, if there is one
 unfoldable pub known_namespace : List ℕ → Option KnownNamespace
 known_namespace name =
-    if_named name Html (if_named name NoNamespace (if_named name Svg (if_named name MathMl (if_named name XLink (if_named name Xml (if_named name Xmlns None))))))
+    if_named name Html (if_named name NoNamespace
+    (if_named name Svg (if_named name MathMl (if_named name XLink (if_named name Xml (if_named name Xmlns None))))))
 
 -- the name of a namespace as it is held
 abbrev pub form_name : KnownForm → List ℕ
@@ -67,7 +68,9 @@ known-name_of XLink = refl
 known-name_of Xml = refl
 known-name_of Xmlns = refl
 
-if_named-name : (name : List ℕ) (one known : KnownNamespace) (other : Option KnownNamespace) (b : Bool) → bytes_eq name (name_of one) ≡ b → cond b (Some one) other ≡ Some known → (other ≡ Some known → name ≡ name_of known) → name ≡ name_of known
+if_named-name : (name : List ℕ) (one known : KnownNamespace) (other : Option KnownNamespace) (b : Bool)
+    → bytes_eq name (name_of one) ≡ b → cond b (Some one) other ≡ Some known
+    → (other ≡ Some known → name ≡ name_of known) → name ≡ name_of known
 if_named-name name one known other true e h rest =
     let same : one ≡ known = cc in
     (bytes_eq-Decides name (name_of one)).0 e ∙ ap name_of same

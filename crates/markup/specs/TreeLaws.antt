@@ -1,6 +1,7 @@
 -- What each change of a forest keeps, whoever makes it.
 use Rattle.std.specs.Prelude.{◌≡◌, ℕ, List, ◌++◌}
-use Rattle.markup.specs.Forest.{Forest, NodeData, Place, IsForest, IsPlace, add_attributes, create_element, put, put_new, put_text, remove, reparent_children, set_quirks, with_node}
+use Rattle.markup.specs.Forest.{Forest, NodeData, Place, IsForest, IsPlace, add_attributes, create_element, put, put_new}
+use Rattle.markup.specs.Forest.{put_text, remove, reparent_children, set_quirks, with_node}
 use Rattle.markup.specs.declared.attributes.Attribute.{Attribute}
 use Rattle.markup.specs.declared.flags.ElementFlags.{ElementFlags}
 use Rattle.markup.specs.declared.names.QualName.{QualName}
@@ -8,7 +9,8 @@ use Rattle.markup.specs.declared.quirks.QuirksMode.{QuirksMode}
 
 -- two texts put at one place, one after the other, are as one
 abbrev pub AreTextsJoined : Type 0
-AreTextsJoined = (f : Forest) (place : Place) (a b : List ℕ) → IsForest f → IsPlace f place → put_text (put_text f place a) place b ≡ put_text f place (a ++ b)
+AreTextsJoined = (f : Forest) (place : Place) (a b : List ℕ) → IsForest f → IsPlace f place
+    → put_text (put_text f place a) place b ≡ put_text f place (a ++ b)
 
 -- a forest with another number of errors
 abbrev pub with_errors : ℕ → Forest → Forest
@@ -20,7 +22,8 @@ LeavesErrors change = (f : Forest) → (change f).errors ≡ f.errors × ((n : �
 
 -- which is so of every change but that of an error
 pub record AreErrorsApart : Type 0 where
-  pub created : (name : QualName) (attributes : List Attribute) (flags : ElementFlags) → LeavesErrors (λ f. create_element f name attributes flags)
+  pub created : (name : QualName) (attributes : List Attribute) (flags : ElementFlags)
+      → LeavesErrors (λ f. create_element f name attributes flags)
   pub made : (about : NodeData) → LeavesErrors (λ f. with_node f about)
   pub put : (place : Place) (child : ℕ) → LeavesErrors (λ f. put f place child)
   pub put_new : (place : Place) (about : NodeData) → LeavesErrors (λ f. put_new f place about)

@@ -28,7 +28,8 @@ pub record Entry : Type 0 where
 abbrev pub void_names : List (List ℕ)
 void_names =
     codes "area" ∷ codes "base" ∷ codes "basefont" ∷ codes "bgsound" ∷ codes "br" ∷ codes "col" ∷ codes "embed" ∷ codes "frame" ∷ codes "hr"
-    ∷ codes "img" ∷ codes "input" ∷ codes "keygen" ∷ codes "link" ∷ codes "meta" ∷ codes "param" ∷ codes "source" ∷ codes "track" ∷ codes "wbr" ∷ []
+    ∷ codes "img" ∷ codes "input" ∷ codes "keygen" ∷ codes "link" ∷ codes "meta" ∷ codes "param" ∷ codes "source" ∷
+    codes "track" ∷ codes "wbr" ∷ []
 
 -- elements whose text is written as it is, whether scripts run or not
 abbrev pub raw_names : List (List ℕ)
@@ -96,7 +97,8 @@ node_before (forest.NodeData.Doctype name public_id system_id) inner rest = Doct
 node_before (forest.NodeData.Text text) inner rest = Text text rest
 node_before (forest.NodeData.Comment text) inner rest = Comment text rest
 node_before (forest.NodeData.ProcessingInstruction target text) inner rest = ProcessingInstruction target text rest
-node_before (forest.NodeData.Element name attributes template integration_point) inner rest = Element name attributes template (inner Nothing) rest
+node_before (forest.NodeData.Element name attributes template integration_point) inner rest =
+    Element name attributes template (inner Nothing) rest
 
 abbrev pub nodes_before : (List ℕ → Trees → Trees) → Forest → List ℕ → Trees → Trees
 nodes_before inner f [] rest = rest

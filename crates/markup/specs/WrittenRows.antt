@@ -8,7 +8,8 @@ use Rattle.markup.specs.Forest as forest
 use Rattle.markup.specs.Forest.{Forest, create_element, empty_forest, put, put_new, put_text}
 use Rattle.markup.specs.Forest.Place.{Last}
 use Rattle.markup.specs.Namespaces.{name_of}
-use Rattle.markup.specs.Trees.{Trees, Nothing, Text, Comment, ProcessingInstruction, Doctype, Element, default_entry, first_entry, inner_of, raw_names, trees_of, void_names, written}
+use Rattle.markup.specs.Trees.{Trees, Nothing, Text, Comment, ProcessingInstruction, Doctype, Element, default_entry}
+use Rattle.markup.specs.Trees.{first_entry, inner_of, raw_names, trees_of, void_names, written}
 use Rattle.markup.specs.declared.attributes.Attribute.{Attribute}
 use Rattle.markup.specs.declared.flags.ElementFlags.{ElementFlags}
 use Rattle.markup.specs.declared.names.QualName.{QualName}
@@ -55,36 +56,53 @@ escape_rows =
 abbrev prefix_rows : Rows
 prefix_rows =
     row (start_tag (codes "a") []) "<a>"
-    ∷ row (start_tag (codes "a") (with_value (named NoNamespace (codes "x")) (codes "1") ∷ with_value (named NoNamespace (codes "y")) [] ∷ [])) "<a x=\"1\" y=\"\">"
+    ∷ row (start_tag (codes "a") (with_value (named NoNamespace (codes "x")) (codes "1") ∷
+    with_value (named NoNamespace (codes "y")) [] ∷ [])) "<a x=\"1\" y=\"\">"
     ∷ row (start_tag (codes "a") (with_value (named Xml (codes "lang")) (codes "de") ∷ [])) "<a xml:lang=\"de\">"
     ∷ row (start_tag (codes "a") (with_value (named Xmlns (codes "xmlns")) (codes "u") ∷ [])) "<a xmlns=\"u\">"
     ∷ row (start_tag (codes "a") (with_value (named Xmlns (codes "xlink")) (codes "u") ∷ [])) "<a xmlns:xlink=\"u\">"
     ∷ row (start_tag (codes "a") (with_value (named XLink (codes "href")) (codes "u") ∷ [])) "<a xlink:href=\"u\">"
-    ∷ row (start_tag (codes "a") (with_value (named Html (codes "x")) (codes "1") ∷ with_value (named MathMl (codes "y")) (codes "2") ∷ with_value (named Svg (codes "z")) (codes "3") ∷ [])) "<a unknown_namespace:x=\"1\" unknown_namespace:y=\"2\" unknown_namespace:z=\"3\">"
-    ∷ row (start_tag (codes "a") (with_value (record { prefix = Some (codes "p"); ns = codes "u"; local = codes "x" }) (codes "1") ∷ [])) "<a unknown_namespace:x=\"1\">"
+    ∷ row (start_tag (codes "a") (with_value (named Html (codes "x")) (codes "1") ∷
+    with_value (named MathMl (codes "y")) (codes "2") ∷ with_value (named Svg (codes "z")) (codes "3") ∷
+    [])) "<a unknown_namespace:x=\"1\" unknown_namespace:y=\"2\" unknown_namespace:z=\"3\">"
+    ∷ row (start_tag (codes "a")
+    (with_value (record { prefix = Some (codes "p"); ns = codes "u"; local = codes "x" }) (codes "1") ∷ []))
+    "<a unknown_namespace:x=\"1\">"
     ∷ []
 
 -- each void element: no end tag, and no elements in it, but text and comments
 abbrev void_row : List ℕ → List ℕ × List ℕ
-void_row local =
-    (page (Element (named Html local) [] false (Text (codes "<") (html "b" (Comment (codes "c") Nothing) Nothing)) (text "z")), codes "<" ++ (local ++ codes ">&lt;<!--c-->z"))
+void_row local = (
+  page (Element (named Html local) [] false (Text (codes "<") (html "b" (Comment (codes "c") Nothing) Nothing))
+      (text "z")),
+  codes "<" ++ (local ++ codes ">&lt;<!--c-->z"),
+)
 
 -- each element whose text is written as it is, but not the text of elements in it
 abbrev raw_row : List ℕ → List ℕ × List ℕ
-raw_row local =
-    (page (Element (named Html local) [] false (Text (codes "a<b") (html "b" (text "<") Nothing)) (text "<")), codes "<" ++ (local ++ (codes ">a<b<b>&lt;</b></" ++ (local ++ codes ">&lt;"))))
+raw_row local = (
+  page (Element (named Html local) [] false (Text (codes "a<b") (html "b" (text "<") Nothing)) (text "<")),
+  codes "<" ++ (local ++ (codes ">a<b<b>&lt;</b></" ++ (local ++ codes ">&lt;"))),
+)
 
 -- each kind of node, each namespace of an element
 abbrev node_rows : Rows
 node_rows =
     row (page Nothing) ""
-    ∷ row (page (Doctype (codes "html") (codes "p") (codes "s") (html "html" (html "head" Nothing (html "body" (text "a") Nothing)) Nothing))) "<!DOCTYPE html><html><head></head><body>a</body></html>"
+    ∷ row (page (Doctype (codes "html") (codes "p") (codes "s")
+    (html "html" (html "head" Nothing (html "body" (text "a") Nothing)) Nothing)))
+    "<!DOCTYPE html><html><head></head><body>a</body></html>"
     ∷ row (page (Comment (codes "a<b") (text "<"))) "<!--a<b-->&lt;"
     ∷ row (page (ProcessingInstruction (codes "a") (codes "b<") (text "c"))) "<?a b<>c"
-    ∷ row (page (Element (named Html (codes "a")) (with_value (named NoNamespace (codes "x")) (codes "a\"<>&" ++ 0xA0 ∷ []) ∷ with_value (named XLink (codes "href")) (codes "u") ∷ []) false (text "\"") Nothing)) "<a x=\"a&quot;&lt;&gt;&amp;&nbsp;\" xlink:href=\"u\">\"</a>"
-    ∷ row (page (Element (record { prefix = Some (codes "p"); ns = name_of Svg; local = codes "svg" }) [] false (text "<") Nothing)) "<svg>&lt;</svg>"
+    ∷ row (page (Element (named Html (codes "a"))
+    (with_value (named NoNamespace (codes "x")) (codes "a\"<>&" ++ 0xA0 ∷ []) ∷
+    with_value (named XLink (codes "href")) (codes "u") ∷ []) false (text "\"") Nothing))
+    "<a x=\"a&quot;&lt;&gt;&amp;&nbsp;\" xlink:href=\"u\">\"</a>"
+    ∷ row (page (Element (record { prefix = Some (codes "p"); ns = name_of Svg; local = codes "svg" }) [] false
+    (text "<") Nothing)) "<svg>&lt;</svg>"
     -- names that are void or raw are so in HTML alone
-    ∷ row (page (Element (named Svg (codes "br")) [] false (html "b" Nothing Nothing) (Element (named Svg (codes "style")) [] false (text "<") Nothing))) "<br><b></b></br><style>&lt;</style>"
+    ∷ row (page (Element (named Svg (codes "br")) [] false (html "b" Nothing Nothing)
+    (Element (named Svg (codes "style")) [] false (text "<") Nothing))) "<br><b></b></br><style>&lt;</style>"
     ∷ row (page (html "noscript" (text "<") Nothing)) "<noscript><</noscript>"
     ∷ row (written false default_entry (html "noscript" (text "<") Nothing)) "<noscript>&lt;</noscript>"
     -- what stands under an element that ignores its children ignores too
@@ -97,7 +115,8 @@ node_rows =
     ∷ row (written true (first_entry true None) (text "<")) "&lt;"
     ∷ []
 
--- a forest: a doctype, an element 2 with a text, a comment and a template 5, whose contents 6 have an element 7 with a processing instruction, and an element 9 in the template itself
+-- a forest: a doctype, an element 2 with a text, a comment and a template 5, whose contents 6 have an element 7 with a processing
+-- instruction, and an element 9 in the template itself
 abbrev no_flags : ElementFlags
 no_flags = record { template = false; mathml_annotation_xml_integration_point = false; had_duplicate_attributes = false }
 

@@ -245,7 +245,8 @@ impl Hash for LocalName {
     }
 }
 
-/// The name of a namespace, as `http://www.w3.org/1999/xhtml`; the empty text where there is none. A contract sees the list of its characters.
+/// The name of a namespace, as `http://www.w3.org/1999/xhtml`; the empty text where there is none. A contract sees the list of its
+/// characters.
 #[derive(Drop)]
 pub struct Namespace {
     form: KnownForm,

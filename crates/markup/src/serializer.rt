@@ -131,7 +131,8 @@ pub trait Serializer {
         target: &str,
         contents: &str,
     ) -> Result<(), SerializeFault>
-        ensures answers { Answers step refuses (view self.old) (WriteProcessingInstruction (chars target.now) (chars contents.now)) result (view self.new) }
+        ensures answers { Answers step refuses (view self.old)
+            (WriteProcessingInstruction (chars target.now) (chars contents.now)) result (view self.new) }
         ensures same_references { references self.new ≡ references self.old };
 }
 

@@ -1,9 +1,12 @@
-//! Laws of trees, over any sink: what its calls keep, as contracts of functions that make one call. What the call does stands beside what it keeps, in the words of [`TreeSink`].
+//! Laws of trees, over any sink: what its calls keep, as contracts of functions that make one call. What the call does stands beside what
+//! it keeps, in the words of [`TreeSink`].
 ghost use Rattle.std.specs.Prelude.{◌≡◌, ◌≤◌, ℕ, IfErr, IfOk, IsSome, OnErr, OnOk, Some, true, codes};
 ghost use Rattle.markup.specs.declared.fault.ParseFault.TheVariants.{Memory};
 ghost use Rattle.markup.specs.Names.{is_html_name};
 ghost use Rattle.markup.specs.Named.{IsTree};
-ghost use Rattle.markup.specs.Forest.{Above, IsNode, IsParent, MayPut, above_of, add_attributes, add_error, children_of, create_element, is_among, node_count, parent_of, place_before, place_near, put_child, put_new, remove, reparent_children, set_quirks, with_node};
+ghost use Rattle.markup.specs.Forest.{Above, IsNode, IsParent, MayPut, above_of, add_attributes, add_error, children_of};
+ghost use Rattle.markup.specs.Forest.{create_element, is_among, node_count, parent_of, place_before, place_near, put_child};
+ghost use Rattle.markup.specs.Forest.{put_new, remove, reparent_children, set_quirks, with_node};
 ghost use Rattle.markup.specs.Forest.NodeData.{Comment, Doctype, ProcessingInstruction};
 ghost use Rattle.markup.specs.Forest.Place.{Last};
 ghost use Rattle.markup.specs.TreeLaws.{AreErrorsApart, AreTextsJoined};
@@ -44,12 +47,14 @@ pub fn same_node_is_transitive<S: TreeSink>(
     !(sink.same_node(a, b) && sink.same_node(b, c)) || sink.same_node(a, c)
 }
 
-/// What a sink has built is a tree: each node has at most one parent, and none stands above itself, where a template stands above its contents.
+/// What a sink has built is a tree: each node has at most one parent, and none stands above itself, where a template stands above its
+/// contents.
 pub fn document_of_tree<S: TreeSink>(sink: &mut S) -> S::Handle
     ensures document { S.node result ≡ 0 }
     ensures same { S.forest sink.new ≡ S.forest sink.old }
     ensures tree { IsTree (S.forest sink.new) }
-    ensures one_parent { (p q n : ℕ) → is_among n (children_of (S.forest sink.new) p) ≡ true → is_among n (children_of (S.forest sink.new) q) ≡ true → p ≡ q }
+    ensures one_parent { (p q n : ℕ) → is_among n (children_of (S.forest sink.new) p) ≡ true
+        → is_among n (children_of (S.forest sink.new) q) ≡ true → p ≡ q }
     ensures no_cycle { (n m : ℕ) → above_of (S.forest sink.new) n ≡ Some m → Above (S.forest sink.new) n m → ⊥ }
 {
     sink.get_document()
@@ -139,8 +144,10 @@ pub fn append_before_sibling_keeps_tree<S: TreeSink>(
 ) -> Result<(), ParseFault>
     requires tree { IsTree (S.forest sink.old) }
     requires sibling { IsSome (parent_of (S.forest sink.old) (S.node sibling.now)) }
-    requires child { MayPut S.node (S.forest sink.old) (place_before (S.node sibling.now) (parent_of (S.forest sink.old) (S.node sibling.now))) child }
-    ensures ok { OnOk result (S.forest sink.new ≡ put_child S.node (S.forest sink.old) (place_before (S.node sibling.now) (parent_of (S.forest sink.old) (S.node sibling.now))) child) }
+    requires child { MayPut S.node (S.forest sink.old)
+        (place_before (S.node sibling.now) (parent_of (S.forest sink.old) (S.node sibling.now))) child }
+    ensures ok { OnOk result (S.forest sink.new ≡ put_child S.node (S.forest sink.old)
+        (place_before (S.node sibling.now) (parent_of (S.forest sink.old) (S.node sibling.now))) child) }
     ensures err { OnErr result (S.forest sink.new ≡ S.forest sink.old) }
     ensures fault { IfErr result (λ fault. fault ≡ Memory) }
     ensures grows { node_count (S.forest sink.old) ≤ node_count (S.forest sink.new) }
@@ -159,8 +166,10 @@ pub fn append_based_on_parent_node_keeps_tree<S: TreeSink>(
     requires tree { IsTree (S.forest sink.old) }
     requires element { IsNode (S.forest sink.old) (S.node element.now) }
     requires previous { IsParent (S.forest sink.old) (S.node previous.now) }
-    requires child { MayPut S.node (S.forest sink.old) (place_near (S.node element.now) (S.node previous.now) (parent_of (S.forest sink.old) (S.node element.now))) child }
-    ensures ok { OnOk result (S.forest sink.new ≡ put_child S.node (S.forest sink.old) (place_near (S.node element.now) (S.node previous.now) (parent_of (S.forest sink.old) (S.node element.now))) child) }
+    requires child { MayPut S.node (S.forest sink.old)
+        (place_near (S.node element.now) (S.node previous.now) (parent_of (S.forest sink.old) (S.node element.now))) child }
+    ensures ok { OnOk result (S.forest sink.new ≡ put_child S.node (S.forest sink.old)
+        (place_near (S.node element.now) (S.node previous.now) (parent_of (S.forest sink.old) (S.node element.now))) child) }
     ensures err { OnErr result (S.forest sink.new ≡ S.forest sink.old) }
     ensures fault { IfErr result (λ fault. fault ≡ Memory) }
     ensures grows { node_count (S.forest sink.old) ≤ node_count (S.forest sink.new) }
@@ -230,7 +239,8 @@ pub fn reparent_children_keeps_tree<S: TreeSink>(
     requires tree { IsTree (S.forest sink.old) }
     requires from { IsNode (S.forest sink.old) (S.node from.now) }
     requires to { IsParent (S.forest sink.old) (S.node to.now) }
-    requires apart { (child : ℕ) → is_among child (children_of (S.forest sink.old) (S.node from.now)) ≡ true → Above (S.forest sink.old) child (S.node to.now) → ⊥ }
+    requires apart { (child : ℕ) → is_among child (children_of (S.forest sink.old) (S.node from.now)) ≡ true
+        → Above (S.forest sink.old) child (S.node to.now) → ⊥ }
     ensures ok { OnOk result (S.forest sink.new ≡ reparent_children (S.forest sink.old) (S.node from.now) (S.node to.now)) }
     ensures err { OnErr result (S.forest sink.new ≡ S.forest sink.old) }
     ensures fault { IfErr result (λ fault. fault ≡ Memory) }

@@ -12,8 +12,8 @@ use crate::quirks::QuirksMode;
 use crate::text::Text;
 use std::borrow::CowStr;
 
-/// Who builds the tree that a parser tells. Each call is a function of the tree so far: nodes are named by handles, and a contract sees the number of the node that a handle names,
-/// counted in the order in which nodes were made, from the document, which is 0.
+/// Who builds the tree that a parser tells. Each call is a function of the tree so far: nodes are named by handles, and a contract sees
+/// the number of the node that a handle names, counted in the order in which nodes were made, from the document, which is 0.
 ///
 /// The only fault of a call is [`ParseFault::Memory`], and the tree is then as it was. What a refused call took by value is dropped.
 pub trait TreeSink {
@@ -21,7 +21,10 @@ pub trait TreeSink {
     ghost use Rattle.markup.specs.declared.attributes.Attribute.{Attribute};
     ghost use Rattle.markup.specs.Names.{html_name, is_html_name};
     ghost use Rattle.markup.specs.Named.{HasContents, is_named};
-    ghost use Rattle.markup.specs.Forest.{Forest, IsForest, IsNode, IsParent, MayPut, add_attributes, add_error, children_of, create_element, data_of, element_name, is_among, Above, node_count, parent_of, place_before, place_near, put_child, put_new, remove, reparent_children, set_quirks, with_node};
+    ghost use Rattle.markup.specs.Forest.{Forest, IsForest, IsNode, IsParent, MayPut, add_attributes, add_error, children_of};
+    ghost use Rattle.markup.specs.Forest.{create_element, data_of, element_name, is_among, Above, node_count, parent_of};
+    ghost use Rattle.markup.specs.Forest.{place_before, place_near, put_child, put_new, remove, reparent_children, set_quirks};
+    ghost use Rattle.markup.specs.Forest.{with_node};
     ghost use Rattle.markup.specs.Forest.NodeData.{Comment, Doctype, ProcessingInstruction};
     ghost use Rattle.markup.specs.Forest.Place.{Last};
     ghost use Rattle.markup.specs.TreeLaws.{with_errors};
@@ -41,8 +44,8 @@ pub trait TreeSink {
     /// What the end makes of the sink.
     ghost finish_gives: { Self → Self.Output → Type 0 };
 
-    /// At which elements of MathML, named `annotation-xml`, the sink says that HTML may stand in them. No such answer looks at the number of
-    /// errors.
+    /// At which elements of MathML, named `annotation-xml`, the sink says that HTML may stand in them. No such answer looks at the number
+    /// of errors.
     ghost integration_point: { Forest → ℕ → Bool } = { λ f n. false };
 
     /// In which documents a `template` may become a shadow root.
@@ -144,8 +147,10 @@ pub trait TreeSink {
         child: NodeOrText<Self::Handle>,
     ) -> Result<(), ParseFault>
         requires sibling { IsSome (parent_of (forest self.old) (node sibling.now)) }
-        requires child { MayPut node (forest self.old) (place_before (node sibling.now) (parent_of (forest self.old) (node sibling.now))) child }
-        ensures ok { OnOk result (forest self.new ≡ put_child node (forest self.old) (place_before (node sibling.now) (parent_of (forest self.old) (node sibling.now))) child) }
+        requires child { MayPut node (forest self.old)
+            (place_before (node sibling.now) (parent_of (forest self.old) (node sibling.now))) child }
+        ensures ok { OnOk result (forest self.new ≡ put_child node (forest self.old)
+            (place_before (node sibling.now) (parent_of (forest self.old) (node sibling.now))) child) }
         ensures err { OnErr result (forest self.new ≡ forest self.old) }
         ensures fault { IfErr result (λ fault. fault ≡ Memory) }
         ensures grows { node_count (forest self.old) ≤ node_count (forest self.new) };
@@ -159,8 +164,10 @@ pub trait TreeSink {
     ) -> Result<(), ParseFault>
         requires element { IsNode (forest self.old) (node element.now) }
         requires previous { IsParent (forest self.old) (node previous.now) }
-        requires child { MayPut node (forest self.old) (place_near (node element.now) (node previous.now) (parent_of (forest self.old) (node element.now))) child }
-        ensures ok { OnOk result (forest self.new ≡ put_child node (forest self.old) (place_near (node element.now) (node previous.now) (parent_of (forest self.old) (node element.now))) child) }
+        requires child { MayPut node (forest self.old)
+            (place_near (node element.now) (node previous.now) (parent_of (forest self.old) (node element.now))) child }
+        ensures ok { OnOk result (forest self.new ≡ put_child node (forest self.old)
+            (place_near (node element.now) (node previous.now) (parent_of (forest self.old) (node element.now))) child) }
         ensures err { OnErr result (forest self.new ≡ forest self.old) }
         ensures fault { IfErr result (λ fault. fault ≡ Memory) }
         ensures grows { node_count (forest self.old) ≤ node_count (forest self.new) };
@@ -205,12 +212,14 @@ pub trait TreeSink {
     ) -> Result<(), ParseFault>
         requires from { IsNode (forest self.old) (node from.now) }
         requires to { IsParent (forest self.old) (node to.now) }
-        requires apart { (child : ℕ) → is_among child (children_of (forest self.old) (node from.now)) ≡ true → Above (forest self.old) child (node to.now) → ⊥ }
+        requires apart { (child : ℕ) → is_among child (children_of (forest self.old) (node from.now)) ≡ true
+            → Above (forest self.old) child (node to.now) → ⊥ }
         ensures ok { OnOk result (forest self.new ≡ reparent_children (forest self.old) (node from.now) (node to.now)) }
         ensures err { OnErr result (forest self.new ≡ forest self.old) }
         ensures fault { IfErr result (λ fault. fault ≡ Memory) };
 
-    /// Whether HTML may stand in an element, which is then MathML's `annotation-xml` (HTML Standard, section 13.2.6). Most sinks answer `false`.
+    /// Whether HTML may stand in an element, which is then MathML's `annotation-xml` (HTML Standard, section 13.2.6). Most sinks answer
+    /// `false`.
     fn is_mathml_annotation_xml_integration_point(&self, target: &Self::Handle) -> bool
         requires { IsNode (forest self.now) (node target.now) }
         ensures { result ≡ integration_point (with_errors 0 (forest self.now)) (node target.now) };
@@ -244,7 +253,8 @@ pub trait TreeSink {
         ensures { forest self.new ≡ forest self.old }
     {}
 
-    /// Told of a form's owner: of the element that belongs to `form`, and of the nodes that say where it was put. It does nothing by default.
+    /// Told of a form's owner: of the element that belongs to `form`, and of the nodes that say where it was put. It does nothing by
+    /// default.
     fn associate_with_form(
         &mut self,
         _target: &Self::Handle,

@@ -43,7 +43,8 @@ pub fn read_whole<S: Source>(alloc: Global, source: &mut S) -> Result<Vec<u8>, R
     ensures whole { IfOk result (λ v. S.left source.old ≡ prepend_known v.items (S.left source.new)) }
     ensures end { OnOk result (IsAtEnd (S.left source.new)) }
     ensures none_failed { OnOk result (S.failures source.new ≡ S.failures source.old) }
-    ensures read { IsErrOf result ReadFault.Read → (bytes : List ℕ) → S.left source.old ≡ Some bytes → length bytes < 2 ^ 64 - 1 → S.failures source.new ≡ count_after true (S.failures source.old) }
+    ensures read { IsErrOf result ReadFault.Read → (bytes : List ℕ) → S.left source.old ≡ Some bytes
+        → length bytes < 2 ^ 64 - 1 → S.failures source.new ≡ count_after true (S.failures source.old) }
 {
     let mut bytes = Vec::new(alloc);
     let mut buffer = [0; 4096];

@@ -7,6 +7,7 @@ returns-clause-answer c = record {
   answer = c.clean_document_by.result;
   is = c.number.ensures;
   says =
-      subst (λ (file : List ℕ). MeansCleaned IsCleanDocument file c.args.page.now c.args.output.now c.clean_document_by.new.output c.clean_document_by.new.report c.clean_document_by.result)
+      subst (λ (file : List ℕ). MeansCleaned IsCleanDocument file c.args.page.now c.args.output.now
+      c.clean_document_by.new.output c.clean_document_by.new.report c.clean_document_by.result)
       c.as_bytes.ensures.value c.clean_document_by.ensures.answer;
 }

@@ -7,6 +7,7 @@ returns-clause-answer c = record {
   answer = c.normalise_by.result;
   is = c.number.ensures;
   says =
-      subst (λ (file : List ℕ). MeansText IsNormalText file c.args.page.now c.args.output.now c.normalise_by.new.output c.normalise_by.new.report c.normalise_by.result)
+      subst (λ (file : List ℕ). MeansText IsNormalText file c.args.page.now c.args.output.now
+      c.normalise_by.new.output c.normalise_by.new.report c.normalise_by.result)
       c.as_bytes.ensures.value c.normalise_by.ensures.answer;
 }

@@ -51,7 +51,8 @@ const STRUCTURE: &[Row] = &[
     ),
     row!(StartTags(TagSet::Body), if Both(&SecondIsBody, &Not(&TemplateOpen)), [ParseError, FramesetNotOk, AddAttributesToBody], Done),
     row!(StartTags(TagSet::Body), [ParseError], Done),
-    row!(StartTags(TagSet::Frameset), if Both(&FramesetOk, &SecondIsBody), [ParseError, RemoveBody, InsertElement, SwitchTo(InsertionMode::InFrameset)], Done),
+    row!(StartTags(TagSet::Frameset), if Both(&FramesetOk, &SecondIsBody),
+        [ParseError, RemoveBody, InsertElement, SwitchTo(InsertionMode::InFrameset)], Done),
     row!(StartTags(TagSet::Frameset), [ParseError], Done),
     row!(EndOfFile, if HasTemplateModes, [Nothing], Using(InsertionMode::InTemplate)),
     row!(EndOfFile, [CheckBodyEnd], Done),
@@ -123,9 +124,11 @@ const BLOCKS: &[Row] = &[
     row!(EndTags(TagSet::BlockEnd), if TokenInScope(TagSet::DefaultScope), [ImpliedEndTags, CloseToken], Done),
     row!(EndTags(TagSet::BlockEnd), [ParseError], Done),
     // outside templates the form element pointer says which form ends
-    row!(EndTags(TagSet::Form), if Both(&Not(&TemplateOpen), &FormElemInScope), [ImpliedEndTags, When(Not(&FormElemIsCurrent), &ParseError), RemoveFormElem, ForgetFormElem], Done),
+    row!(EndTags(TagSet::Form), if Both(&Not(&TemplateOpen), &FormElemInScope),
+        [ImpliedEndTags, When(Not(&FormElemIsCurrent), &ParseError), RemoveFormElem, ForgetFormElem], Done),
     row!(EndTags(TagSet::Form), if Not(&TemplateOpen), [ForgetFormElem, ParseError], Done),
-    row!(EndTags(TagSet::Form), if InScope(TagSet::DefaultScope, TagSet::Form), [ImpliedEndTags, When(Not(&CurrentIs(TagSet::Form)), &ParseError), PopUntil(TagSet::Form)], Done),
+    row!(EndTags(TagSet::Form), if InScope(TagSet::DefaultScope, TagSet::Form),
+        [ImpliedEndTags, When(Not(&CurrentIs(TagSet::Form)), &ParseError), PopUntil(TagSet::Form)], Done),
     row!(EndTags(TagSet::Form), [ParseError], Done),
     row!(
         EndTags(TagSet::P),
@@ -142,7 +145,8 @@ const BLOCKS: &[Row] = &[
     row!(EndTags(TagSet::Li), [ParseError], Done),
     row!(EndTags(TagSet::DdDt), if TokenInScope(TagSet::DefaultScope), [ImpliedEndTagsExceptToken, CloseToken], Done),
     row!(EndTags(TagSet::DdDt), [ParseError], Done),
-    row!(EndTags(TagSet::HeadingTag), if InScope(TagSet::DefaultScope, TagSet::HeadingTag), [ImpliedEndTags, When(Not(&CurrentIsToken), &ParseError), PopUntil(TagSet::HeadingTag)], Done),
+    row!(EndTags(TagSet::HeadingTag), if InScope(TagSet::DefaultScope, TagSet::HeadingTag),
+        [ImpliedEndTags, When(Not(&CurrentIsToken), &ParseError), PopUntil(TagSet::HeadingTag)], Done),
     row!(EndTags(TagSet::HeadingTag), [ParseError], Done),
 ];
 
@@ -294,7 +298,8 @@ const FORMATTING: &[Row] = &[
         [InsertElement, SaveMode, SwitchTo(InsertionMode::Text)],
         RawText(RawKind::Rawtext)
     ),
-    row!(StartTags(TagSet::Noscript), if ScriptingEnabled, [InsertElement, SaveMode, SwitchTo(InsertionMode::Text)], RawText(RawKind::Rawtext)),
+    row!(StartTags(TagSet::Noscript), if ScriptingEnabled, [InsertElement, SaveMode, SwitchTo(InsertionMode::Text)],
+        RawText(RawKind::Rawtext)),
 ];
 
 const CONTENT: &[Row] = &[
@@ -305,7 +310,9 @@ const CONTENT: &[Row] = &[
         [Reconstruct, InsertElement, FramesetNotOk],
         Done
     ),
-    row!(StartTags(TagSet::Option), if InScope(TagSet::DefaultScope, TagSet::Select), [ImpliedEndTagsExcept(TagSet::Optgroup), When(InScope(TagSet::DefaultScope, TagSet::Option), &ParseError), Reconstruct, InsertElement], Done),
+    row!(StartTags(TagSet::Option), if InScope(TagSet::DefaultScope, TagSet::Select),
+        [ImpliedEndTagsExcept(TagSet::Optgroup), When(InScope(TagSet::DefaultScope, TagSet::Option), &ParseError),
+          Reconstruct, InsertElement], Done),
     row!(
         StartTags(TagSet::Option),
         [
@@ -315,7 +322,8 @@ const CONTENT: &[Row] = &[
         ],
         Done
     ),
-    row!(StartTags(TagSet::Optgroup), if InScope(TagSet::DefaultScope, TagSet::Select), [ImpliedEndTags, When(InScope(TagSet::DefaultScope, TagSet::OptionOptgroup), &ParseError), Reconstruct, InsertElement], Done),
+    row!(StartTags(TagSet::Optgroup), if InScope(TagSet::DefaultScope, TagSet::Select),
+        [ImpliedEndTags, When(InScope(TagSet::DefaultScope, TagSet::OptionOptgroup), &ParseError), Reconstruct, InsertElement], Done),
     row!(
         StartTags(TagSet::Optgroup),
         [
@@ -325,7 +333,8 @@ const CONTENT: &[Row] = &[
         ],
         Done
     ),
-    row!(StartTags(TagSet::RbRtc), if InScope(TagSet::DefaultScope, TagSet::Ruby), [ImpliedEndTags, When(Not(&CurrentIs(TagSet::Ruby)), &ParseError), InsertElement], Done),
+    row!(StartTags(TagSet::RbRtc), if InScope(TagSet::DefaultScope, TagSet::Ruby),
+        [ImpliedEndTags, When(Not(&CurrentIs(TagSet::Ruby)), &ParseError), InsertElement], Done),
     row!(
         StartTags(TagSet::RbRtc),
         [
@@ -334,7 +343,8 @@ const CONTENT: &[Row] = &[
         ],
         Done
     ),
-    row!(StartTags(TagSet::RpRt), if InScope(TagSet::DefaultScope, TagSet::Ruby), [ImpliedEndTagsExcept(TagSet::Rtc), When(Not(&CurrentIs(TagSet::RtcRuby)), &ParseError), InsertElement], Done),
+    row!(StartTags(TagSet::RpRt), if InScope(TagSet::DefaultScope, TagSet::Ruby),
+        [ImpliedEndTagsExcept(TagSet::Rtc), When(Not(&CurrentIs(TagSet::RtcRuby)), &ParseError), InsertElement], Done),
     row!(
         StartTags(TagSet::RpRt),
         [

@@ -11,11 +11,14 @@ use crate::table::{Row, row};
 use html_rules::{InsertionMode, TagSet};
 
 const IN_CAPTION: &[Row] = &[
-    row!(StartTags(TagSet::CaptionCloser), if InScope(TagSet::TableScope, TagSet::Caption), [ImpliedEndTags, Close(TagSet::Caption), ClearToMarker], Reprocess(InsertionMode::InTable)),
+    row!(StartTags(TagSet::CaptionCloser), if InScope(TagSet::TableScope, TagSet::Caption),
+        [ImpliedEndTags, Close(TagSet::Caption), ClearToMarker], Reprocess(InsertionMode::InTable)),
     row!(StartTags(TagSet::CaptionCloser), [ParseError], Done),
-    row!(EndTags(TagSet::Table), if InScope(TagSet::TableScope, TagSet::Caption), [ImpliedEndTags, Close(TagSet::Caption), ClearToMarker], Reprocess(InsertionMode::InTable)),
+    row!(EndTags(TagSet::Table), if InScope(TagSet::TableScope, TagSet::Caption),
+        [ImpliedEndTags, Close(TagSet::Caption), ClearToMarker], Reprocess(InsertionMode::InTable)),
     row!(EndTags(TagSet::Table), [ParseError], Done),
-    row!(EndTags(TagSet::Caption), if InScope(TagSet::TableScope, TagSet::Caption), [ImpliedEndTags, Close(TagSet::Caption), ClearToMarker, SwitchTo(InsertionMode::InTable)], Done),
+    row!(EndTags(TagSet::Caption), if InScope(TagSet::TableScope, TagSet::Caption),
+        [ImpliedEndTags, Close(TagSet::Caption), ClearToMarker, SwitchTo(InsertionMode::InTable)], Done),
     row!(EndTags(TagSet::Caption), [ParseError], Done),
     row!(EndTags(TagSet::InCaptionIgnoredEnd), [ParseError], Done),
     row!(AnythingElse, [Nothing], Using(InsertionMode::InBody)),

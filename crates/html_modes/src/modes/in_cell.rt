@@ -13,12 +13,15 @@ use crate::table::{Row, row};
 use html_rules::{InsertionMode, TagSet};
 
 const IN_CELL: &[Row] = &[
-    row!(EndTags(TagSet::TdTh), if TokenInScope(TagSet::TableScope), [ImpliedEndTags, CloseToken, ClearToMarker, SwitchTo(InsertionMode::InRow)], Done),
+    row!(EndTags(TagSet::TdTh), if TokenInScope(TagSet::TableScope),
+        [ImpliedEndTags, CloseToken, ClearToMarker, SwitchTo(InsertionMode::InRow)], Done),
     row!(EndTags(TagSet::TdTh), [ParseError], Done),
-    row!(StartTags(TagSet::CaptionCloser), if InScope(TagSet::TableScope, TagSet::TdTh), [ImpliedEndTags, Close(TagSet::TdTh), ClearToMarker], Reprocess(InsertionMode::InRow)),
+    row!(StartTags(TagSet::CaptionCloser), if InScope(TagSet::TableScope, TagSet::TdTh),
+        [ImpliedEndTags, Close(TagSet::TdTh), ClearToMarker], Reprocess(InsertionMode::InRow)),
     row!(StartTags(TagSet::CaptionCloser), [ParseError], Done),
     row!(EndTags(TagSet::InCellIgnoredEnd), [ParseError], Done),
-    row!(EndTags(TagSet::CellCloserEnd), if TokenInScope(TagSet::TableScope), [ImpliedEndTags, Close(TagSet::TdTh), ClearToMarker], Reprocess(InsertionMode::InRow)),
+    row!(EndTags(TagSet::CellCloserEnd), if TokenInScope(TagSet::TableScope),
+        [ImpliedEndTags, Close(TagSet::TdTh), ClearToMarker], Reprocess(InsertionMode::InRow)),
     row!(EndTags(TagSet::CellCloserEnd), [ParseError], Done),
     row!(AnythingElse, [Nothing], Using(InsertionMode::InBody)),
 ];

@@ -38,7 +38,8 @@ const IN_HEAD: &[Row] = &[
         [InsertElement, SaveMode, SwitchTo(InsertionMode::Text)],
         RawText(RawKind::Rawtext)
     ),
-    row!(StartTags(TagSet::Noscript), if ScriptingEnabled, [InsertElement, SaveMode, SwitchTo(InsertionMode::Text)], RawText(RawKind::Rawtext)),
+    row!(StartTags(TagSet::Noscript), if ScriptingEnabled, [InsertElement, SaveMode, SwitchTo(InsertionMode::Text)],
+        RawText(RawKind::Rawtext)),
     row!(
         StartTags(TagSet::Noscript),
         [InsertElement, SwitchTo(InsertionMode::InHeadNoscript)],
@@ -70,7 +71,8 @@ const IN_HEAD: &[Row] = &[
         ],
         Done
     ),
-    row!(EndTags(TagSet::Template), if TemplateOpen, [ImpliedEndTagsThoroughly, Close(TagSet::Template), ClearToMarker, PopTemplateMode, ResetMode], Done),
+    row!(EndTags(TagSet::Template), if TemplateOpen,
+        [ImpliedEndTagsThoroughly, Close(TagSet::Template), ClearToMarker, PopTemplateMode, ResetMode], Done),
     row!(EndTags(TagSet::Template), [ParseError], Done),
     row!(StartTags(TagSet::Head), [ParseError], Done),
     row!(AnyEndTag, [ParseError], Done),

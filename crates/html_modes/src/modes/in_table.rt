@@ -71,7 +71,8 @@ const IN_TABLE: &[Row] = &[
         [ClearBackTo(TagSet::TableScope), InsertNew(Implied::Tbody)],
         Reprocess(InsertionMode::InTableBody)
     ),
-    row!(StartTags(TagSet::Table), if InScope(TagSet::TableScope, TagSet::Table), [ParseError, PopUntil(TagSet::Table), ResetMode], ReprocessInMode),
+    row!(StartTags(TagSet::Table), if InScope(TagSet::TableScope, TagSet::Table),
+        [ParseError, PopUntil(TagSet::Table), ResetMode], ReprocessInMode),
     row!(StartTags(TagSet::Table), [ParseError], Done),
     row!(EndTags(TagSet::Table), if InScope(TagSet::TableScope, TagSet::Table), [PopUntil(TagSet::Table), ResetMode], Done),
     row!(EndTags(TagSet::Table), [ParseError], Done),

@@ -25,7 +25,8 @@ const ROWS: &[Row] = &[
     ),
     // "after body": else
     ("</body><", "<html><head></head><body>&lt;</body></html>"),
-    // "after body": end of input; "after head": </body html br>; "before head": </head body html br>; "before html": </head body html br>; "in body": </body>; "in head": </body html br>
+    // "after body": end of input; "after head": </body html br>; "before head": </head body html br>; "before html": </head body html
+    // br>; "in body": </body>; "in head": </body html br>
     ("</body>", "<html><head></head><body></body></html>"),
     // "after body": space
     ("</body> ", "<html><head></head><body> </body></html>"),

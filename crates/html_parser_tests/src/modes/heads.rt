@@ -35,7 +35,8 @@ const ROWS: &[Row] = &[
         "</head><!",
         "<html><head></head><!----><body></body></html>",
     ),
-    // "after head": else; "before head": else; "before html": else; "in body": end of input; "in head": else; "initial": else; the appropriate place: end; tokens: end of input
+    // "after head": else; "before head": else; "before html": else; "in body": end of input; "in head": else; "initial": else; the
+    // appropriate place: end; tokens: end of input
     ("", "<html><head></head><body></body></html>"),
     // "after head": end
     ("</head></p>", "<html><head></head><body></body></html>"),

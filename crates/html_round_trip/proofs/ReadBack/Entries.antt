@@ -17,11 +17,13 @@ drops-none [] = refl
 drops-none (Marker ∷ es) = refl
 drops-none (Element n tag ∷ es) = inr (es, (refl, drops-none es))
 
-then-by : (n : ℕ) (tag : Tag) (es rest less : List Entry) → ((more : List Entry) → Drops rest more → Drops es more) → Drops (Element n tag ∷ rest) less → Drops (Element n tag ∷ es) less
+then-by : (n : ℕ) (tag : Tag) (es rest less : List Entry) → ((more : List Entry) → Drops rest more → Drops es more)
+    → Drops (Element n tag ∷ rest) less → Drops (Element n tag ∷ es) less
 then-by n tag es rest less go (inl d) = inl (go less d)
 then-by n tag es rest less go (inr d) = inr (d.0, (d.1.0, go d.0 d.1.1))
 
-then-kept : (n : ℕ) (tag : Tag) (es rest left less : List Entry) → left ≡ Element n tag ∷ rest → ((more : List Entry) → Drops rest more → Drops es more) → Drops left less → Drops (Element n tag ∷ es) less
+then-kept : (n : ℕ) (tag : Tag) (es rest left less : List Entry) → left ≡ Element n tag ∷ rest
+    → ((more : List Entry) → Drops rest more → Drops es more) → Drops left less → Drops (Element n tag ∷ es) less
 then-kept n tag es rest left less e go k = then-by n tag es rest less go (rw e at k)
 
 pub drops-then : (es left less : List Entry) → Drops es left → Drops left less → Drops es less
@@ -57,7 +59,8 @@ all-open_more m k stack [] are = tt
 all-open_more m k stack (Marker ∷ es) are = tt
 all-open_more m k stack (Element n tag ∷ es) are = (open-more n m k stack are.0, all-open_more m k stack es are.1)
 
-link-by : (b : Bool) (n : ℕ) (tag : Tag) (o : Option Listed) → is_some (choose b (λ _. Some (record { number = n; tag = tag })) (λ _. o)) ≡ false → (b ≡ false) × (is_some o ≡ false)
+link-by : (b : Bool) (n : ℕ) (tag : Tag) (o : Option Listed)
+    → is_some (choose b (λ _. Some (record { number = n; tag = tag })) (λ _. o)) ≡ false → (b ≡ false) × (is_some o ≡ false)
 link-by true n tag o h = absurd (cc)
 link-by false n tag o h = (refl, h)
 
@@ -79,7 +82,8 @@ none-listed n (Element m tag ∷ es) below =
     rw other (none-listed n es below.1)
 
 -- at most three equal entries stay
-earliest-by : (b : Bool) (n : ℕ) (tag : Tag) (es rest : List Entry) → Drops es rest → Drops (Element n tag ∷ es) (choose b (λ _. es) (λ _. Element n tag ∷ rest))
+earliest-by : (b : Bool) (n : ℕ) (tag : Tag) (es rest : List Entry) → Drops es rest → Drops (Element n tag ∷ es)
+    (choose b (λ _. es) (λ _. Element n tag ∷ rest))
 earliest-by true n tag es rest h = inl (drops-none es)
 earliest-by false n tag es rest h = inr (rest, (refl, h))
 

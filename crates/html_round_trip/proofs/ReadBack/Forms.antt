@@ -8,7 +8,8 @@ use Rattle.html_plain.specs.declared.elements.Format.{Format}
 use Rattle.html_plain.specs.declared.elements.Level.{Level}
 use Rattle.html_plain.specs.declared.elements.ListKind.{ListKind}
 use Rattle.html_plain.specs.declared.elements.PlainElement.{PlainElement}
-use Rattle.html_plain.specs.declared.elements.PlainElement.TheVariants.{Paragraph, Heading, Division, List as ListElement, Item, Table, TableBody, Row, Cell, Break, Formatted, Link}
+use Rattle.html_plain.specs.declared.elements.PlainElement.TheVariants.{Paragraph, Heading, Division, List as ListElement, Item}
+use Rattle.html_plain.specs.declared.elements.PlainElement.TheVariants.{Table, TableBody, Row, Cell, Break, Formatted, Link}
 use Rattle.html_plain.specs.declared.place.PlainPlace.{PlainPlace}
 use Rattle.html_plain.specs.declared.place.PlainPlace.TheVariants.{InBreak, InFlow, InLine, InList, InRow, InTable, InTableBody}
 use Rattle.html_round_trip.proofs.Planting.PlainTrees.{plain-plantable}
@@ -16,7 +17,8 @@ use Rattle.html_tokens.specs.Laws.{ReadsEscapes}
 use Rattle.html_tokens.specs.Table.{Row as TableRow}
 use Rattle.html_round_trip.specs.ReadBack.Forms.{AreBlocksRead, AreInlinesRead, AreTablesRead, AreTextsRead, IsFormRead}
 use Rattle.html_round_trip.proofs.ReadBack.Entries.{link-left}
-use Rattle.html_round_trip.proofs.ReadBack.Flow.{bare-no_link, block-law, break-law, format-law, heading-law, item-law, link-law, lists-formatted, takes-division, takes-list, text-flows}
+use Rattle.html_round_trip.proofs.ReadBack.Flow.{bare-no_link, block-law, break-law, format-law, heading-law, item-law}
+use Rattle.html_round_trip.proofs.ReadBack.Flow.{link-law, lists-formatted, takes-division, takes-list, text-flows}
 use Rattle.html_round_trip.proofs.ReadBack.Tables.{cell-law, row-law, table-law, table_body-law, text-part}
 use Rattle.html_round_trip.proofs.ReadBack.Texts.{white-not_null}
 
@@ -30,16 +32,20 @@ nothing-in_break b (Element name attributes template kids rest) h = absurd (let 
 
 module _ (rows : List TableRow) (reads : ReadsEscapes rows) where
   paragraph-form : IsFormRead rows InFlow Paragraph
-  paragraph-form sc o head attrs kids plain is law = block-law rows reads sc o head Paragraph refl refl refl attrs plain kids (plain-plantable (InLine false) false kids is) (InLine false) (λ b n stack takes. tt) bare-no_link law
+  paragraph-form sc o head attrs kids plain is law = block-law rows reads sc o head Paragraph refl refl refl attrs
+      plain kids (plain-plantable (InLine false) false kids is) (InLine false) (λ b n stack takes. tt) bare-no_link law
 
   heading-form : (level : Level) → IsFormRead rows InFlow (Heading level)
-  heading-form level sc o head attrs kids plain is law = heading-law rows reads sc o head level attrs plain kids (plain-plantable (InLine false) false kids is) law
+  heading-form level sc o head attrs kids plain is law = heading-law rows reads sc o head level attrs plain kids
+      (plain-plantable (InLine false) false kids is) law
 
   division-form : IsFormRead rows InFlow Division
-  division-form sc o head attrs kids plain is law = block-law rows reads sc o head Division refl refl refl attrs plain kids (plain-plantable InFlow false kids is) InFlow takes-division (λ es bare. bare) law
+  division-form sc o head attrs kids plain is law = block-law rows reads sc o head Division refl refl refl attrs
+      plain kids (plain-plantable InFlow false kids is) InFlow takes-division (λ es bare. bare) law
 
   list-form : (kind : ListKind) → IsFormRead rows InFlow (ListElement kind)
-  list-form kind sc o head attrs kids plain is law = block-law rows reads sc o head (ListElement kind) refl refl refl attrs plain kids (plain-plantable InList false kids is) InList (takes-list kind) (λ es bare. bare) law
+  list-form kind sc o head attrs kids plain is law = block-law rows reads sc o head (ListElement kind) refl refl
+      refl attrs plain kids (plain-plantable InList false kids is) InList (takes-list kind) (λ es bare. bare) law
 
   item-form : IsFormRead rows InList Item
   item-form sc o head attrs kids plain is law = item-law rows reads sc o head attrs plain kids (plain-plantable InFlow false kids is) law
@@ -51,48 +57,66 @@ module _ (rows : List TableRow) (reads : ReadsEscapes rows) where
   break-form sc o head attrs kids plain is law = break-law rows reads sc o head InFlow attrs plain kids (nothing-in_break false kids is)
 
   break-form_in_line : (in_link : Bool) → IsFormRead rows (InLine in_link) Break
-  break-form_in_line in_link sc o head attrs kids plain is law = break-law rows reads sc o head (InLine in_link) attrs plain kids (nothing-in_break false kids is)
+  break-form_in_line in_link sc o head attrs kids plain is law = break-law rows reads sc o head (InLine in_link)
+      attrs plain kids (nothing-in_break false kids is)
 
   format-form : (format : Format) → IsFormRead rows InFlow (Formatted format)
   format-form format sc o head attrs kids plain is law =
-      format-law rows reads sc o head (Formatted format) refl refl refl attrs plain kids (plain-plantable (InLine false) false kids is) InFlow false law
-      (λ m es room less bare. lists-formatted rows reads sc o head (Formatted format) refl attrs m room (link-left es room less (bare-no_link es bare)))
+      format-law rows reads sc o head (Formatted format) refl refl refl attrs plain kids
+      (plain-plantable (InLine false) false kids is) InFlow false law
+      (λ m es room less bare. lists-formatted rows reads sc o head (Formatted format) refl attrs m room
+      (link-left es room less (bare-no_link es bare)))
 
   format-form_in_line : (in_link : Bool) (format : Format) → IsFormRead rows (InLine in_link) (Formatted format)
   format-form_in_line true format sc o head attrs kids plain is law =
-      format-law rows reads sc o head (Formatted format) refl refl refl attrs plain kids (plain-plantable (InLine true) false kids is) (InLine true) true law (λ m es room less none. tt)
+      format-law rows reads sc o head (Formatted format) refl refl refl attrs plain kids
+      (plain-plantable (InLine true) false kids is) (InLine true) true law (λ m es room less none. tt)
   format-form_in_line false format sc o head attrs kids plain is law =
-      format-law rows reads sc o head (Formatted format) refl refl refl attrs plain kids (plain-plantable (InLine false) false kids is) (InLine false) false law
+      format-law rows reads sc o head (Formatted format) refl refl refl attrs plain kids
+      (plain-plantable (InLine false) false kids is) (InLine false) false law
       (λ m es room less none. lists-formatted rows reads sc o head (Formatted format) refl attrs m room (link-left es room less none))
 
   link-form : IsFormRead rows InFlow Link
-  link-form sc o head attrs kids plain is law = link-law rows reads sc o head attrs plain kids (plain-plantable (InLine true) false kids is) InFlow law bare-no_link
+  link-form sc o head attrs kids plain is law = link-law rows reads sc o head attrs plain kids
+      (plain-plantable (InLine true) false kids is) InFlow law bare-no_link
 
   link-form_in_line : IsFormRead rows (InLine false) Link
-  link-form_in_line sc o head attrs kids plain is law = link-law rows reads sc o head attrs plain kids (plain-plantable (InLine true) false kids is) (InLine false) law (λ es none. none)
+  link-form_in_line sc o head attrs kids plain is law = link-law rows reads sc o head attrs plain kids
+      (plain-plantable (InLine true) false kids is) (InLine false) law (λ es none. none)
 
   pub inlines-read : AreInlinesRead rows
-  inlines-read = record { break = break-form; break_in_line = break-form_in_line; format = format-form; format_in_line = format-form_in_line; link = link-form; link_in_line = link-form_in_line }
+  inlines-read = record {
+    break = break-form;
+    break_in_line = break-form_in_line;
+    format = format-form;
+    format_in_line = format-form_in_line;
+    link = link-form;
+    link_in_line = link-form_in_line;
+  }
 
   table-form : IsFormRead rows InFlow Table
   table-form sc o head attrs kids plain is law = table-law rows reads sc o head attrs plain kids (plain-plantable InTable false kids is) law
 
   table_body-form : IsFormRead rows InTable TableBody
-  table_body-form sc o head attrs kids plain is law = table_body-law rows reads sc o head attrs plain kids (plain-plantable InTableBody false kids is) law
+  table_body-form sc o head attrs kids plain is law = table_body-law rows reads sc o head attrs plain kids
+      (plain-plantable InTableBody false kids is) law
 
   row-form : IsFormRead rows InTableBody Row
   row-form sc o head attrs kids plain is law = row-law rows reads sc o head attrs plain kids (plain-plantable InRow false kids is) law
 
   cell-form : (kind : CellKind) → IsFormRead rows InRow (Cell kind)
-  cell-form kind sc o head attrs kids plain is law = cell-law rows reads sc o head kind attrs plain kids (plain-plantable InFlow false kids is) law
+  cell-form kind sc o head attrs kids plain is law = cell-law rows reads sc o head kind attrs plain kids
+      (plain-plantable InFlow false kids is) law
 
   pub tables-read : AreTablesRead rows
   tables-read = record { table = table-form; table_body = table_body-form; row = row-form; cell = cell-form }
 
   pub texts-read_there : AreTextsRead rows
   texts-read_there = record {
-    flow = λ o head place b n top os last f es ok text shown good fits. text-flows rows reads false o head place b n top os last f es ok text shown good fits;
-    part = λ o head part n os last f es ok waiting text good rooted white more. text-part rows reads false o head part n os last f es ok waiting text (white-not_null text more) good rooted white more;
+    flow = λ o head place b n top os last f es ok text shown good fits. text-flows rows reads false o head place b n
+        top os last f es ok text shown good fits;
+    part = λ o head part n os last f es ok waiting text good rooted white more. text-part rows reads false o head
+        part n os last f es ok waiting text (white-not_null text more) good rooted white more;
   }
 
   -- EACH ELEMENT WHERE IT MAY STAND

@@ -1,5 +1,6 @@
 -- A document's frame is read as it is: the doctype, `html`, `head` with white space and a title, white space, and `body`.
-use Rattle.std.proofs.Common.{◌≡◌, ◌∙◌, ℕ, Bool, true, false, List, [], ◌∷◌, ◌++◌, Option, Some, refl, sym, ap, append_assoc, append-nil, subst}
+use Rattle.std.proofs.Common.{◌≡◌, ◌∙◌, ℕ, Bool, true, false, List, [], ◌∷◌, ◌++◌, Option, Some, refl, sym, ap, append_assoc}
+use Rattle.std.proofs.Common.{append-nil, subst}
 use Rattle.std.specs.List.{list_all}
 use Rattle.markup.specs.Escape.{end_tag, escape, start_tag}
 use Rattle.markup.specs.Forest.{Forest, node_count, put_new, put_text}
@@ -40,7 +41,8 @@ use Rattle.html_round_trip.proofs.ReadBack.Tables.{space-of}
 use Rattle.html_round_trip.proofs.ReadBack.Taking.{IsReady, character-once, tag-once, tag-replied}
 use Rattle.html_round_trip.proofs.ReadBack.Texts.{every, text-reads, white-not_null}
 use Rattle.html_round_trip.proofs.ReadBack.Trees.{law}
-use Rattle.html_round_trip.proofs.ReadBack.Turns.Frame.{character-in_title, end-body, end-head, end-title, in_title, space-after_head, space-in_head, start-body, start-title}
+use Rattle.html_round_trip.proofs.ReadBack.Turns.Frame.{character-in_title, end-body, end-head, end-title, in_title}
+use Rattle.html_round_trip.proofs.ReadBack.Turns.Frame.{space-after_head, space-in_head, start-body, start-title}
 use Rattle.html_round_trip.proofs.ReadBack.Words.{appended}
 
 -- the text in a title
@@ -61,7 +63,12 @@ no-more (Element name attributes template kids rest) h = absurd (let no = h.1.2 
 pub title-text : (sc : Bool) (kids : Trees) → IsPlain InTitle false kids → TitleText sc kids
 unfolding written
 title-text sc Nothing h = record { text = []; shown = refl; is = refl; grows = λ n f. refl }
-title-text sc (Text text rest) h = rw (no-more rest h.3) record { text = text; shown = (texts-read text h.1).0; is = append-nil (escape text); grows = λ n f. refl }
+title-text sc (Text text rest) h = rw (no-more rest h.3) record {
+  text = text;
+  shown = (texts-read text h.1).0;
+  is = append-nil (escape text);
+  grows = λ n f. refl;
+}
 title-text sc (Comment text rest) h = absurd (let no = h.0 in cc)
 title-text sc (ProcessingInstruction target text rest) h = absurd h
 title-text sc (Doctype name public_id system_id rest) h = absurd (let no = h.0 in cc)
@@ -69,13 +76,18 @@ title-text sc (Element name attributes template kids rest) h = absurd (let no = 
 
 module _ (rows : List Row) (reads : ReadsEscapes rows) (sc : Bool) (o : Around) where
   -- a tag, as it is written
-  pub start-reads : (k : PlainElement) (attrs : List Attribute) → are_plain_attributes attrs ≡ true → (last : Option (List ℕ)) (s new : State) → TakesQuietly rows s (start_token (spelled k) attrs) new Continue
+  pub start-reads : (k : PlainElement) (attrs : List Attribute) → are_plain_attributes attrs ≡ true
+      → (last : Option (List ℕ)) (s new : State) → TakesQuietly rows s (start_token (spelled k) attrs) new Continue
       → Reads rows (in_data last) s (start_tag (spelled k) attrs) (in_data (Some (spelled k))) new
   start-reads k attrs plain last s new takes =
-      reads-one rows (in_data last) (in_data (Some (spelled k))) s new (start_tag (spelled k) attrs) (start_token (spelled k) attrs) Continue (start-spelled rows reads last (spelled k) attrs (names-of_tags k) (attributes-read attrs plain)) takes
+      reads-one rows (in_data last) (in_data (Some (spelled k))) s new (start_tag (spelled k) attrs)
+      (start_token (spelled k) attrs) Continue
+      (start-spelled rows reads last (spelled k) attrs (names-of_tags k) (attributes-read attrs plain)) takes
 
-  pub end-reads : (k : PlainElement) (last : Option (List ℕ)) (s new : State) → TakesQuietly rows s (end_token (spelled k)) new Continue → Reads rows (in_data last) s (end_tag (spelled k)) (in_data last) new
-  end-reads k last s new takes = reads-one rows (in_data last) (in_data last) s new (end_tag (spelled k)) (end_token (spelled k)) Continue (end-spelled rows last (spelled k) (names-of_tags k)) takes
+  pub end-reads : (k : PlainElement) (last : Option (List ℕ)) (s new : State) → TakesQuietly rows s
+      (end_token (spelled k)) new Continue → Reads rows (in_data last) s (end_tag (spelled k)) (in_data last) new
+  end-reads k last s new takes = reads-one rows (in_data last) (in_data last) s new (end_tag (spelled k))
+      (end_token (spelled k)) Continue (end-spelled rows last (spelled k) (names-of_tags k)) takes
 
   -- THE HEAD
 
@@ -87,20 +99,28 @@ module _ (rows : List Row) (reads : ReadsEscapes rows) (sc : Bool) (o : Around) 
     unfolding is_fit names_of
     ready-in_head f t silent = record { goes_on = refl; fit = refl; free = refl; keeps_lf = refl; silent = silent }
 
-    head-space : (f : Forest) (ok : Bool) (c : ℕ) → IsGood f m → is_white c ≡ true → TakesQuietly rows (in_head f) (CharacterTokens (c ∷ [])) (in_head (put_text f (Last m) (c ∷ []))) Continue
+    head-space : (f : Forest) (ok : Bool) (c : ℕ) → IsGood f m → is_white c ≡ true → TakesQuietly rows (in_head f)
+        (CharacterTokens (c ∷ [])) (in_head (put_text f (Last m) (c ∷ []))) Continue
     head-space f ok c good white =
         character-once rows _ _ c false (ready-in_head f _ good.silent)
-        (space-in_head o (Some hd) f n m c (space-of c white) ∙ ap (λ s. turn_of s (Finished false)) (appended o (Some hd) mode.InHead (c ∷ []) m Head f (opened n Html ∷ []) [] true)) (good-text f m (c ∷ []) good).silent
+        (space-in_head o (Some hd) f n m c (space-of c white) ∙ ap (λ s. turn_of s (Finished false))
+        (appended o (Some hd) mode.InHead (c ∷ []) m Head f (opened n Html ∷ []) [] true)) (good-text f m (c ∷ []) good).silent
 
-    pub head-text : (last : Option (List ℕ)) (cs : List ℕ) → list_all is_white cs ≡ true → (f : Forest) → IsGood f m → Reads rows (in_data last) (in_head f) (escape cs) (in_data last) (in_head (put_text f (Last m) cs))
-    head-text last cs white f good = text-reads rows reads InData last m (λ f ok. in_head f) (λ c ok. ok) is_white head-space cs (white-not_null cs white) white f true good
+    pub head-text : (last : Option (List ℕ)) (cs : List ℕ) → list_all is_white cs ≡ true → (f : Forest) → IsGood f m
+        → Reads rows (in_data last) (in_head f) (escape cs) (in_data last) (in_head (put_text f (Last m) cs))
+    head-text last cs white f good = text-reads rows reads InData last m (λ f ok. in_head f) (λ c ok. ok) is_white
+        head-space cs (white-not_null cs white) white f true good
 
-    behind-title : (trees : Trees) (after_text : Bool) → IsPlain AfterTitle after_text trees → (last : Option (List ℕ)) (f : Forest) → IsGood f m → Reads rows (in_data last) (in_head f) (text_of sc trees) (in_data last) (in_head (planted trees m f))
+    behind-title : (trees : Trees) (after_text : Bool) → IsPlain AfterTitle after_text trees
+        → (last : Option (List ℕ)) (f : Forest) → IsGood f m → Reads rows (in_data last) (in_head f)
+        (text_of sc trees) (in_data last) (in_head (planted trees m f))
     unfolding written
     behind-title Nothing after_text h last f good = runs.NoText
     behind-title (Text text rest) after_text h last f good =
         let g = put_text f (Last m) text in
-        reads-both rows (in_data last) (in_data last) (in_data last) (in_head f) (in_head g) (in_head (planted rest m g)) (escape text) (text_of sc rest) (head-text last text h.2 f good) (behind-title rest true h.3 last g (good-text f m text good))
+        reads-both rows (in_data last) (in_data last) (in_data last) (in_head f) (in_head g)
+        (in_head (planted rest m g)) (escape text) (text_of sc rest) (head-text last text h.2 f good)
+        (behind-title rest true h.3 last g (good-text f m text good))
     behind-title (Comment text rest) after_text h last f good = absurd (let no = h.0 in cc)
     behind-title (ProcessingInstruction target text rest) after_text h last f good = absurd h
     behind-title (Doctype name public_id system_id rest) after_text h last f good = absurd (let no = h.0 in cc)
@@ -112,18 +132,29 @@ module _ (rows : List Row) (reads : ReadsEscapes rows) (sc : Bool) (o : Around) 
       abbrev titled : Forest → State
       titled f = in_title o (Some hd) f (opened t Title ∷ opened m Head ∷ opened n Html ∷ [])
 
-      title-character : (f : Forest) (ok : Bool) (c : ℕ) → IsGood f t → true ≡ true → TakesQuietly rows (titled f) (CharacterTokens (c ∷ [])) (titled (put_text f (Last t) (c ∷ []))) Continue
+      title-character : (f : Forest) (ok : Bool) (c : ℕ) → IsGood f t → true ≡ true → TakesQuietly rows (titled f)
+          (CharacterTokens (c ∷ [])) (titled (put_text f (Last t) (c ∷ []))) Continue
       unfolding is_fit names_of
       title-character f ok c good any =
-          character-once rows _ _ c false (record { goes_on = refl; fit = refl; free = refl; keeps_lf = refl; silent = good.silent }) (character-in_title o (Some hd) f n m t c) (good-text f t (c ∷ []) good).silent
+          character-once rows _ _ c false (record {
+            goes_on = refl;
+            fit = refl;
+            free = refl;
+            keeps_lf = refl;
+            silent = good.silent;
+          }) (character-in_title o (Some hd) f n m t c) (good-text f t (c ∷ []) good).silent
 
       title-ends : (f : Forest) → f.errors ≡ 0 → TakesQuietly rows (titled f) (end_token (spelled Title)) (in_head f) Continue
       unfolding is_fit names_of
-      title-ends f silent = tag-once rows _ _ (named EndTag (spelled Title)) false (record { goes_on = refl; fit = refl; free = refl; keeps_lf = refl; silent = silent }) refl (end-title o (Some hd) f n m t) silent
+      title-ends f silent = tag-once rows _ _ (named EndTag (spelled Title)) false
+          (record { goes_on = refl; fit = refl; free = refl; keeps_lf = refl; silent = silent }) refl (end-title o (Some hd) f n m t) silent
 
-    pub title-reads : (attrs : List Attribute) → are_plain_attributes attrs ≡ true → (kids : Trees) → TitleText sc kids → (last : Option (List ℕ)) (f : Forest) → IsGood f m
+    pub title-reads : (attrs : List Attribute) → are_plain_attributes attrs ≡ true → (kids : Trees)
+        → TitleText sc kids → (last : Option (List ℕ)) (f : Forest) → IsGood f m
         → let g = put_new f (Last m) (element_node Title attrs) in
-        Reads rows (in_data last) (in_head f) (start_tag (spelled Title) attrs ++ (text_of sc kids ++ end_tag (spelled Title))) (in_data (Some (spelled Title))) (in_head (planted kids (node_count f) g))
+        Reads rows (in_data last) (in_head f)
+        (start_tag (spelled Title) attrs ++ (text_of sc kids ++ end_tag (spelled Title)))
+        (in_data (Some (spelled Title))) (in_head (planted kids (node_count f) g))
     title-reads attrs plain kids content last f good =
         let t = node_count f in
         let g = put_new f (Last m) (element_node Title attrs) in
@@ -132,13 +163,20 @@ module _ (rows : List Row) (reads : ReadsEscapes rows) (sc : Bool) (o : Around) 
         let text = content.text in
         let h = put_text g (Last t) text in
         let good_h = good-text g t text inner in
-        let opens = tag-replied rows (in_head f) (titled t g) (tag_of Title attrs) (RawData Rcdata) (ready-in_head f _ good.silent) (start-title o (Some hd) f n m attrs) good.silent (λ pauses. refl) in
+        let opens = tag-replied rows (in_head f) (titled t g) (tag_of Title attrs) (RawData Rcdata)
+        (ready-in_head f _ good.silent) (start-title o (Some hd) f n m attrs) good.silent (λ pauses. refl) in
         rw (content.is, content.grows)
-        (reads-both rows (in_data last) (in_rcdata (Some name)) (in_data (Some name)) (in_head f) (titled t g) (in_head h) (start_tag name attrs) (escape text ++ end_tag name)
-        (reads-one rows (in_data last) (in_data (Some name)) (in_head f) (titled t g) (start_tag name attrs) (start_token name attrs) (RawData Rcdata) (start-spelled rows reads last name attrs (names-of_tags Title) (attributes-read attrs plain)) opens)
-        (reads-both rows (in_rcdata (Some name)) (in_rcdata (Some name)) (in_data (Some name)) (titled t g) (titled t h) (in_head h) (escape text) (end_tag name)
-        (text-reads rows reads Escapable (Some name) t (λ f ok. titled t f) (λ c ok. ok) (λ c. true) (title-character t) text content.shown (every text) g true inner)
-        (reads-one rows (in_rcdata (Some name)) (in_data (Some name)) (titled t h) (in_head h) (end_tag name) (end_token name) Continue (fitting_end-spelled rows name refl) (title-ends t h good_h.silent))))
+        (reads-both rows (in_data last) (in_rcdata (Some name)) (in_data (Some name)) (in_head f) (titled t g)
+        (in_head h) (start_tag name attrs) (escape text ++ end_tag name)
+        (reads-one rows (in_data last) (in_data (Some name)) (in_head f) (titled t g) (start_tag name attrs)
+        (start_token name attrs) (RawData Rcdata)
+        (start-spelled rows reads last name attrs (names-of_tags Title) (attributes-read attrs plain)) opens)
+        (reads-both rows (in_rcdata (Some name)) (in_rcdata (Some name)) (in_data (Some name)) (titled t g)
+        (titled t h) (in_head h) (escape text) (end_tag name)
+        (text-reads rows reads Escapable (Some name) t (λ f ok. titled t f) (λ c ok. ok) (λ c. true)
+        (title-character t) text content.shown (every text) g true inner)
+        (reads-one rows (in_rcdata (Some name)) (in_data (Some name)) (titled t h) (in_head h) (end_tag name)
+        (end_token name) Continue (fitting_end-spelled rows name refl) (title-ends t h good_h.silent))))
 
     -- what a head is read to
     pub record HeadRead (last : Option (List ℕ)) (f : Forest) (text : List ℕ) (g : Forest) : Type 0 where
@@ -150,8 +188,10 @@ module _ (rows : List Row) (reads : ReadsEscapes rows) (sc : Bool) (o : Around) 
     title-only k h = absurd (cc)
 
     -- a title, and white space after it
-    title-first : (attrs : List Attribute) → are_plain_attributes attrs ≡ true → (kids rest : Trees) → IsPlain InTitle false kids → IsPlain AfterTitle false rest → (last : Option (List ℕ)) (f : Forest) → IsGood f m
-        → HeadRead last f (text_of sc (Element (html_name (spelled Title)) attrs false kids rest)) (planted (Element (html_name (spelled Title)) attrs false kids rest) m f)
+    title-first : (attrs : List Attribute) → are_plain_attributes attrs ≡ true → (kids rest : Trees)
+        → IsPlain InTitle false kids → IsPlain AfterTitle false rest → (last : Option (List ℕ)) (f : Forest) → IsGood f m
+        → HeadRead last f (text_of sc (Element (html_name (spelled Title)) attrs false kids rest))
+        (planted (Element (html_name (spelled Title)) attrs false kids rest) m f)
     title-first attrs plain kids rest within behind last f good =
         let t = node_count f in
         let g = put_new f (Last m) (element_node Title attrs) in
@@ -167,25 +207,35 @@ module _ (rows : List Row) (reads : ReadsEscapes rows) (sc : Bool) (o : Around) 
           left = Some (spelled Title);
           runs =
               rw (element-written Title refl sc attrs kids rest, shape)
-              (reads-both rows (in_data last) (in_data (Some (spelled Title))) (in_data (Some (spelled Title))) (in_head f) (in_head h) (in_head (planted rest m h)) (a ++ (b ++ c)) d
-              (title-reads attrs plain kids (title-text sc kids within) last f good) (behind-title rest false behind (Some (spelled Title)) h good_h));
+              (reads-both rows (in_data last) (in_data (Some (spelled Title))) (in_data (Some (spelled Title)))
+              (in_head f) (in_head h) (in_head (planted rest m h)) (a ++ (b ++ c)) d
+              (title-reads attrs plain kids (title-text sc kids within) last f good)
+              (behind-title rest false behind (Some (spelled Title)) h good_h));
         }
 
-    pub head-reads : (trees : Trees) (after_text : Bool) → IsPlain InHead after_text trees → (last : Option (List ℕ)) (f : Forest) → IsGood f m → HeadRead last f (text_of sc trees) (planted trees m f)
+    pub head-reads : (trees : Trees) (after_text : Bool) → IsPlain InHead after_text trees
+        → (last : Option (List ℕ)) (f : Forest) → IsGood f m → HeadRead last f (text_of sc trees) (planted trees m f)
     unfolding written
     head-reads Nothing after_text h last f good = record { left = last; runs = runs.NoText }
     head-reads (Text text rest) after_text h last f good =
         let g = put_text f (Last m) text in
         let more = head-reads rest true h.3 last g (good-text f m text good) in
-        record { left = more.left; runs = reads-both rows (in_data last) (in_data last) (in_data more.left) (in_head f) (in_head g) (in_head (planted rest m g)) (escape text) (text_of sc rest) (head-text last text h.2 f good) more.runs }
+        record {
+          left = more.left;
+          runs = reads-both rows (in_data last) (in_data last) (in_data more.left)
+              (in_head f) (in_head g) (in_head (planted rest m g)) (escape text) (text_of sc rest)
+              (head-text last text h.2 f good) more.runs;
+        }
     head-reads (Comment text rest) after_text h last f good = absurd (let no = h.0 in cc)
     head-reads (ProcessingInstruction target text rest) after_text h last f good = absurd h
     head-reads (Doctype name public_id system_id rest) after_text h last f good = absurd (let no = h.0 in cc)
     head-reads (Element name attributes template kids rest) after_text h last f good =
         let w = h.1 in
         let only = title-only h.0 w.2 in
-        subst (λ x. HeadRead last f (text_of sc (Element x attributes template kids rest)) (planted (Element x attributes template kids rest) m f)) (sym (w.0 ∙ ap (λ k. html_name (spelled k)) only))
-        (subst (λ x. HeadRead last f (text_of sc (Element (html_name (spelled Title)) attributes x kids rest)) (planted (Element (html_name (spelled Title)) attributes x kids rest) m f)) (sym w.1)
+        subst (λ x. HeadRead last f (text_of sc (Element x attributes template kids rest))
+        (planted (Element x attributes template kids rest) m f)) (sym (w.0 ∙ ap (λ k. html_name (spelled k)) only))
+        (subst (λ x. HeadRead last f (text_of sc (Element (html_name (spelled Title)) attributes x kids rest))
+        (planted (Element (html_name (spelled Title)) attributes x kids rest) m f)) (sym w.1)
         (title-first attributes w.3 kids rest (subst (λ k. IsPlain (inside InHead k) false kids) only w.4) w.5 last f good))
 
     -- BEHIND THE HEAD
@@ -198,15 +248,20 @@ module _ (rows : List Row) (reads : ReadsEscapes rows) (sc : Bool) (o : Around) 
     ready-after_head f t silent = record { goes_on = refl; fit = refl; free = refl; keeps_lf = refl; silent = silent }
 
     pub head-ends : (f : Forest) → f.errors ≡ 0 → TakesQuietly rows (in_head f) (end_token (spelled Head)) (after_head f) Continue
-    head-ends f silent = tag-once rows _ _ (named EndTag (spelled Head)) false (ready-in_head f _ silent) refl (end-head o (Some hd) f n m) silent
+    head-ends f silent = tag-once rows _ _ (named EndTag (spelled Head)) false (ready-in_head f _ silent) refl
+        (end-head o (Some hd) f n m) silent
 
-    space-takes : (f : Forest) (ok : Bool) (c : ℕ) → IsGood f n → is_white c ≡ true → TakesQuietly rows (after_head f) (CharacterTokens (c ∷ [])) (after_head (put_text f (Last n) (c ∷ []))) Continue
+    space-takes : (f : Forest) (ok : Bool) (c : ℕ) → IsGood f n → is_white c ≡ true
+        → TakesQuietly rows (after_head f) (CharacterTokens (c ∷ [])) (after_head (put_text f (Last n) (c ∷ []))) Continue
     space-takes f ok c good white =
         character-once rows _ _ c false (ready-after_head f _ good.silent)
-        (space-after_head o (Some hd) f n m c (space-of c white) ∙ ap (λ s. turn_of s (Finished false)) (appended o (Some hd) mode.AfterHead (c ∷ []) n Html f [] [] true)) (good-text f n (c ∷ []) good).silent
+        (space-after_head o (Some hd) f n m c (space-of c white) ∙ ap (λ s. turn_of s (Finished false))
+        (appended o (Some hd) mode.AfterHead (c ∷ []) n Html f [] [] true)) (good-text f n (c ∷ []) good).silent
 
-    pub space-reads : (last : Option (List ℕ)) (cs : List ℕ) → list_all is_white cs ≡ true → (f : Forest) → IsGood f n → Reads rows (in_data last) (after_head f) (escape cs) (in_data last) (after_head (put_text f (Last n) cs))
-    space-reads last cs white f good = text-reads rows reads InData last n (λ f ok. after_head f) (λ c ok. ok) is_white space-takes cs (white-not_null cs white) white f true good
+    pub space-reads : (last : Option (List ℕ)) (cs : List ℕ) → list_all is_white cs ≡ true → (f : Forest)
+        → IsGood f n → Reads rows (in_data last) (after_head f) (escape cs) (in_data last) (after_head (put_text f (Last n) cs))
+    space-reads last cs white f good = text-reads rows reads InData last n (λ f ok. after_head f)
+        (λ c ok. ok) is_white space-takes cs (white-not_null cs white) white f true good
 
     -- THE BODY
 
@@ -223,12 +278,20 @@ module _ (rows : List Row) (reads : ReadsEscapes rows) (sc : Bool) (o : Around) 
       lists = tt;
     }
 
-    pub body-begins : (attrs : List Attribute) (f : Forest) → f.errors ≡ 0 → TakesQuietly rows (after_head f) (start_token (spelled Body) attrs) (at o (Some hd) mode.InBody (put_new f (Last n) (element_node Body attrs)) (opened (node_count f) Body ∷ opened n Html ∷ []) [] false) Continue
-    body-begins attrs f silent = tag-once rows _ _ (tag_of Body attrs) false (ready-after_head f _ silent) refl (start-body o (Some hd) f n m attrs) silent
+    pub body-begins : (attrs : List Attribute) (f : Forest) → f.errors ≡ 0 → TakesQuietly rows (after_head f)
+        (start_token (spelled Body) attrs)
+        (at o (Some hd) mode.InBody (put_new f (Last n) (element_node Body attrs))
+        (opened (node_count f) Body ∷ opened n Html ∷ []) [] false) Continue
+    body-begins attrs f silent = tag-once rows _ _ (tag_of Body attrs) false (ready-after_head f _ silent) refl
+        (start-body o (Some hd) f n m attrs) silent
 
-    pub body-ends : (b : ℕ) (f : Forest) (ok : Bool) → f.errors ≡ 0 → TakesQuietly rows (at o (Some hd) mode.InBody f (opened b Body ∷ opened n Html ∷ []) [] ok) (end_token (spelled Body)) (after_body b f ok) Continue
+    pub body-ends : (b : ℕ) (f : Forest) (ok : Bool) → f.errors ≡ 0
+        → TakesQuietly rows (at o (Some hd) mode.InBody f (opened b Body ∷ opened n Html ∷ []) [] ok)
+        (end_token (spelled Body)) (after_body b f ok) Continue
     unfolding is_fit names_of
-    body-ends b f ok silent = tag-once rows _ _ (named EndTag (spelled Body)) false (record { goes_on = refl; fit = refl; free = refl; keeps_lf = refl; silent = silent }) refl (end-body o (Some hd) f n b [] ok) silent
+    body-ends b f ok silent = tag-once rows _ _ (named EndTag (spelled Body)) false
+        (record { goes_on = refl; fit = refl; free = refl; keeps_lf = refl; silent = silent }) refl
+        (end-body o (Some hd) f n b [] ok) silent
 
     pub record BodyRead (last : Option (List ℕ)) (f : Forest) (text : List ℕ) (g : Forest) (b : ℕ) : Type 0 where
       pub left : Option (List ℕ)
@@ -236,9 +299,13 @@ module _ (rows : List Row) (reads : ReadsEscapes rows) (sc : Bool) (o : Around) 
       pub runs : Reads rows (in_data last) (after_head f) text (in_data left) (after_body b g frameset_ok)
 
     -- white space after the head, and the body
-    pub body-reads : (space : List ℕ) → list_all is_white space ≡ true → (attrs : List Attribute) → are_plain_attributes attrs ≡ true → (flow : Trees) → IsPlain InFlow false flow → (last : Option (List ℕ)) (f : Forest) → IsGood f n
+    pub body-reads : (space : List ℕ) → list_all is_white space ≡ true → (attrs : List Attribute)
+        → are_plain_attributes attrs ≡ true → (flow : Trees) → IsPlain InFlow false flow → (last : Option (List ℕ))
+        (f : Forest) → IsGood f n
         → let g = put_text f (Last n) space in
-        BodyRead last f (escape space ++ (start_tag (spelled Body) attrs ++ (text_of sc flow ++ (end_tag (spelled Body) ++ [])))) (planted flow (node_count g) (put_new g (Last n) (element_node Body attrs))) (node_count g)
+        BodyRead last f (escape space
+        ++ (start_tag (spelled Body) attrs ++ (text_of sc flow ++ (end_tag (spelled Body) ++ []))))
+        (planted flow (node_count g) (put_new g (Last n) (element_node Body attrs))) (node_count g)
     body-reads space white attrs plain flow is last f good =
         let g = put_text f (Last n) space in
         let good_g = good-text f n space good in
@@ -246,7 +313,8 @@ module _ (rows : List Row) (reads : ReadsEscapes rows) (sc : Bool) (o : Around) 
         let h = put_new g (Last n) (element_node Body attrs) in
         let inner = good-element g n Body attrs good_g in
         let stack = opened b Body ∷ opened n Html ∷ [] in
-        let within = law rows reads sc o (Some hd) flow InFlow false is OfBody b Body (opened n Html ∷ []) (Some (spelled Body)) h [] false inner (body-fits b h) in
+        let within = law rows reads sc o (Some hd) flow InFlow false is OfBody b Body (opened n Html ∷ [])
+        (Some (spelled Body)) h [] false inner (body-fits b h) in
         let k = planted flow b h in
         let left = good-planted flow b b h false (plain-plantable InFlow false flow is) inner inner.parent in
         let flows = rw within.drops at within.reads in
@@ -254,8 +322,15 @@ module _ (rows : List Row) (reads : ReadsEscapes rows) (sc : Bool) (o : Around) 
           left = within.last_tag;
           frameset_ok = within.frameset_ok;
           runs =
-              reads-both rows (in_data last) (in_data last) (in_data within.last_tag) (after_head f) (after_head g) (after_body b k within.frameset_ok) (escape space) _ (space-reads last space white f good)
-              (reads-both rows (in_data last) (in_data (Some (spelled Body))) (in_data within.last_tag) (after_head g) (at o (Some hd) mode.InBody h stack [] false) (after_body b k within.frameset_ok) (start_tag (spelled Body) attrs) _ (start-reads Body attrs plain last _ _ (body-begins attrs g good_g.silent))
-              (reads-both rows (in_data (Some (spelled Body))) (in_data within.last_tag) (in_data within.last_tag) (at o (Some hd) mode.InBody h stack [] false) (at o (Some hd) mode.InBody k stack [] within.frameset_ok) (after_body b k within.frameset_ok) (text_of sc flow) _ flows
-              (reads-both rows (in_data within.last_tag) (in_data within.last_tag) (in_data within.last_tag) _ _ _ (end_tag (spelled Body)) [] (end-reads Body within.last_tag _ _ (body-ends b k within.frameset_ok left.silent)) runs.NoText)));
+              reads-both rows (in_data last) (in_data last) (in_data within.last_tag) (after_head f) (after_head g)
+              (after_body b k within.frameset_ok) (escape space) _ (space-reads last space white f good)
+              (reads-both rows (in_data last) (in_data (Some (spelled Body))) (in_data within.last_tag)
+              (after_head g) (at o (Some hd) mode.InBody h stack [] false) (after_body b k within.frameset_ok)
+              (start_tag (spelled Body) attrs) _ (start-reads Body attrs plain last _ _ (body-begins attrs g good_g.silent))
+              (reads-both rows (in_data (Some (spelled Body))) (in_data within.last_tag) (in_data within.last_tag)
+              (at o (Some hd) mode.InBody h stack [] false)
+              (at o (Some hd) mode.InBody k stack [] within.frameset_ok) (after_body b k within.frameset_ok) (text_of sc flow) _ flows
+              (reads-both rows (in_data within.last_tag) (in_data within.last_tag) (in_data within.last_tag) _ _ _
+              (end_tag (spelled Body)) []
+              (end-reads Body within.last_tag _ _ (body-ends b k within.frameset_ok left.silent)) runs.NoText)));
         }

@@ -17,7 +17,11 @@ use Rattle.html_round_trip.specs.ReadBack.Places.{IsGood}
 use Rattle.html_round_trip.specs.ReadBack.States.{comment_node, element_node}
 
 pub ordinary-element : (k : PlainElement) (attrs : List Attribute) → IsOrdinary (element_node k attrs)
-ordinary-element k attrs = record { contents = refl; template = refl; name = and-false (bytes_eq (html_name (spelled k)).ns html_namespace) (bytes_eq (spelled k) (codes "template")) (no-template k) }
+ordinary-element k attrs = record {
+  contents = refl;
+  template = refl;
+  name = and-false (bytes_eq (html_name (spelled k)).ns html_namespace) (bytes_eq (spelled k) (codes "template")) (no-template k);
+}
 
 pub good-text : (f : Forest) (n : ℕ) (t : List ℕ) → IsGood f n → IsGood (put_text f (Last n) t) n
 good-text f n t good =
@@ -43,24 +47,29 @@ pub comment-more : (f : Forest) (n : ℕ) (text : List ℕ) → IsGood f n → n
 comment-more f n text good = (new-keeps f n (comment_node text) good.tree good.parent (ordinary-comment text)).more
 
 -- a new element, and the node that it is put into
-pub good-element : (f : Forest) (n : ℕ) (k : PlainElement) (attrs : List Attribute) → IsGood f n → IsGood (put_new f (Last n) (element_node k attrs)) (node_count f)
+pub good-element : (f : Forest) (n : ℕ) (k : PlainElement) (attrs : List Attribute) → IsGood f n
+    → IsGood (put_new f (Last n) (element_node k attrs)) (node_count f)
 good-element f n k attrs good = record {
   tree = (new-keeps f n (element_node k attrs) good.tree good.parent (ordinary-element k attrs)).tree;
   parent = new-parent f n (element_node k attrs) good.parent refl;
   silent = good.silent;
 }
 
-pub good-around : (f : Forest) (n : ℕ) (k : PlainElement) (attrs : List Attribute) → IsGood f n → IsGood (put_new f (Last n) (element_node k attrs)) n
+pub good-around : (f : Forest) (n : ℕ) (k : PlainElement) (attrs : List Attribute) → IsGood f n
+    → IsGood (put_new f (Last n) (element_node k attrs)) n
 good-around f n k attrs good = good-new f n (element_node k attrs) (ordinary-element k attrs) good
 
-pub element-more : (f : Forest) (n : ℕ) (k : PlainElement) (attrs : List Attribute) → IsGood f n → node_count f < node_count (put_new f (Last n) (element_node k attrs))
+pub element-more : (f : Forest) (n : ℕ) (k : PlainElement) (attrs : List Attribute) → IsGood f n
+    → node_count f < node_count (put_new f (Last n) (element_node k attrs))
 element-more f n k attrs good = (new-parent f n (element_node k attrs) good.parent refl).there
 
 -- trees in one node leave another good
-pub good-planted : (trees : Trees) (m n : ℕ) (f : Forest) (after_text : Bool) → ArePlantable after_text trees → IsGood f m → IsParent f n → IsGood (planted trees m f) n
+pub good-planted : (trees : Trees) (m n : ℕ) (f : Forest) (after_text : Bool) → ArePlantable after_text trees
+    → IsGood f m → IsParent f n → IsGood (planted trees m f) n
 good-planted trees m n f after_text ok good at =
     let kept = planted-keeps trees m f after_text good.tree good.parent ok in
     record { tree = kept.tree; parent = kept.parents n at; silent = (planted-errors trees m f).0 ∙ good.silent }
 
-pub planted-more : (trees : Trees) (m : ℕ) (f : Forest) (after_text : Bool) → ArePlantable after_text trees → IsGood f m → node_count f ≤ node_count (planted trees m f)
+pub planted-more : (trees : Trees) (m : ℕ) (f : Forest) (after_text : Bool) → ArePlantable after_text trees
+    → IsGood f m → node_count f ≤ node_count (planted trees m f)
 planted-more trees m f after_text ok good = (planted-keeps trees m f after_text good.tree good.parent ok).more

@@ -23,32 +23,41 @@ joined : (a b : List ℕ) → has_no_return a ≡ true → has_no_return b ≡ t
 joined [] b h k = k
 joined (c ∷ a) b h k = let p = and_parts (not (nat_eq c 13)) (has_no_return a) h in rw p.0 (joined a b p.1 k)
 
-start-none : (k : PlainElement) (attrs : List Attribute) → are_plain_attributes attrs ≡ true → has_no_return (start_tag (spelled k) attrs) ≡ true
+start-none : (k : PlainElement) (attrs : List Attribute) → are_plain_attributes attrs ≡ true
+    → has_no_return (start_tag (spelled k) attrs) ≡ true
 start-none k attrs plain = start-no_return (spelled k) attrs (names-of_tags k) (attributes-read attrs plain).each (values-read attrs plain)
 
 end-none : (k : PlainElement) → has_no_return (end_tag (spelled k)) ≡ true
 end-none k = end-no_return (spelled k) (names-of_tags k)
 
 module _ (sc : Bool) where
-  whole-none : (k : PlainElement) → is_void k ≡ false → (attrs : List Attribute) → are_plain_attributes attrs ≡ true → (kids rest : Trees) → has_no_return (text_of sc kids) ≡ true → has_no_return (text_of sc rest) ≡ true
+  whole-none : (k : PlainElement) → is_void k ≡ false → (attrs : List Attribute) → are_plain_attributes attrs ≡ true
+      → (kids rest : Trees) → has_no_return (text_of sc kids) ≡ true → has_no_return (text_of sc rest) ≡ true
       → has_no_return (text_of sc (Element (html_name (spelled k)) attrs false kids rest)) ≡ true
   whole-none k void attrs plain kids rest inner more =
       ap has_no_return (element-written k void sc attrs kids rest)
       ∙ joined (start_tag (spelled k) attrs) (text_of sc kids ++ (end_tag (spelled k) ++ text_of sc rest)) (start-none k attrs plain)
-      (joined (text_of sc kids) (end_tag (spelled k) ++ text_of sc rest) inner (joined (end_tag (spelled k)) (text_of sc rest) (end-none k) more))
+      (joined (text_of sc kids) (end_tag (spelled k) ++ text_of sc rest) inner
+      (joined (end_tag (spelled k)) (text_of sc rest) (end-none k) more))
 
-  element-none : (place : PlainPlace) (k : PlainElement) (attrs : List Attribute) → are_plain_attributes attrs ≡ true → (kids rest : Trees) → IsPlain (inside place k) false kids → has_no_return (text_of sc kids) ≡ true → has_no_return (text_of sc rest) ≡ true
+  element-none : (place : PlainPlace) (k : PlainElement) (attrs : List Attribute)
+      → are_plain_attributes attrs ≡ true → (kids rest : Trees) → IsPlain (inside place k) false kids
+      → has_no_return (text_of sc kids) ≡ true → has_no_return (text_of sc rest) ≡ true
       → has_no_return (text_of sc (Element (html_name (spelled k)) attrs false kids rest)) ≡ true
   element-none place Break attrs plain kids rest is inner more =
       ap (λ kids. has_no_return (text_of sc (Element (html_name (spelled Break)) attrs false kids rest))) (nothing-in_break false kids is)
-      ∙ (ap has_no_return (break-written sc attrs rest) ∙ joined (start_tag (spelled Break) attrs) (text_of sc rest) (start-none Break attrs plain) more)
+      ∙ (ap has_no_return (break-written sc attrs rest) ∙ joined (start_tag (spelled Break) attrs) (text_of sc rest)
+      (start-none Break attrs plain) more)
   element-none place k attrs plain kids rest is inner more = whole-none k refl attrs plain kids rest inner more
 
-  pub trees-none : (trees : Trees) (place : PlainPlace) (after_text : Bool) → IsPlain place after_text trees → has_no_return (text_of sc trees) ≡ true
+  pub trees-none : (trees : Trees) (place : PlainPlace) (after_text : Bool) → IsPlain place after_text trees
+      → has_no_return (text_of sc trees) ≡ true
   unfolding written
   trees-none Nothing place after_text h = refl
-  trees-none (Text text rest) place after_text h = joined (escape text) (text_of sc rest) (text-no_return text (texts-read text h.1).1) (trees-none rest (place_after_text place) true h.3)
-  trees-none (Comment text rest) place after_text h = joined (written_comment text) (text_of sc rest) (comment-no_return text (comments-read text h.1).1) (trees-none rest place false h.2)
+  trees-none (Text text rest) place after_text h = joined (escape text) (text_of sc rest)
+      (text-no_return text (texts-read text h.1).1) (trees-none rest (place_after_text place) true h.3)
+  trees-none (Comment text rest) place after_text h = joined (written_comment text) (text_of sc rest)
+      (comment-no_return text (comments-read text h.1).1) (trees-none rest place false h.2)
   trees-none (ProcessingInstruction target text rest) place after_text h = absurd h
   trees-none (Doctype name public_id system_id rest) place after_text h = rw h.1 (trees-none rest _ false h.4)
   trees-none (Element name attributes template kids rest) place after_text h =
@@ -56,7 +65,8 @@ module _ (sc : Bool) where
       let w = h.1 in
       subst (λ x. has_no_return (text_of sc (Element x attributes template kids rest)) ≡ true) (sym w.0)
       (subst (λ x. has_no_return (text_of sc (Element (html_name (spelled k)) attributes x kids rest)) ≡ true) (sym w.1)
-      (element-none place k attributes w.3 kids rest w.4 (trees-none kids (inside place k) false w.4) (trees-none rest (place_after_element place) false w.5)))
+      (element-none place k attributes w.3 kids rest w.4 (trees-none kids (inside place k) false w.4)
+      (trees-none rest (place_after_element place) false w.5)))
 
 -- a text that begins with "<" has no byte order mark at its front
 pub own-normal : (b : Bool) (t : List ℕ) → has_no_return (60 ∷ t) ≡ true → normal_text b (60 ∷ t) ≡ 60 ∷ t

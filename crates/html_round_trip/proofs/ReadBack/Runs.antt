@@ -18,21 +18,27 @@ module _ (rows : List Row) where
   reads-same t u e h = rw (← e) h
 
   -- one token
-  pub reads-one : (st next : Stand) (s new : State) (slice : List ℕ) (token : Token) (reply : Reply) → IsSpelled rows st slice token next → TakesQuietly rows s token new reply → Reads rows st s slice (next_stand next reply) new
-  reads-one st next s new slice token reply spelled takes = reads-same (slice ++ []) slice (append-nil slice) (TokenFirst next new slice [] token reply spelled takes NoText)
+  pub reads-one : (st next : Stand) (s new : State) (slice : List ℕ) (token : Token) (reply : Reply)
+      → IsSpelled rows st slice token next → TakesQuietly rows s token new reply → Reads rows st s slice (next_stand next reply) new
+  reads-one st next s new slice token reply spelled takes = reads-same (slice ++ []) slice (append-nil slice)
+      (TokenFirst next new slice [] token reply spelled takes NoText)
 
   -- one text, and then another
-  pub reads-both : (st mid last : Stand) (s m left : State) (t u : List ℕ) → Reads rows st s t mid m → Reads rows mid m u last left → Reads rows st s (t ++ u) last left
+  pub reads-both : (st mid last : Stand) (s m left : State) (t u : List ℕ) → Reads rows st s t mid m
+      → Reads rows mid m u last left → Reads rows st s (t ++ u) last left
   reads-both st mid last s m left t u NoText h = h
   reads-both st mid last s m left t u (TokenFirst next new slice rest token reply spelled takes more) h =
-      reads-same (slice ++ (rest ++ u)) ((slice ++ rest) ++ u) (sym (append_assoc slice rest u)) (TokenFirst next new slice (rest ++ u) token reply spelled takes (reads-both _ mid last new m left rest u more h))
+      reads-same (slice ++ (rest ++ u)) ((slice ++ rest) ++ u) (sym (append_assoc slice rest u))
+      (TokenFirst next new slice (rest ++ u) token reply spelled takes (reads-both _ mid last new m left rest u more h))
 
   -- each reader reads so
-  pub reader-reads : {X : Type 0} (read : Stand → ℕ → State → List ℕ → X) → IsReader step is_quiet asks_cdata ended rows read → (st last : Stand) (s left : State) (t u : List ℕ) (breaks : ℕ)
+  pub reader-reads : {X : Type 0} (read : Stand → ℕ → State → List ℕ → X) → IsReader step is_quiet asks_cdata ended
+      rows read → (st last : Stand) (s left : State) (t u : List ℕ) (breaks : ℕ)
       → Reads rows st s t last left → read st breaks s (t ++ u) ≡ read last (breaks + line_breaks t) left u
   reader-reads read reader st last s left t u breaks NoText = ap (λ n. read st n s u) (let e : breaks ≡ breaks + 0 = omega arith in e)
   reader-reads read reader st last s left t u breaks (TokenFirst next new slice rest token reply spelled takes more) =
       ap (read st breaks s) (append_assoc slice rest u)
       ∙ (reader st next slice token spelled breaks s new reply (rest ++ u) (takes (line_number (breaks + line_breaks slice)))
       ∙ (reader-reads read reader (next_stand next reply) last new left rest u (breaks + line_breaks slice) more
-      ∙ ap (λ n. read last n left u) (let e : (breaks + line_breaks slice) + line_breaks rest ≡ breaks + line_breaks (slice ++ rest) = omega (arith, line_breaks-append slice rest) in e)))
+      ∙ ap (λ n. read last n left u) (let e : (breaks + line_breaks slice) + line_breaks rest ≡ breaks + line_breaks
+      (slice ++ rest) = omega (arith, line_breaks-append slice rest) in e)))

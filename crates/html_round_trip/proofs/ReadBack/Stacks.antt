@@ -8,7 +8,9 @@ use Rattle.html_plain.specs.declared.elements.Format.TheVariants.{Bold, Italic, 
 use Rattle.html_plain.specs.declared.elements.Level.TheVariants.{One, Two, Three, Four, Five, Six}
 use Rattle.html_plain.specs.declared.elements.ListKind.TheVariants.{Unordered, Ordered}
 use Rattle.html_plain.specs.declared.elements.PlainElement.{PlainElement}
-use Rattle.html_plain.specs.declared.elements.PlainElement.TheVariants.{Html, Head, Title, Body, Paragraph, Heading, Division, List as ListElement, Item, Table, TableBody, Row, Cell, Break, Formatted, Link}
+use Rattle.html_plain.specs.declared.elements.PlainElement.TheVariants.{Html, Head, Title, Body, Paragraph, Heading, Division}
+use Rattle.html_plain.specs.declared.elements.PlainElement.TheVariants.{List as ListElement, Item, Table, TableBody, Row, Cell}
+use Rattle.html_plain.specs.declared.elements.PlainElement.TheVariants.{Break, Formatted, Link}
 use Rattle.html_rules.specs.Shape.{is_fit}
 use Rattle.html_rules.specs.Sets.{names_of}
 use Rattle.html_rules.specs.Stack.{is_open}
@@ -17,7 +19,8 @@ use Rattle.html_rules.specs.Step.{is_barred}
 use Rattle.html_rules.specs.declared.tag_set.TagSet.TheVariants as set
 use Rattle.html_tokens.specs.declared.token.Token.{Token}
 use Rattle.html_round_trip.specs.ReadBack.Places.{IsHome, IsRooted}
-use Rattle.html_round_trip.specs.ReadBack.States.{Around, Home, OfBody, OfCell, Part, OfTable, OfBodies, OfRow, at, mode_in, mode_of_part, opened, waiting_at}
+use Rattle.html_round_trip.specs.ReadBack.States.{Around, Home, OfBody, OfCell, Part, OfTable, OfBodies, OfRow, at, mode_in}
+use Rattle.html_round_trip.specs.ReadBack.States.{mode_of_part, opened, waiting_at}
 use Rattle.html_round_trip.proofs.ReadBack.Taking.{IsReady}
 
 pub same : (n : ℕ) → nat_eq n n ≡ true
@@ -65,7 +68,8 @@ is_in_flow Link = true
 is_in_flow _ = false
 
 -- one more of them leaves what is asked of the stack
-pub home-more : (k : PlainElement) → is_in_flow k ≡ true → (b : Home) (n : ℕ) (stack : List Open) → IsHome b stack → IsHome b (opened n k ∷ stack)
+pub home-more : (k : PlainElement) → is_in_flow k ≡ true → (b : Home) (n : ℕ) (stack : List Open) → IsHome b stack
+    → IsHome b (opened n k ∷ stack)
 unfolding names_of
 home-more Paragraph h OfBody n stack home = record { root = home.root; templates = home.templates; cell = home.cell }
 home-more Paragraph h OfCell n stack home = record { root = home.root; templates = home.templates; cell = home.cell }
@@ -109,7 +113,8 @@ open-more n m k stack h = by (nat_eq m n) where
 
 -- NOTHING STANDS AGAINST A TOKEN
 
-pub home-fit : (o : Around) (head : Option ℕ) (b : Home) (f : Forest) (stack : List Open) (es : List Entry) (ok : Bool) → IsHome b stack → is_fit (at o head (mode_in b) f stack es ok) ≡ true
+pub home-fit : (o : Around) (head : Option ℕ) (b : Home) (f : Forest) (stack : List Open) (es : List Entry)
+    (ok : Bool) → IsHome b stack → is_fit (at o head (mode_in b) f stack es ok) ≡ true
 unfolding is_fit
 home-fit o head OfBody f stack es ok home = rw (home.root, home.templates) refl
 home-fit o head OfCell f stack es ok home = rw (home.root, home.cell, home.templates) refl
@@ -118,10 +123,18 @@ home-free : (b : Home) (t : Token) → is_barred (mode_in b) t ≡ false
 home-free OfBody t = refl
 home-free OfCell t = refl
 
-pub home-ready : (o : Around) (head : Option ℕ) (b : Home) (f : Forest) (stack : List Open) (es : List Entry) (ok : Bool) (t : Token) → IsHome b stack → f.errors ≡ 0 → IsReady (at o head (mode_in b) f stack es ok) t
-home-ready o head b f stack es ok t home silent = record { goes_on = refl; fit = home-fit o head b f stack es ok home; free = home-free b t; keeps_lf = refl; silent = silent }
+pub home-ready : (o : Around) (head : Option ℕ) (b : Home) (f : Forest) (stack : List Open) (es : List Entry)
+    (ok : Bool) (t : Token) → IsHome b stack → f.errors ≡ 0 → IsReady (at o head (mode_in b) f stack es ok) t
+home-ready o head b f stack es ok t home silent = record {
+  goes_on = refl;
+  fit = home-fit o head b f stack es ok home;
+  free = home-free b t;
+  keeps_lf = refl;
+  silent = silent;
+}
 
-part-fit : (o : Around) (head : Option ℕ) (part : Part) (f : Forest) (stack : List Open) (es : List Entry) (ok : Bool) → IsRooted stack → is_fit (at o head (mode_of_part part) f stack es ok) ≡ true
+part-fit : (o : Around) (head : Option ℕ) (part : Part) (f : Forest) (stack : List Open) (es : List Entry)
+    (ok : Bool) → IsRooted stack → is_fit (at o head (mode_of_part part) f stack es ok) ≡ true
 unfolding is_fit
 part-fit o head OfTable f stack es ok rooted = rw (rooted.root, rooted.templates) refl
 part-fit o head OfBodies f stack es ok rooted = rw (rooted.root, rooted.templates) refl
@@ -132,14 +145,30 @@ part-free OfTable t = refl
 part-free OfBodies t = refl
 part-free OfRow t = refl
 
-pub part-ready : (o : Around) (head : Option ℕ) (part : Part) (f : Forest) (stack : List Open) (es : List Entry) (ok : Bool) (t : Token) → IsRooted stack → f.errors ≡ 0 → IsReady (at o head (mode_of_part part) f stack es ok) t
-part-ready o head part f stack es ok t rooted silent = record { goes_on = refl; fit = part-fit o head part f stack es ok rooted; free = part-free part t; keeps_lf = refl; silent = silent }
+pub part-ready : (o : Around) (head : Option ℕ) (part : Part) (f : Forest) (stack : List Open) (es : List Entry)
+    (ok : Bool) (t : Token) → IsRooted stack → f.errors ≡ 0 → IsReady (at o head (mode_of_part part) f stack es ok) t
+part-ready o head part f stack es ok t rooted silent = record {
+  goes_on = refl;
+  fit = part-fit o head part f stack es ok rooted;
+  free = part-free part t;
+  keeps_lf = refl;
+  silent = silent;
+}
 
-waiting-fit : (o : Around) (head : Option ℕ) (part : Part) (f : Forest) (stack : List Open) (es : List Entry) (ok : Bool) (text : List ℕ) → IsRooted stack → is_fit (waiting_at o head (mode_of_part part) f stack es ok text) ≡ true
+waiting-fit : (o : Around) (head : Option ℕ) (part : Part) (f : Forest) (stack : List Open) (es : List Entry)
+    (ok : Bool) (text : List ℕ) → IsRooted stack → is_fit (waiting_at o head (mode_of_part part) f stack es ok text) ≡ true
 unfolding is_fit
 waiting-fit o head OfTable f stack es ok text rooted = rw (rooted.root, rooted.templates) refl
 waiting-fit o head OfBodies f stack es ok text rooted = rw (rooted.root, rooted.templates) refl
 waiting-fit o head OfRow f stack es ok text rooted = rw (rooted.root, rooted.templates) refl
 
-pub waiting-ready : (o : Around) (head : Option ℕ) (part : Part) (f : Forest) (stack : List Open) (es : List Entry) (ok : Bool) (text : List ℕ) (t : Token) → IsRooted stack → f.errors ≡ 0 → IsReady (waiting_at o head (mode_of_part part) f stack es ok text) t
-waiting-ready o head part f stack es ok text t rooted silent = record { goes_on = refl; fit = waiting-fit o head part f stack es ok text rooted; free = refl; keeps_lf = refl; silent = silent }
+pub waiting-ready : (o : Around) (head : Option ℕ) (part : Part) (f : Forest) (stack : List Open) (es : List Entry)
+    (ok : Bool) (text : List ℕ) (t : Token) → IsRooted stack → f.errors ≡ 0
+    → IsReady (waiting_at o head (mode_of_part part) f stack es ok text) t
+waiting-ready o head part f stack es ok text t rooted silent = record {
+  goes_on = refl;
+  fit = waiting-fit o head part f stack es ok text rooted;
+  free = refl;
+  keeps_lf = refl;
+  silent = silent;
+}

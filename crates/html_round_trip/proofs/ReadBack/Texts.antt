@@ -41,18 +41,24 @@ every (c ∷ t) = every t
 
 module _ (rows : List Row) (reads : ReadsEscapes rows) where
   -- text that goes into a node, character by character
-  pub text-reads : (place : TextPlace) (last : Option (List ℕ)) (n : ℕ) (state : Forest → Bool → State) (next : ℕ → Bool → Bool) (test : ℕ → Bool)
-      → ((f : Forest) (ok : Bool) (c : ℕ) → IsGood f n → test c ≡ true → TakesQuietly rows (state f ok) (CharacterTokens (c ∷ [])) (state (put_text f (Last n) (c ∷ [])) (next c ok)) Continue)
+  pub text-reads : (place : TextPlace) (last : Option (List ℕ)) (n : ℕ) (state : Forest → Bool → State)
+      (next : ℕ → Bool → Bool) (test : ℕ → Bool)
+      → ((f : Forest) (ok : Bool) (c : ℕ) → IsGood f n → test c ≡ true → TakesQuietly rows (state f ok)
+      (CharacterTokens (c ∷ [])) (state (put_text f (Last n) (c ∷ [])) (next c ok)) Continue)
       → (cs : List ℕ) → has_no_null cs ≡ true → list_all test cs ≡ true → (f : Forest) (ok : Bool) → IsGood f n
-      → Reads rows (in_text place last) (state f ok) (escape cs) (in_text place last) (state (put_text f (Last n) cs) (flag_after next cs ok))
+      → Reads rows (in_text place last) (state f ok) (escape cs) (in_text place last)
+      (state (put_text f (Last n) cs) (flag_after next cs ok))
   text-reads place last n state next test takes [] shown tested f ok good = NoText
   text-reads place last n state next test takes (c ∷ cs) shown tested f ok good =
       let p = and_parts (is_not_null c) (has_no_null cs) shown in
       let q = and_parts (test c) (list_all test cs) tested in
       let st = in_text place last in
       let g = put_text f (Last n) (c ∷ []) in
-      let joined : put_text g (Last n) cs ≡ put_text f (Last n) (c ∷ cs) = put_text-append f (Last n) (c ∷ []) cs good.tree.forest good.parent in
+      let joined : put_text g (Last n) cs ≡ put_text f (Last n) (c ∷ cs) = put_text-append f (Last n)
+      (c ∷ []) cs good.tree.forest good.parent in
       let more = text-reads place last n state next test takes cs p.1 q.1 g (next c ok) (good-text f n (c ∷ []) good) in
-      reads-both rows st st st (state f ok) (state g (next c ok)) (state (put_text f (Last n) (c ∷ cs)) (flag_after next (c ∷ cs) ok)) (escaped c) (escape cs)
-      (reads-one rows st st (state f ok) (state g (next c ok)) (escaped c) (CharacterTokens (c ∷ [])) Continue (character-spelled rows reads place last c p.0) (takes f ok c good q.0))
+      reads-both rows st st st (state f ok) (state g (next c ok))
+      (state (put_text f (Last n) (c ∷ cs)) (flag_after next (c ∷ cs) ok)) (escaped c) (escape cs)
+      (reads-one rows st st (state f ok) (state g (next c ok)) (escaped c) (CharacterTokens (c ∷ [])) Continue
+      (character-spelled rows reads place last c p.0) (takes f ok c good q.0))
       (rw joined at more)

@@ -25,10 +25,12 @@ use Rattle.html_round_trip.proofs.ReadBack.Forms.{form, nothing-in_break}
 use Rattle.html_round_trip.specs.ReadBack.Laws.{ReadsElementInPart, ReadsInFlow, ReadsInPart, element_text}
 use Rattle.html_round_trip.specs.ReadBack.Places.{AreBelow, Fits, IsGood, IsRooted}
 use Rattle.html_round_trip.specs.ReadBack.Runs as runs
-use Rattle.html_round_trip.specs.ReadBack.States.{Around, Home, Part, OfTable, OfBodies, OfRow, comment_node, element_node, opened, part_element}
+use Rattle.html_round_trip.specs.ReadBack.States.{Around, Home, Part, OfTable, OfBodies, OfRow, comment_node, element_node}
+use Rattle.html_round_trip.specs.ReadBack.States.{opened, part_element}
 use Rattle.html_round_trip.proofs.ReadBack.Entries.{below-more, drops-none, drops-then}
 use Rattle.html_round_trip.proofs.ReadBack.Flow.{comment-flows, fits-after, text-flows}
-use Rattle.html_round_trip.proofs.ReadBack.Goods.{comment-more, element-more, good-comment, good-around, good-element, good-planted, good-text, planted-more, text-more}
+use Rattle.html_round_trip.proofs.ReadBack.Goods.{comment-more, element-more, good-comment, good-around, good-element}
+use Rattle.html_round_trip.proofs.ReadBack.Goods.{good-planted, good-text, planted-more, text-more}
 use Rattle.html_round_trip.proofs.ReadBack.Runs.{reads-both}
 use Rattle.html_round_trip.proofs.ReadBack.Tables.{text-part}
 
@@ -44,25 +46,32 @@ module _ (rows : List TableRow) (reads : ReadsEscapes rows) (sc : Bool) (o : Aro
 
   -- ONE AFTER THE OTHER
 
-  flow-both : (place : PlainPlace) (b : Home) (n : ℕ) (top : PlainElement) (os : List Open) (last : Option (List ℕ)) (f g : Forest) (es : List Entry) (ok : Bool) (t : List ℕ) (rest : Trees)
-      → Fits place b f (opened n top ∷ os) es → IsGood g n → node_count f ≤ node_count g → ReadsInFlow rows o head b n top os last f es ok t g → flow place rest
+  flow-both : (place : PlainPlace) (b : Home) (n : ℕ) (top : PlainElement) (os : List Open) (last : Option (List ℕ))
+      (f g : Forest) (es : List Entry) (ok : Bool) (t : List ℕ) (rest : Trees)
+      → Fits place b f (opened n top ∷ os) es → IsGood g n → node_count f ≤ node_count g
+      → ReadsInFlow rows o head b n top os last f es ok t g → flow place rest
       → ReadsInFlow rows o head b n top os last f es ok (t ++ text_of sc rest) (planted rest n g)
   flow-both place b n top os last f g es ok t rest fits good more first law =
       let stack = opened n top ∷ os in
-      let second = law b n top os first.last_tag g first.entries first.frameset_ok good (fits-after place b f g stack es first.entries more first.drops fits) in
+      let second = law b n top os first.last_tag g first.entries first.frameset_ok good
+      (fits-after place b f g stack es first.entries more first.drops fits) in
       record {
         last_tag = second.last_tag;
         entries = second.entries;
         frameset_ok = second.frameset_ok;
         drops = drops-then es first.entries second.entries first.drops second.drops;
-        reads = reads-both rows (in_data last) (in_data first.last_tag) (in_data second.last_tag) _ _ _ t (text_of sc rest) first.reads second.reads;
+        reads = reads-both rows (in_data last) (in_data first.last_tag) (in_data second.last_tag) _ _ _ t
+            (text_of sc rest) first.reads second.reads;
       }
 
-  part-both : (p : Part) (n : ℕ) (os : List Open) (last : Option (List ℕ)) (f g : Forest) (es : List Entry) (ok : Bool) (waiting t : List ℕ) (rest : Trees)
-      → IsRooted (opened n (part_element p) ∷ os) → AreBelow (node_count f) es → ReadsInPart rows o head p n os last f es ok waiting t g → part p rest
+  part-both : (p : Part) (n : ℕ) (os : List Open) (last : Option (List ℕ)) (f g : Forest) (es : List Entry)
+      (ok : Bool) (waiting t : List ℕ) (rest : Trees)
+      → IsRooted (opened n (part_element p) ∷ os) → AreBelow (node_count f) es → ReadsInPart rows o head p n os last
+      f es ok waiting t g → part p rest
       → ReadsInPart rows o head p n os last f es ok waiting (t ++ text_of sc rest) (planted rest n g)
   part-both p n os last f g es ok waiting t rest rooted below first law =
-      let second = law n os first.last_tag first.forest es first.frameset_ok first.still_waiting first.good rooted (below-more (node_count f) (node_count first.forest) es first.more below) first.white in
+      let second = law n os first.last_tag first.forest es first.frameset_ok first.still_waiting first.good rooted
+      (below-more (node_count f) (node_count first.forest) es first.more below) first.white in
       record {
         last_tag = second.last_tag;
         frameset_ok = second.frameset_ok;
@@ -72,11 +81,13 @@ module _ (rows : List TableRow) (reads : ReadsEscapes rows) (sc : Bool) (o : Aro
         good = second.good;
         more = (let l₁ = first.more in let l₂ = second.more in omega arith);
         whole = second.whole ∙ ap (planted rest n) first.whole;
-        reads = reads-both rows (in_data last) (in_data first.last_tag) (in_data second.last_tag) _ _ _ t (text_of sc rest) first.reads second.reads;
+        reads = reads-both rows (in_data last) (in_data first.last_tag) (in_data second.last_tag) _ _ _ t
+            (text_of sc rest) first.reads second.reads;
       }
 
   -- an element that left no text waiting
-  part-element : (p : Part) (n : ℕ) (os : List Open) (last : Option (List ℕ)) (f g : Forest) (es : List Entry) (ok : Bool) (waiting t : List ℕ) → IsGood g n → node_count f ≤ node_count g
+  part-element : (p : Part) (n : ℕ) (os : List Open) (last : Option (List ℕ)) (f g : Forest) (es : List Entry)
+      (ok : Bool) (waiting t : List ℕ) → IsGood g n → node_count f ≤ node_count g
       → ReadsElementInPart rows o head p n os last f es ok waiting t g → ReadsInPart rows o head p n os last f es ok waiting t g
   part-element p n os last f g es ok waiting t good more first = record {
     last_tag = first.last_tag;
@@ -94,7 +105,13 @@ module _ (rows : List TableRow) (reads : ReadsEscapes rows) (sc : Bool) (o : Aro
 
   flow-nothing : (place : PlainPlace) → flow place Nothing
   unfolding written
-  flow-nothing place b n top os last f es ok good fits = record { last_tag = last; entries = es; frameset_ok = ok; drops = drops-none es; reads = runs.NoText }
+  flow-nothing place b n top os last f es ok good fits = record {
+    last_tag = last;
+    entries = es;
+    frameset_ok = ok;
+    drops = drops-none es;
+    reads = runs.NoText;
+  }
 
   part-nothing : (p : Part) → part p Nothing
   unfolding written
@@ -121,19 +138,23 @@ module _ (rows : List TableRow) (reads : ReadsEscapes rows) (sc : Bool) (o : Aro
 
   -- TEXT
 
-  flow-text : (place : PlainPlace) (text : List ℕ) (rest : Trees) → is_plain_text text ≡ true → flow place rest → flow place (Text text rest)
+  flow-text : (place : PlainPlace) (text : List ℕ) (rest : Trees) → is_plain_text text ≡ true → flow place rest
+      → flow place (Text text rest)
   unfolding written
   flow-text place text rest plain law b n top os last f es ok good fits =
-      flow-both place b n top os last f (put_text f (Last n) text) es ok (escape text) rest fits (good-text f n text good) (text-more f n text good)
+      flow-both place b n top os last f (put_text f (Last n) text) es ok (escape text) rest fits
+      (good-text f n text good) (text-more f n text good)
       (text-flows rows reads sc o head place b n top os last f es ok text (texts-read text plain).0 good fits) law
 
-  part-text : (p : Part) (text : List ℕ) (rest : Trees) → is_plain_text text ≡ true → list_all is_white text ≡ true → part p rest → part p (Text text rest)
+  part-text : (p : Part) (text : List ℕ) (rest : Trees) → is_plain_text text ≡ true → list_all is_white text ≡ true
+      → part p rest → part p (Text text rest)
   unfolding written
   part-text p text rest plain white law n os last f es ok waiting good rooted below waits =
       part-both p n os last f (put_text (put_text f (Last n) waiting) (Last n) text) es ok waiting (escape text) rest rooted below
       (text-part rows reads sc o head p n os last f es ok waiting text (texts-read text plain).0 good rooted waits white) law
 
-  text-law : (place : PlainPlace) (text : List ℕ) (rest : Trees) → is_plain_text text ≡ true → takes_text (text_kind place) text ≡ true → Law (place_after_text place) rest → Law place (Text text rest)
+  text-law : (place : PlainPlace) (text : List ℕ) (rest : Trees) → is_plain_text text ≡ true
+      → takes_text (text_kind place) text ≡ true → Law (place_after_text place) rest → Law place (Text text rest)
   text-law InFlow text rest plain takes law = flow-text InFlow text rest plain law
   text-law (InLine in_link) text rest plain takes law = flow-text (InLine in_link) text rest plain law
   text-law InList text rest plain takes law = flow-text InList text rest plain law
@@ -147,10 +168,12 @@ module _ (rows : List TableRow) (reads : ReadsEscapes rows) (sc : Bool) (o : Aro
   flow-comment : (text : List ℕ) (rest : Trees) → is_plain_comment text ≡ true → flow InFlow rest → flow InFlow (Comment text rest)
   unfolding written
   flow-comment text rest plain law b n top os last f es ok good fits =
-      flow-both InFlow b n top os last f (put_new f (Last n) (comment_node text)) es ok (written_comment text) rest fits (good-comment f n text good) (comment-more f n text good)
+      flow-both InFlow b n top os last f (put_new f (Last n) (comment_node text)) es ok (written_comment text) rest
+      fits (good-comment f n text good) (comment-more f n text good)
       (comment-flows rows reads sc o head InFlow b n top os last f es ok text plain good fits) law
 
-  comment-law : (place : PlainPlace) (text : List ℕ) (rest : Trees) → takes_comments place ≡ true → is_plain_comment text ≡ true → Law place rest → Law place (Comment text rest)
+  comment-law : (place : PlainPlace) (text : List ℕ) (rest : Trees) → takes_comments place ≡ true
+      → is_plain_comment text ≡ true → Law place rest → Law place (Comment text rest)
   comment-law InFlow text rest takes plain law = flow-comment text rest plain law
   comment-law place text rest takes plain law = absurd (cc)
 
@@ -162,12 +185,16 @@ module _ (rows : List TableRow) (reads : ReadsEscapes rows) (sc : Bool) (o : Aro
   element-shape : (place : PlainPlace) (k : PlainElement) (attrs : List Attribute) (kids rest : Trees) → IsPlain (inside place k) false kids
       → text_of sc (Element (html_name (spelled k)) attrs false kids rest) ≡ element_text k attrs (text_of sc kids) ++ text_of sc rest
   element-shape place Break attrs kids rest is =
-      ap (λ kids. text_of sc (Element (html_name (spelled Break)) attrs false kids rest)) (nothing-in_break false kids is) ∙ break-written sc attrs rest
+      ap (λ kids. text_of sc (Element (html_name (spelled Break)) attrs false kids rest))
+      (nothing-in_break false kids is) ∙ break-written sc attrs rest
   element-shape place k attrs kids rest is =
-      element-written k refl sc attrs kids rest ∙ around-shape (start_tag (spelled k) attrs) (text_of sc kids) (end_tag (spelled k)) (text_of sc rest)
+      element-written k refl sc attrs kids rest ∙ around-shape (start_tag (spelled k) attrs) (text_of sc kids)
+      (end_tag (spelled k)) (text_of sc rest)
 
   -- an element, and what follows it
-  flow-first : (place : PlainPlace) (k : PlainElement) (attrs : List Attribute) (kids rest : Trees) → IsPlain (inside place k) false kids → IsReadInFlow rows sc o head place k attrs kids → flow place rest → flow place (Element (html_name (spelled k)) attrs false kids rest)
+  flow-first : (place : PlainPlace) (k : PlainElement) (attrs : List Attribute) (kids rest : Trees)
+      → IsPlain (inside place k) false kids → IsReadInFlow rows sc o head place k attrs kids → flow place rest
+      → flow place (Element (html_name (spelled k)) attrs false kids rest)
   flow-first place k attrs kids rest is there law b n top os last f es ok good fits =
       let can = plain-plantable (inside place k) false kids is in
       let g = put_new f (Last n) (element_node k attrs) in
@@ -177,10 +204,13 @@ module _ (rows : List TableRow) (reads : ReadsEscapes rows) (sc : Bool) (o : Aro
       let l₁ = element-more f n k attrs good in
       let l₂ = planted-more kids m g false can inner in
       let t = element_text k attrs (text_of sc kids) in
-      let both = flow-both place b n top os last f (planted kids m g) es ok t rest fits (good-planted kids m n g false can inner around_it.parent) (omega arith) (there b n top os last f es ok good fits) law in
+      let both = flow-both place b n top os last f (planted kids m g) es ok t rest fits
+      (good-planted kids m n g false can inner around_it.parent) (omega arith) (there b n top os last f es ok good fits) law in
       rw (element-shape place k attrs kids rest is) both
 
-  part-first : (p : Part) (place : PlainPlace) (k : PlainElement) (attrs : List Attribute) (kids rest : Trees) → IsPlain (inside place k) false kids → IsReadInPart rows sc o head p k attrs kids → part p rest → part p (Element (html_name (spelled k)) attrs false kids rest)
+  part-first : (p : Part) (place : PlainPlace) (k : PlainElement) (attrs : List Attribute) (kids rest : Trees)
+      → IsPlain (inside place k) false kids → IsReadInPart rows sc o head p k attrs kids → part p rest
+      → part p (Element (html_name (spelled k)) attrs false kids rest)
   part-first p place k attrs kids rest is there law n os last f es ok waiting good rooted below white =
       let can = plain-plantable (inside place k) false kids is in
       let f' = put_text f (Last n) waiting in
@@ -193,11 +223,15 @@ module _ (rows : List TableRow) (reads : ReadsEscapes rows) (sc : Bool) (o : Aro
       let l₁ = element-more f' n k attrs good' in
       let l₂ = planted-more kids m g false can inner in
       let t = element_text k attrs (text_of sc kids) in
-      let first = part-element p n os last f (planted kids m g) es ok waiting t (good-planted kids m n g false can inner around_it.parent) (omega arith) (there n os last f es ok waiting good rooted below white) in
+      let first = part-element p n os last f (planted kids m g) es ok waiting t
+      (good-planted kids m n g false can inner around_it.parent) (omega arith)
+      (there n os last f es ok waiting good rooted below white) in
       let both = part-both p n os last f (planted kids m g) es ok waiting t rest rooted below first law in
       rw (element-shape place k attrs kids rest is) both
 
-  element-law : (place : PlainPlace) (k : PlainElement) (attrs : List Attribute) (kids rest : Trees) → IsPlain (inside place k) false kids → IsRead rows sc o head place k attrs kids → Law (place_after_element place) rest → Law place (Element (html_name (spelled k)) attrs false kids rest)
+  element-law : (place : PlainPlace) (k : PlainElement) (attrs : List Attribute) (kids rest : Trees)
+      → IsPlain (inside place k) false kids → IsRead rows sc o head place k attrs kids
+      → Law (place_after_element place) rest → Law place (Element (html_name (spelled k)) attrs false kids rest)
   element-law InFlow k attrs kids rest is there more = flow-first InFlow k attrs kids rest is there more
   element-law (InLine in_link) k attrs kids rest is there more = flow-first (InLine in_link) k attrs kids rest is there more
   element-law InList k attrs kids rest is there more = flow-first InList k attrs kids rest is there more
@@ -219,4 +253,5 @@ module _ (rows : List TableRow) (reads : ReadsEscapes rows) (sc : Bool) (o : Aro
       let w = h.1 in
       subst (λ x. Law place (Element x attributes template kids rest)) (sym w.0)
       (subst (λ x. Law place (Element (html_name (spelled k)) attributes x kids rest)) (sym w.1)
-      (element-law place k attributes kids rest w.4 (form rows reads place k w.2 sc o head attributes kids w.3 w.4 (law kids (inside place k) false w.4)) (law rest (place_after_element place) false w.5)))
+      (element-law place k attributes kids rest w.4 (form rows reads place k w.2 sc o head attributes kids w.3 w.4
+      (law kids (inside place k) false w.4)) (law rest (place_after_element place) false w.5)))

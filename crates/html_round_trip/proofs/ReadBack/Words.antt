@@ -24,14 +24,16 @@ use Rattle.html_round_trip.proofs.ReadBack.Turns.Flow.{after_heading, after_link
 
 module _ (o : Around) (head : Option ℕ) (m : InsertionMode) where
   -- an element is put into the current node, and opened
-  pub inserted : (k : PlainElement) (attrs : List Attribute) (n : ℕ) (top : PlainElement) (f : Forest) (os : List Open) (es : List Entry) (ok : Bool)
+  pub inserted : (k : PlainElement) (attrs : List Attribute) (n : ℕ) (top : PlainElement) (f : Forest)
+      (os : List Open) (es : List Entry) (ok : Bool)
       → insert_element names.Html (spelled k) attrs false (at o head m f (opened n top ∷ os) es ok)
       ≡ at o head m (put_new f (Last n) (element_node k attrs)) (opened (node_count f) k ∷ opened n top ∷ os) es ok
   unfolding insert_element
   inserted k attrs n top f os es ok = rw (no-template k, no-template_open n top) refl
 
   -- the same, and it is not opened
-  pub put-alone : (k : PlainElement) (attrs : List Attribute) (n : ℕ) (top : PlainElement) (f : Forest) (os : List Open) (es : List Entry) (ok : Bool)
+  pub put-alone : (k : PlainElement) (attrs : List Attribute) (n : ℕ) (top : PlainElement) (f : Forest)
+      (os : List Open) (es : List Entry) (ok : Bool)
       → put_element names.Html (spelled k) attrs false (at o head m f (opened n top ∷ os) es ok)
       ≡ at o head m (put_new f (Last n) (element_node k attrs)) (opened n top ∷ os) es ok
   unfolding put_element
@@ -43,40 +45,49 @@ module _ (o : Around) (head : Option ℕ) (m : InsertionMode) where
   appended text n top f os es ok = rw (no-template_open n top) refl
 
   pub commented : (text : List ℕ) (n : ℕ) (top : PlainElement) (f : Forest) (os : List Open) (es : List Entry) (ok : Bool)
-      → append_comment text (at o head m f (opened n top ∷ os) es ok) ≡ at o head m (put_new f (Last n) (comment_node text)) (opened n top ∷ os) es ok
+      → append_comment text (at o head m f (opened n top ∷ os) es ok) ≡ at o head m
+      (put_new f (Last n) (comment_node text)) (opened n top ∷ os) es ok
   unfolding append_comment
   commented text n top f os es ok = rw (no-template_open n top) refl
 
   -- no paragraph is closed
-  pub none-closed : (f : Forest) (stack : List Open) (es : List Entry) (ok : Bool) → in_scope set.ButtonScope (is_in set.P) stack ≡ false → close_p_element_in_button_scope (at o head m f stack es ok) ≡ at o head m f stack es ok
+  pub none-closed : (f : Forest) (stack : List Open) (es : List Entry) (ok : Bool) → in_scope set.ButtonScope
+      (is_in set.P) stack ≡ false → close_p_element_in_button_scope (at o head m f stack es ok) ≡ at o head m f stack es ok
   unfolding close_p_element_in_button_scope
   none-closed f stack es ok h = rw h refl
 
-  pub no-item_closed : (f : Forest) (stack : List Open) (es : List Entry) (ok : Bool) → item_name set.Li stack ≡ None → close_item set.Li (at o head m f stack es ok) ≡ at o head m f stack es ok
+  pub no-item_closed : (f : Forest) (stack : List Open) (es : List Entry) (ok : Bool)
+      → item_name set.Li stack ≡ None → close_item set.Li (at o head m f stack es ok) ≡ at o head m f stack es ok
   unfolding close_item
   no-item_closed f stack es ok h = rw h refl
 
-  pub no-heading : (f : Forest) (stack : List Open) (es : List Entry) (ok : Bool) → current_is (is_in set.HeadingTag) stack ≡ false → after_heading (at o head m f stack es ok) ≡ at o head m f stack es ok
+  pub no-heading : (f : Forest) (stack : List Open) (es : List Entry) (ok : Bool)
+      → current_is (is_in set.HeadingTag) stack ≡ false → after_heading (at o head m f stack es ok) ≡ at o head m f stack es ok
   no-heading f stack es ok h = rw h refl
 
-  pub no-link : (f : Forest) (stack : List Open) (es : List Entry) (ok : Bool) → HasNoLink es → after_link (at o head m f stack es ok) ≡ at o head m f stack es ok
+  pub no-link : (f : Forest) (stack : List Open) (es : List Entry) (ok : Bool) → HasNoLink es
+      → after_link (at o head m f stack es ok) ≡ at o head m f stack es ok
   no-link f stack es ok h = rw h refl
 
   -- nothing is reconstructed
-  pub reconstructed : (f : Forest) (stack : List Open) (es : List Entry) (ok : Bool) → AreOpen stack es → reconstruct_active_formatting_elements (at o head m f stack es ok) ≡ at o head m f stack es ok
+  pub reconstructed : (f : Forest) (stack : List Open) (es : List Entry) (ok : Bool) → AreOpen stack es
+      → reconstruct_active_formatting_elements (at o head m f stack es ok) ≡ at o head m f stack es ok
   unfolding reconstruct_active_formatting_elements
   reconstructed f stack [] ok h = refl
   reconstructed f stack (Marker ∷ es) ok h = refl
   reconstructed f stack (Element n tag ∷ es) ok h = rw h.0 refl
 
   -- a formatting element is opened and listed
-  pub formatted : (k : PlainElement) (attrs : List Attribute) (n : ℕ) (top : PlainElement) (f : Forest) (os : List Open) (es : List Entry) (ok : Bool)
+  pub formatted : (k : PlainElement) (attrs : List Attribute) (n : ℕ) (top : PlainElement) (f : Forest)
+      (os : List Open) (es : List Entry) (ok : Bool)
       → create_formatting_element_for (tag_of k attrs) (at o head m f (opened n top ∷ os) es ok)
-      ≡ at o head m (put_new f (Last n) (element_node k attrs)) (opened (node_count f) k ∷ opened n top ∷ os) (Element (node_count f) (tag_of k attrs) ∷ with_room (tag_of k attrs) es) ok
+      ≡ at o head m (put_new f (Last n) (element_node k attrs)) (opened (node_count f) k ∷ opened n top ∷ os)
+      (Element (node_count f) (tag_of k attrs) ∷ with_room (tag_of k attrs) es) ok
   unfolding create_formatting_element_for
   formatted k attrs n top f os es ok = rw (inserted k attrs n top f os (with_room (tag_of k attrs) es) ok) refl
 
-  pub reset-to : (to : InsertionMode) (f : Forest) (stack : List Open) (es : List Entry) (ok : Bool) → ((s : State) → mode_of_open s stack ≡ to) → reset_insertion_mode (at o head m f stack es ok) ≡ at o head to f stack es ok
+  pub reset-to : (to : InsertionMode) (f : Forest) (stack : List Open) (es : List Entry) (ok : Bool)
+      → ((s : State) → mode_of_open s stack ≡ to) → reset_insertion_mode (at o head m f stack es ok) ≡ at o head to f stack es ok
   unfolding reset_insertion_mode
   reset-to to f stack es ok h = ap (λ (to : InsertionMode). at o head to f stack es ok) (h (at o head m f stack es ok))
 
@@ -84,7 +95,8 @@ module _ (o : Around) (head : Option ℕ) (m : InsertionMode) where
 
   module _ (attrs : List Attribute) (n : ℕ) (f : Forest) (os : List Open) (es : List Entry) (ok : Bool) where
     -- the current node leaves stack and list
-    pub adopted : (k : PlainElement) → is_formatting k ≡ true → adoption_agency (spelled k) (at o head m f (opened n k ∷ os) (Element n (tag_of k attrs) ∷ es) ok) ≡ at o head m f os es ok
+    pub adopted : (k : PlainElement) → is_formatting k ≡ true → adoption_agency (spelled k)
+        (at o head m f (opened n k ∷ os) (Element n (tag_of k attrs) ∷ es) ok) ≡ at o head m f os es ok
     unfolding adoption_agency adoption_turns adoption_turn
     adopted (Formatted Bold) h = rw (same n, same n) refl
     adopted (Formatted Italic) h = rw (same n, same n) refl
@@ -94,7 +106,8 @@ module _ (o : Around) (head : Option ℕ) (m : InsertionMode) where
     adopted k h = absurd (cc)
 
     -- it leaves the stack, where it is not listed
-    pub popped : (k : PlainElement) → is_formatting k ≡ true → is_listed n es ≡ false → adoption_agency (spelled k) (at o head m f (opened n k ∷ os) es ok) ≡ at o head m f os es ok
+    pub popped : (k : PlainElement) → is_formatting k ≡ true → is_listed n es ≡ false → adoption_agency (spelled k)
+        (at o head m f (opened n k ∷ os) es ok) ≡ at o head m f os es ok
     unfolding adoption_agency pop
     popped (Formatted Bold) h none = rw none refl
     popped (Formatted Italic) h none = rw none refl

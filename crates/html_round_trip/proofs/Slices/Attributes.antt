@@ -20,7 +20,8 @@ no-text (c ∷ t) h = absurd cc
 abbrev made : Option (List ℕ) → List ℕ → List ℕ → List ℕ → Attribute
 made prefix ns local value = record { name = record { prefix = prefix; ns = ns; local = local }; value = value }
 
-made-read : (prefix : Option (List ℕ)) (ns local value : List ℕ) → prefix ≡ None → ns ≡ [] → made prefix ns local value ≡ attribute local value
+made-read : (prefix : Option (List ℕ)) (ns local value : List ℕ) → prefix ≡ None → ns ≡ []
+    → made prefix ns local value ≡ attribute local value
 made-read prefix ns local value h k = rw (h, k) refl
 
 -- an attribute without prefix and namespace is one as tags have them
@@ -38,5 +39,6 @@ unfolding known_namespace name_of
 tag-written name value = refl
 
 -- such an attribute is written without a prefix
-pub as-written : (a : Attribute) → (is_none a.name.prefix && is_no_text a.name.ns) ≡ true → written_attribute a ≡ quoted a.name.local a.value
+pub as-written : (a : Attribute) → (is_none a.name.prefix && is_no_text a.name.ns) ≡ true
+    → written_attribute a ≡ quoted a.name.local a.value
 as-written a h = ap written_attribute (as-read a h) ∙ tag-written a.name.local a.value

@@ -22,7 +22,8 @@ forms-spelled rows reads = record {
 }
 
 -- what holds of each slice that spells a token holds of each form
-each : (P Q : Stand → List ℕ → Token → Stand → Type 0) → ((st next : Stand) (slice : List ℕ) (token : Token) → P st slice token next → Q st slice token next) → EachForm P → EachForm Q
+each : (P Q : Stand → List ℕ → Token → Stand → Type 0)
+    → ((st next : Stand) (slice : List ℕ) (token : Token) → P st slice token next → Q st slice token next) → EachForm P → EachForm Q
 each P Q f forms = record {
   doctype = λ last. f _ _ _ _ (forms.doctype last);
   start = λ last name attrs h plain. f _ _ _ _ (forms.start last name attrs h plain);
@@ -32,8 +33,13 @@ each P Q f forms = record {
   character = λ place last c h. f _ _ _ _ (forms.character place last c h);
 }
 
-pub forms-read : {S H F : Type 0} (step : S → Token → ℕ → Result (S × TokenSinkResult H) F) (erred : Fault → S → S) (cdata : S → Bool) (ends : S → S) (rows : List Row) → ReadsEscapes rows → EachForm (IsToken step erred cdata ends rows)
-forms-read step erred cdata ends rows reads = each (IsSpelled rows) (IsToken step erred cdata ends rows) (token-read step erred cdata ends rows) (forms-spelled rows reads)
+pub forms-read : {S H F : Type 0} (step : S → Token → ℕ → Result (S × TokenSinkResult H) F) (erred : Fault → S → S)
+    (cdata : S → Bool) (ends : S → S) (rows : List Row) → ReadsEscapes rows → EachForm (IsToken step erred cdata ends rows)
+forms-read step erred cdata ends rows reads = each (IsSpelled rows) (IsToken step erred cdata ends rows)
+    (token-read step erred cdata ends rows) (forms-spelled rows reads)
 
-pub forms-clean : {S H F : Type 0} (step : S → Token → ℕ → Result (S × TokenSinkResult H) F) (quiet : S → Token → Bool) (cdata : S → Bool) (ends : S → S) (rows : List Row) → ReadsEscapes rows → EachForm (IsCleanToken step quiet cdata ends rows)
-forms-clean step quiet cdata ends rows reads = each (IsSpelled rows) (IsCleanToken step quiet cdata ends rows) (token-clean step quiet cdata ends rows) (forms-spelled rows reads)
+pub forms-clean : {S H F : Type 0} (step : S → Token → ℕ → Result (S × TokenSinkResult H) F)
+    (quiet : S → Token → Bool) (cdata : S → Bool) (ends : S → S) (rows : List Row) → ReadsEscapes rows
+    → EachForm (IsCleanToken step quiet cdata ends rows)
+forms-clean step quiet cdata ends rows reads = each (IsSpelled rows) (IsCleanToken step quiet cdata ends rows)
+    (token-clean step quiet cdata ends rows) (forms-spelled rows reads)

@@ -10,10 +10,12 @@ use Rattle.markup.specs.declared.attributes.Attribute.{Attribute}
 use Rattle.html_tokens.specs.Clean.{is_clean_in_comment}
 use Rattle.html_tokens.specs.Laws.{are_distinct, has_no_null, is_not_null}
 use Rattle.html_plain.specs.Elements.{spelled}
-use Rattle.html_plain.specs.Grammar.{are_plain_attributes, is_comment_character, is_empty, is_plain_attribute, is_plain_character, is_plain_comment, is_plain_name, is_plain_text, is_unprefixed}
+use Rattle.html_plain.specs.Grammar.{are_plain_attributes, is_comment_character, is_empty, is_plain_attribute}
+use Rattle.html_plain.specs.Grammar.{is_plain_character, is_plain_comment, is_plain_name, is_plain_text, is_unprefixed}
 use Rattle.html_plain.specs.declared.elements.PlainElement.{PlainElement}
 use Rattle.html_plain.proofs.Names.{each-element}
-use Rattle.html_round_trip.specs.Slices.Forms.{AreReadBack, has_no_return, is_attribute_name, is_no_text, is_read_attribute, is_read_comment, is_tag_name}
+use Rattle.html_round_trip.specs.Slices.Forms.{AreReadBack, has_no_return, is_attribute_name, is_no_text, is_read_attribute}
+use Rattle.html_round_trip.specs.Slices.Forms.{is_read_comment, is_tag_name}
 
 pub names-of_tags : (k : PlainElement) → is_tag_name (spelled k) ≡ true
 names-of_tags k = each-element (λ k. is_tag_name (spelled k)) refl k
@@ -49,8 +51,11 @@ comment-characters [] h = (refl, refl)
 comment-characters (c ∷ t) h =
     let p = and_parts (is_comment_character c) (list_all is_comment_character t) h in
     let one = comment-character c p.0 in
-    let more = comment-characters t p.1 in
-    (and_from (is_clean_in_comment c) (is_read_comment t) one.0 more.0, and_from (is_plain_character c) (list_all is_plain_character t) one.1 more.1)
+    let more = comment-characters t p.1 in (
+      and_from (is_clean_in_comment c) (is_read_comment t) one.0 more.0,
+      and_from (is_plain_character c)
+          (list_all is_plain_character t) one.1 more.1,
+    )
 
 pub comments-read : (text : List ℕ) → is_plain_comment text ≡ true → (is_read_comment text ≡ true) × (has_no_return text ≡ true)
 comments-read text h = let p = comment-characters text h in (p.0, no-return text p.1)
@@ -85,11 +90,14 @@ attributes-read attributes h =
     let p = and_parts (list_all is_plain_attribute attributes) (markup.are_distinct attributes) h in
     record { each = each-read attributes p.0; distinct = sym (distinct-same attributes) ∙ p.1 }
 
-each-value : (attributes : List Attribute) → list_all is_plain_attribute attributes ≡ true → list_all (λ a. has_no_return a.value) attributes ≡ true
+each-value : (attributes : List Attribute) → list_all is_plain_attribute attributes ≡ true
+    → list_all (λ a. has_no_return a.value) attributes ≡ true
 each-value [] h = refl
 each-value (a ∷ rest) h =
     let p = and_parts (is_plain_attribute a) (list_all is_plain_attribute rest) h in
-    and_from (has_no_return a.value) (list_all (λ b. has_no_return b.value) rest) (no-return a.value (and_parts _ (list_all is_plain_character a.value) p.0).1) (each-value rest p.1)
+    and_from (has_no_return a.value) (list_all (λ b. has_no_return b.value) rest)
+    (no-return a.value (and_parts _ (list_all is_plain_character a.value) p.0).1) (each-value rest p.1)
 
-pub values-read : (attributes : List Attribute) → are_plain_attributes attributes ≡ true → list_all (λ a. has_no_return a.value) attributes ≡ true
+pub values-read : (attributes : List Attribute) → are_plain_attributes attributes ≡ true
+    → list_all (λ a. has_no_return a.value) attributes ≡ true
 values-read attributes h = each-value attributes (and_parts (list_all is_plain_attribute attributes) (markup.are_distinct attributes) h).0

@@ -9,7 +9,8 @@ use Rattle.html_tokens.specs.Clean.{is_clean_in_name}
 use Rattle.html_tokens.specs.Laws.{has_no_null}
 use Rattle.html_round_trip.proofs.Slices.Attributes.{as-written, quoted}
 use Rattle.html_round_trip.specs.Slices.Forms.{is_no_text, is_tag_name, is_attribute_name, is_read_attribute, has_no_return}
-use Rattle.markup.specs.Escape.{InValue, end_tag, escape, escape_value, escaped, escaped_by, escaped_in, start_tag, written_attribute, written_attributes, written_comment}
+use Rattle.markup.specs.Escape.{InValue, end_tag, escape, escape_value, escaped, escaped_by, escaped_in, start_tag}
+use Rattle.markup.specs.Escape.{written_attribute, written_attributes, written_comment}
 use Rattle.html_round_trip.proofs.Slices.Items.{clean-tag}
 
 joined : (a b : List ℕ) → has_no_return a ≡ true → has_no_return b ≡ true → has_no_return (a ++ b) ≡ true
@@ -32,7 +33,8 @@ escaped-by false false false false c h = rw h refl
 
 pub text-no_return : (cs : List ℕ) → has_no_return cs ≡ true → has_no_return (escape cs) ≡ true
 text-no_return [] h = refl
-text-no_return (c ∷ cs) h = let p = and_parts (not (nat_eq c 13)) (has_no_return cs) h in joined (escaped c) (escape cs) (escaped-by _ _ _ _ c p.0) (text-no_return cs p.1)
+text-no_return (c ∷ cs) h = let p = and_parts (not (nat_eq c 13)) (has_no_return cs) h in joined (escaped c)
+    (escape cs) (escaped-by _ _ _ _ c p.0) (text-no_return cs p.1)
 
 value-by : (q : Bool) (c : ℕ) → not (nat_eq c 13) ≡ true → has_no_return (cond q (codes "&quot;") (escaped c)) ≡ true
 value-by true c h = refl
@@ -40,19 +42,23 @@ value-by false c h = escaped-by _ _ _ _ c h
 
 pub value-no_return : (cs : List ℕ) → has_no_return cs ≡ true → has_no_return (escape_value cs) ≡ true
 value-no_return [] h = refl
-value-no_return (c ∷ cs) h = let p = and_parts (not (nat_eq c 13)) (has_no_return cs) h in joined (escaped_in InValue c) (escape_value cs) (value-by _ c p.0) (value-no_return cs p.1)
+value-no_return (c ∷ cs) h = let p = and_parts (not (nat_eq c 13)) (has_no_return cs) h in
+    joined (escaped_in InValue c) (escape_value cs) (value-by _ c p.0) (value-no_return cs p.1)
 
 quoted-no_return : (n v : List ℕ) → is_attribute_name n ≡ true → has_no_return v ≡ true → has_no_return (quoted n v) ≡ true
 quoted-no_return [] v h k = absurd cc
-quoted-no_return (c ∷ n) v h k = joined (c ∷ n) (61 ∷ 34 ∷ (escape_value v ++ 34 ∷ [])) (name-no_return (c ∷ n) h) (joined (escape_value v) (34 ∷ []) (value-no_return v k) refl)
+quoted-no_return (c ∷ n) v h k = joined (c ∷ n) (61 ∷ 34 ∷ (escape_value v ++ 34 ∷ [])) (name-no_return (c ∷ n) h)
+    (joined (escape_value v) (34 ∷ []) (value-no_return v k) refl)
 
-attribute-no_return : (a : Attribute) → is_read_attribute a ≡ true → has_no_return a.value ≡ true → has_no_return (written_attribute a) ≡ true
+attribute-no_return : (a : Attribute) → is_read_attribute a ≡ true → has_no_return a.value ≡ true
+    → has_no_return (written_attribute a) ≡ true
 attribute-no_return a h k =
     let p = and_parts (is_attribute_name a.name.local && (is_none a.name.prefix && is_no_text a.name.ns)) (has_no_null a.value) h in
     let q = and_parts (is_attribute_name a.name.local) (is_none a.name.prefix && is_no_text a.name.ns) p.0 in
     ap has_no_return (as-written a q.1) ∙ quoted-no_return a.name.local a.value q.0 k
 
-pub attributes-no_return : (attrs : List Attribute) → list_all is_read_attribute attrs ≡ true → list_all (λ a. has_no_return a.value) attrs ≡ true → has_no_return (written_attributes attrs) ≡ true
+pub attributes-no_return : (attrs : List Attribute) → list_all is_read_attribute attrs ≡ true
+    → list_all (λ a. has_no_return a.value) attrs ≡ true → has_no_return (written_attributes attrs) ≡ true
 attributes-no_return [] h k = refl
 attributes-no_return (a ∷ rest) h k =
     let p = and_parts (is_read_attribute a) (list_all is_read_attribute rest) h in
@@ -66,8 +72,11 @@ tag-name : (n : List ℕ) → is_tag_name n ≡ true → has_no_return n ≡ tru
 tag-name [] h = refl
 tag-name (c ∷ n) h = name-no_return (c ∷ n) (clean-tag c n h)
 
-pub start-no_return : (name : List ℕ) (attrs : List Attribute) → is_tag_name name ≡ true → list_all is_read_attribute attrs ≡ true → list_all (λ a. has_no_return a.value) attrs ≡ true → has_no_return (start_tag name attrs) ≡ true
-start-no_return name attrs h k l = joined name (written_attributes attrs ++ 62 ∷ []) (tag-name name h) (joined (written_attributes attrs) (62 ∷ []) (attributes-no_return attrs k l) refl)
+pub start-no_return : (name : List ℕ) (attrs : List Attribute) → is_tag_name name ≡ true
+    → list_all is_read_attribute attrs ≡ true → list_all (λ a. has_no_return a.value) attrs ≡ true
+    → has_no_return (start_tag name attrs) ≡ true
+start-no_return name attrs h k l = joined name (written_attributes attrs ++ 62 ∷ []) (tag-name name h)
+    (joined (written_attributes attrs) (62 ∷ []) (attributes-no_return attrs k l) refl)
 
 pub end-no_return : (name : List ℕ) → is_tag_name name ≡ true → has_no_return (end_tag name) ≡ true
 end-no_return name h = joined name (62 ∷ []) (tag-name name h) refl

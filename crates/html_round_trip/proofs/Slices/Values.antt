@@ -22,7 +22,8 @@ module _ (rows : List Row) (reads : ReadsEscapes rows) where
   abbrev from : List ℕ → Value
   from t = value_from rows is_null (nat_eq 34) 0 t
 
-  escaped-by : (c : ℕ) (v w u : List ℕ) (a b d e : Bool) → nat_eq c 38 ≡ a → nat_eq c 60 ≡ b → nat_eq c 62 ≡ d → nat_eq c 0xA0 ≡ e → nat_eq c 34 ≡ false → nat_eq c 0 ≡ false
+  escaped-by : (c : ℕ) (v w u : List ℕ) (a b d e : Bool) → nat_eq c 38 ≡ a → nat_eq c 60 ≡ b → nat_eq c 62 ≡ d
+      → nat_eq c 0xA0 ≡ e → nat_eq c 34 ≡ false → nat_eq c 0 ≡ false
       → from (w ++ 34 ∷ u) ≡ whole v w → from ((escaped_by a b d e c ++ w) ++ 34 ∷ u) ≡ whole (c ∷ v) (escaped_by a b d e c ++ w)
   unfolding value_from
   escaped-by c v w u true b d e ea eb ed ee q z h =
@@ -41,7 +42,8 @@ module _ (rows : List Row) (reads : ReadsEscapes rows) where
       rw (quote-swap c false q, ea, z, h) refl
 
   one-by : (c : ℕ) (v w u : List ℕ) (q : Bool) → nat_eq c 34 ≡ q → nat_eq c 0 ≡ false
-      → from (w ++ 34 ∷ u) ≡ whole v w → from ((cond q (codes "&quot;") (escaped c) ++ w) ++ 34 ∷ u) ≡ whole (c ∷ v) (cond q (codes "&quot;") (escaped c) ++ w)
+      → from (w ++ 34 ∷ u) ≡ whole v w → from ((cond q (codes "&quot;") (escaped c) ++ w) ++ 34 ∷ u) ≡ whole (c ∷ v)
+      (cond q (codes "&quot;") (escaped c) ++ w)
   unfolding value_from
   one-by c v w u true q z h =
       let t = w ++ 34 ∷ u in

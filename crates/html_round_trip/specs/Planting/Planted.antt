@@ -11,7 +11,8 @@ abbrev pub planted : Trees → ℕ → Forest → Forest
 planted Nothing p f = f
 planted (Text text rest) p f = planted rest p (put_text f (Last p) text)
 planted (Comment text rest) p f = planted rest p (put_new f (Last p) (forest.NodeData.Comment text))
-planted (ProcessingInstruction target text rest) p f = planted rest p (put_new f (Last p) (forest.NodeData.ProcessingInstruction target text))
+planted (ProcessingInstruction target text rest) p f =
+    planted rest p (put_new f (Last p) (forest.NodeData.ProcessingInstruction target text))
 planted (Doctype name public_id system_id rest) p f = planted rest p (put_new f (Last p) (forest.NodeData.Doctype name public_id system_id))
 planted (Element name attributes template kids rest) p f =
     planted rest p (planted kids (node_count f) (put_new f (Last p) (forest.NodeData.Element name attributes template false)))
@@ -27,8 +28,10 @@ abbrev pub Shows : ℕ → Forest → List ℕ → Trees → Type 0
 Shows low f [] Nothing = Unit {0}
 Shows low f (n ∷ ns) (Text text rest) = IsNew low f n (forest.NodeData.Text text) × Shows low f ns rest
 Shows low f (n ∷ ns) (Comment text rest) = IsNew low f n (forest.NodeData.Comment text) × Shows low f ns rest
-Shows low f (n ∷ ns) (ProcessingInstruction target text rest) = IsNew low f n (forest.NodeData.ProcessingInstruction target text) × Shows low f ns rest
-Shows low f (n ∷ ns) (Doctype name public_id system_id rest) = IsNew low f n (forest.NodeData.Doctype name public_id system_id) × Shows low f ns rest
+Shows low f (n ∷ ns) (ProcessingInstruction target text rest) =
+    IsNew low f n (forest.NodeData.ProcessingInstruction target text) × Shows low f ns rest
+Shows low f (n ∷ ns) (Doctype name public_id system_id rest) =
+    IsNew low f n (forest.NodeData.Doctype name public_id system_id) × Shows low f ns rest
 Shows low f (n ∷ ns) (Element name attributes template kids rest) =
     IsNew low f n (forest.NodeData.Element name attributes template false) × Shows low f (children_of f n) kids × Shows low f ns rest
 Shows low f ns trees = ⊥

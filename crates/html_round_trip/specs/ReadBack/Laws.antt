@@ -25,12 +25,14 @@ element_text k attrs inner = start_tag (spelled k) attrs ++ (inner ++ end_tag (s
 
 -- In flow a text is read quietly that leaves this forest. The state comes back, but for whether a frameset may still come, and
 -- for entries of formatting elements that equal ones drove out.
-pub record ReadsInFlow (rows : List Row) (o : Around) (head : Option ℕ) (b : Home) (n : ℕ) (top : PlainElement) (os : List Open) (last : Option (List ℕ)) (f : Forest) (es : List Entry) (ok : Bool) (text : List ℕ) (g : Forest) : Type 0 where
+pub record ReadsInFlow (rows : List Row) (o : Around) (head : Option ℕ) (b : Home) (n : ℕ) (top : PlainElement)
+    (os : List Open) (last : Option (List ℕ)) (f : Forest) (es : List Entry) (ok : Bool) (text : List ℕ) (g : Forest) : Type 0 where
   pub last_tag : Option (List ℕ)
   pub entries : List Entry
   pub frameset_ok : Bool
   pub drops : Drops es entries
-  pub reads : Reads rows (in_data last) (at o head (mode_in b) f (opened n top ∷ os) es ok) text (in_data last_tag) (at o head (mode_in b) g (opened n top ∷ os) entries frameset_ok)
+  pub reads : Reads rows (in_data last) (at o head (mode_in b) f (opened n top ∷ os) es ok) text (in_data last_tag)
+      (at o head (mode_in b) g (opened n top ∷ os) entries frameset_ok)
 
 -- a state in a part of a table, where some text waits, or none
 abbrev pub held : Around → Option ℕ → Part → Forest → List Open → List Entry → Bool → List ℕ → State
@@ -38,7 +40,8 @@ held o head part f stack es ok [] = at o head (mode_of_part part) f stack es ok
 held o head part f stack es ok (c ∷ text) = waiting_at o head (mode_of_part part) f stack es ok (c ∷ text)
 
 -- In a part of a table a text is read quietly. The state comes back, but for white space that waits; the forest with that is this one.
-pub record ReadsInPart (rows : List Row) (o : Around) (head : Option ℕ) (part : Part) (n : ℕ) (os : List Open) (last : Option (List ℕ)) (f : Forest) (es : List Entry) (ok : Bool) (waiting text : List ℕ) (g : Forest) : Type 0 where
+pub record ReadsInPart (rows : List Row) (o : Around) (head : Option ℕ) (part : Part) (n : ℕ) (os : List Open)
+    (last : Option (List ℕ)) (f : Forest) (es : List Entry) (ok : Bool) (waiting text : List ℕ) (g : Forest) : Type 0 where
   pub last_tag : Option (List ℕ)
   pub frameset_ok : Bool
   pub forest : Forest
@@ -47,10 +50,13 @@ pub record ReadsInPart (rows : List Row) (o : Around) (head : Option ℕ) (part 
   pub good : IsGood forest n
   pub more : node_count f ≤ node_count forest
   pub whole : put_text forest (Last n) still_waiting ≡ g
-  pub reads : Reads rows (in_data last) (held o head part f (opened n (part_element part) ∷ os) es ok waiting) text (in_data last_tag) (held o head part forest (opened n (part_element part) ∷ os) es frameset_ok still_waiting)
+  pub reads : Reads rows (in_data last) (held o head part f (opened n (part_element part) ∷ os) es ok waiting) text
+      (in_data last_tag) (held o head part forest (opened n (part_element part) ∷ os) es frameset_ok still_waiting)
 
 -- An element in a part of a table is read quietly. The state comes back, with this forest, and no text waits.
-pub record ReadsElementInPart (rows : List Row) (o : Around) (head : Option ℕ) (part : Part) (n : ℕ) (os : List Open) (last : Option (List ℕ)) (f : Forest) (es : List Entry) (ok : Bool) (waiting text : List ℕ) (g : Forest) : Type 0 where
+pub record ReadsElementInPart (rows : List Row) (o : Around) (head : Option ℕ) (part : Part) (n : ℕ)
+    (os : List Open) (last : Option (List ℕ)) (f : Forest) (es : List Entry) (ok : Bool) (waiting text : List ℕ) (g : Forest) : Type 0 where
   pub last_tag : Option (List ℕ)
   pub frameset_ok : Bool
-  pub reads : Reads rows (in_data last) (held o head part f (opened n (part_element part) ∷ os) es ok waiting) text (in_data last_tag) (at o head (mode_of_part part) g (opened n (part_element part) ∷ os) es frameset_ok)
+  pub reads : Reads rows (in_data last) (held o head part f (opened n (part_element part) ∷ os) es ok waiting) text
+      (in_data last_tag) (at o head (mode_of_part part) g (opened n (part_element part) ∷ os) es frameset_ok)

@@ -36,13 +36,17 @@ pub record IsReadAs (rows : List Row) (exact : Bool) (o : Around) (text : List �
   pub shows : document_trees left.forest ≡ trees
   pub no_quirks : left.quirks_mode ≡ NoQuirks
   pub told_no_quirks : left.forest.quirks ≡ NoQuirks
-  pub quiet : is_quiet_text rows (stand_of (default_opts exact)) (before_document (default_setting o) empty_forest) (normal_text true text) ≡ true
-  pub noted_quiet : is_quiet_reading step is_quiet asks_cdata ended rows (stand_of (default_opts exact)) 0 (hushed (before_document (default_setting o) empty_forest)) (normal_text true text) ≡ true
-  pub owes_none : owed step is_quiet asks_cdata ended rows (stand_of (default_opts exact)) 0 (hushed (before_document (default_setting o) empty_forest)) (normal_text true text) ≡ 0
+  pub quiet : is_quiet_text rows (stand_of (default_opts exact)) (before_document (default_setting o) empty_forest)
+      (normal_text true text) ≡ true
+  pub noted_quiet : is_quiet_reading step is_quiet asks_cdata ended rows (stand_of (default_opts exact)) 0
+      (hushed (before_document (default_setting o) empty_forest)) (normal_text true text) ≡ true
+  pub owes_none : owed step is_quiet asks_cdata ended rows (stand_of (default_opts exact)) 0
+      (hushed (before_document (default_setting o) empty_forest)) (normal_text true text) ≡ 0
 
 -- the written text of a plain document is read as that document, by every table that reads what escaping writes
 abbrev pub AreDocumentsReadBack : Type 0
-AreDocumentsReadBack = (rows : List Row) → ReadsEscapes rows → (exact : Bool) (o : Around) (scripting : Bool) (trees : Trees) → IsPlainDocument trees → IsReadAs rows exact o (text_of scripting trees) trees
+AreDocumentsReadBack = (rows : List Row) → ReadsEscapes rows → (exact : Bool) (o : Around) (scripting : Bool)
+    (trees : Trees) → IsPlainDocument trees → IsReadAs rows exact o (text_of scripting trees) trees
 
 -- a forest that is judged plain: what is written of it is read as a document that is judged plain and written so again
 pub record IsReadAgain (rows : List Row) (exact : Bool) (o : Around) (scripting : Bool) (f : Forest) : Type 0 where
@@ -51,7 +55,8 @@ pub record IsReadAgain (rows : List Row) (exact : Bool) (o : Around) (scripting 
   pub written : text_of scripting (document_trees read.left.forest) ≡ text_of scripting (document_trees f)
 
 abbrev pub ArePlainForestsReadAgain : Type 0
-ArePlainForestsReadAgain = (rows : List Row) → ReadsEscapes rows → (exact : Bool) (o : Around) (scripting : Bool) (f : Forest) → is_plain_forest f ≡ true → IsReadAgain rows exact o scripting f
+ArePlainForestsReadAgain = (rows : List Row) → ReadsEscapes rows → (exact : Bool) (o : Around) (scripting : Bool)
+    (f : Forest) → is_plain_forest f ≡ true → IsReadAgain rows exact o scripting f
 
 -- The bytes that a plain document is written as: a text in UTF-8, whose document is judged plain, is not in quirks mode, owes no error
 -- and is written as the same bytes.
@@ -77,5 +82,6 @@ pub record IsSameAgain (scripting : Bool) (f : Forest) (left : State) : Type 0 w
 abbrev pub ArePlainBytesStable : Type 0
 ArePlainBytesStable =
     (rows : List Row) → ReadsEscapes rows → (exact : Bool) (o : Around) (scripting : Bool) (f : Forest) → is_plain_forest f ≡ true
-    → (left : State) → document rows (default_opts exact) (default_setting o) empty_forest (chars (encode_utf8_all (text_of scripting (document_trees f)))) ≡ Ok left
+    → (left : State) → document rows (default_opts exact) (default_setting o) empty_forest
+    (chars (encode_utf8_all (text_of scripting (document_trees f)))) ≡ Ok left
     → IsSameAgain scripting f left

@@ -16,7 +16,11 @@ use Rattle.html_round_trip.specs.ReadBack.States.{Around}
 abbrev usual : Around
 usual = record {
   scripting = true;
-  answers = record { integration_point = λ f n. integration_point_of (data_of f n); allows_shadow_roots = λ f n. true; attaches_shadow = λ f host template attributes. false };
+  answers = record {
+    integration_point = λ f n. integration_point_of (data_of f n);
+    allows_shadow_roots = λ f n. true;
+    attaches_shadow = λ f host template attributes. false;
+  };
 }
 
 -- whether a document is written so, and whether it is judged plain
@@ -33,7 +37,8 @@ read_usually text = document five (default_opts false) (default_setting usual) e
 
 -- whether a text writes itself, is plain, and is read without an error
 abbrev reads_itself : List ℕ → Bool
-reads_itself text = is_written_so text (read_usually text) && is_judged_plain (read_usually text) && is_quiet_text five (stand_of (default_opts false)) (before_document (default_setting usual) empty_forest) text
+reads_itself text = is_written_so text (read_usually text) && is_judged_plain (read_usually text)
+    && is_quiet_text five (stand_of (default_opts false)) (before_document (default_setting usual) empty_forest) text
 
 -- a page with that in its body
 abbrev page : String → List ℕ
@@ -43,7 +48,9 @@ abbrev plain_texts : List (List ℕ)
 plain_texts =
     codes "<!DOCTYPE html><html><head></head><body></body></html>"
     ∷ codes "<!DOCTYPE html><html><head> <title></title></head> <body><ul> <li>a</li></ul></body></html>"
-    ∷ codes "<!DOCTYPE html><html lang=\"en\"><head id=\"h\"> <title class=\"t\">&lt;/title&gt;</title> </head><body data-1=\"\"></body></html>"
+    ∷
+    codes
+    "<!DOCTYPE html><html lang=\"en\"><head id=\"h\"> <title class=\"t\">&lt;/title&gt;</title> </head><body data-1=\"\"></body></html>"
     ∷ page "<p>a<br>b</p>" ∷ page "<b>1</b><p><b>2</b>3</p>" ∷ page "<p>ab</p>"
     ∷ page "<p>&amp;lt; &amp;amp; &nbsp; \"</p><a href=\"?a=&quot;1&quot;&amp;amp;b=&lt;2&gt;\">z</a>"
     -- more than three equal formatting elements: the fourth drives out the first
@@ -66,8 +73,11 @@ odd_texts =
     page "<p><p></p></p>" ∷ page "<p><div></div></p>" ∷ page "<a>1<a>2</a></a>" ∷ page "<h1><h2></h2></h1>"
     ∷ page "<table>x</table>" ∷ page "<table><tr></tr></table>" ∷ page "<br></br>" ∷ page "<b><p>1</b>2</p>"
     ∷ page "<li><div><li></li></div></li><li><li></li></li>" ∷ codes "<!DOCTYPE html><html><head>x</head><body></body></html>"
-    ∷ (codes "<!DOCTYPE html><html><head></head><body>a" ++ 13 ∷ codes "</body></html>") ∷ (codes "<!DOCTYPE html><html><head></head><body>a" ++ 0 ∷ codes "</body></html>")
-    ∷ page "<!-->a-->" ∷ page "<!--a--!>b-->" ∷ page "<!--<!--a-->b-->" ∷ (codes "<!DOCTYPE html><html><head></head><body><!--" ++ 13 ∷ codes "--></body></html>") ∷ (codes "<!DOCTYPE html><html><head></head><body><!--" ++ 0 ∷ codes "--></body></html>")
+    ∷ (codes "<!DOCTYPE html><html><head></head><body>a" ++ 13 ∷ codes "</body></html>") ∷
+    (codes "<!DOCTYPE html><html><head></head><body>a" ++ 0 ∷ codes "</body></html>")
+    ∷ page "<!-->a-->" ∷ page "<!--a--!>b-->" ∷ page "<!--<!--a-->b-->" ∷
+    (codes "<!DOCTYPE html><html><head></head><body><!--" ++ 13 ∷ codes "--></body></html>") ∷
+    (codes "<!DOCTYPE html><html><head></head><body><!--" ++ 0 ∷ codes "--></body></html>")
     ∷ []
 
 abbrev pub ArePlainTextsReadBack : Type 0

@@ -17,6 +17,7 @@ TakesQuietly rows s token new reply = (line : ℕ) → Takes step is_quiet asks_
 -- a text of slices, each of which spells a token that the rules take quietly
 pub data Reads (rows : List Row) : Stand → State → List ℕ → Stand → State → Type 0 where
   NoText : {st : Stand} {s : State} → Reads rows st s [] st s
-  TokenFirst : {st : Stand} {s : State} {last : Stand} {left : State} (next : Stand) (new : State) (slice rest : List ℕ) (token : Token) (reply : Reply)
+  TokenFirst : {st : Stand} {s : State} {last : Stand} {left : State} (next : Stand) (new : State)
+      (slice rest : List ℕ) (token : Token) (reply : Reply)
       → IsSpelled rows st slice token next → TakesQuietly rows s token new reply → Reads rows (next_stand next reply) new rest last left
       → Reads rows st s (slice ++ rest) last left

@@ -62,12 +62,30 @@ opened n k = record { number = n; namespace = Html; name = spelled k }
 
 -- a state in a mode, where no text waits
 abbrev pub at : Around → Option ℕ → InsertionMode → Forest → List Open → List Entry → Bool → State
-at around head m f stack entries ok = state around (record { mode = m; original = None; head = head; forest = f; stack = stack; entries = entries; frameset_ok = ok; waiting = [] })
+at around head m f stack entries ok = state around (record {
+  mode = m;
+  original = None;
+  head = head;
+  forest = f;
+  stack = stack;
+  entries = entries;
+  frameset_ok = ok;
+  waiting = [];
+})
 
 -- a state in a table, where text waits; the mode is kept
 abbrev pub waiting_at : Around → Option ℕ → InsertionMode → Forest → List Open → List Entry → Bool → List ℕ → State
 waiting_at around head m f stack entries ok text =
-    state around (record { mode = mode.InTableText; original = Some m; head = head; forest = f; stack = stack; entries = entries; frameset_ok = ok; waiting = text })
+    state around (record {
+      mode = mode.InTableText;
+      original = Some m;
+      head = head;
+      forest = f;
+      stack = stack;
+      entries = entries;
+      frameset_ok = ok;
+      waiting = text;
+    })
 
 -- what flow stands in: the body, outside of tables, or a cell
 pub data Home : Type 0 where

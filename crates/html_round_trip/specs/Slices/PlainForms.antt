@@ -15,6 +15,7 @@ pub record ArePlainFormsRead : Type 0 where
   pub names : (k : PlainElement) → is_tag_name (spelled k) ≡ true
   pub title : is_letter_name (spelled Title) ≡ true
   pub attributes : (attributes : List Attribute) → are_plain_attributes attributes ≡ true → AreReadBack attributes
-  pub values : (attributes : List Attribute) → are_plain_attributes attributes ≡ true → list_all (λ a. has_no_return a.value) attributes ≡ true
+  pub values : (attributes : List Attribute) → are_plain_attributes attributes ≡ true
+      → list_all (λ a. has_no_return a.value) attributes ≡ true
   pub texts : (text : List ℕ) → is_plain_text text ≡ true → (has_no_null text ≡ true) × (has_no_return text ≡ true)
   pub comments : (text : List ℕ) → is_plain_comment text ≡ true → (is_read_comment text ≡ true) × (has_no_return text ≡ true)

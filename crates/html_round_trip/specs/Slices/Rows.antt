@@ -3,7 +3,8 @@ use Rattle.std.specs.Prelude.{◌≡◌, ℕ, Bool, true, false, List, [], ◌�
 use Rattle.markup.specs.Escape.{escape, start_tag, end_tag, written_comment, written_doctype}
 use Rattle.html_tokens.specs.Clean.{is_clean_reading}
 use Rattle.html_tokens.specs.Listing.{empty, step}
-use Rattle.html_tokens.specs.RowForms.{Rows, AreRead, row_of, text, text_of, null, comment, comment_of, at, at_of, start, end, repeated, doctype, yes, no, raw_text, data_stand, five}
+use Rattle.html_tokens.specs.RowForms.{Rows, AreRead, row_of, text, text_of, null, comment, comment_of, at, at_of, start, end}
+use Rattle.html_tokens.specs.RowForms.{repeated, doctype, yes, no, raw_text, data_stand, five}
 
 -- each written form, and its token
 abbrev pub form_rows : Rows
@@ -11,15 +12,19 @@ form_rows =
     row_of (written_doctype (codes "html")) (doctype (yes "html") no no ∷ [])
     ∷ row_of (start_tag (codes "p") []) (start "p" [] ∷ [])
     ∷ row_of (start_tag (codes "h1") (at "id" "" ∷ at "data-1" "x y" ∷ [])) (start "h1" (at "id" "" ∷ at "data-1" "x y" ∷ []) ∷ [])
-    ∷ row_of (start_tag (codes "a") (at_of (codes "href") (codes "?a=\"1\"&b=<2>&amp;" ++ 0xA0 ∷ 10 ∷ []) ∷ [])) (start "a" (at_of (codes "href") (codes "?a=\"1\"&b=<2>&amp;" ++ 0xA0 ∷ 10 ∷ []) ∷ []) ∷ [])
+    ∷ row_of (start_tag (codes "a") (at_of (codes "href") (codes "?a=\"1\"&b=<2>&amp;" ++ 0xA0 ∷ 10 ∷ []) ∷ []))
+    (start "a" (at_of (codes "href") (codes "?a=\"1\"&b=<2>&amp;" ++ 0xA0 ∷ 10 ∷ []) ∷ []) ∷ [])
     ∷ row_of (end_tag (codes "h1")) (end "h1" [] ∷ [])
     ∷ row_of (escape (codes "a < b && c > \"d\" &lt;")) (text "a < b && c > \"d\" &lt;" ∷ [])
     ∷ row_of (escape (0xA0 ∷ 10 ∷ 0x1F600 ∷ [])) (text_of (0xA0 ∷ 10 ∷ 0x1F600 ∷ []) ∷ [])
     ∷ row_of (written_comment []) (comment "" ∷ [])
     ∷ row_of (written_comment (codes " c&amp;\"! " ++ 0xA0 ∷ 10 ∷ [])) (comment_of (codes " c&amp;\"! " ++ 0xA0 ∷ 10 ∷ []) ∷ [])
     -- in the text of a title tags are text, written or not
-    ∷ row_of (start_tag (codes "title") [] ++ escape (codes "a<b></titl>&") ++ end_tag (codes "title")) (start "title" [] ∷ text "a<b></titl>&" ∷ end "title" [] ∷ [])
-    ∷ row_of (written_doctype (codes "html") ++ start_tag (codes "p") (at "class" "\"" ∷ []) ++ escape (codes "1 & 2") ++ end_tag (codes "p")) (doctype (yes "html") no no ∷ start "p" (at "class" "\"" ∷ []) ∷ text "1 & 2" ∷ end "p" [] ∷ [])
+    ∷ row_of (start_tag (codes "title") [] ++ escape (codes "a<b></titl>&") ++ end_tag (codes "title"))
+    (start "title" [] ∷ text "a<b></titl>&" ∷ end "title" [] ∷ [])
+    ∷ row_of (written_doctype (codes "html") ++ start_tag (codes "p") (at "class" "\"" ∷ [])
+    ++ escape (codes "1 & 2") ++ end_tag (codes "p"))
+    (doctype (yes "html") no no ∷ start "p" (at "class" "\"" ∷ []) ∷ text "1 & 2" ∷ end "p" [] ∷ [])
     ∷ []
 
 abbrev pub AreFormRowsRead : Type 0

@@ -1,6 +1,8 @@
 //! Laws of reading written documents back. Each function's contract is one law.
-ghost use Rattle.html_round_trip.specs.ReadBack.Forms.{AreBlocksRead, AreCommentsRead, AreFramesRead, AreInlinesRead, ArePlainTreesRead, AreTablesRead, AreTextsRead, OfEachTable};
-ghost use Rattle.html_round_trip.specs.ReadBack.ReadBack.{AreDocumentsReadBack, ArePlainBytesReadAgain, ArePlainBytesStable, ArePlainForestsReadAgain};
+ghost use Rattle.html_round_trip.specs.ReadBack.Forms.{AreBlocksRead, AreCommentsRead, AreFramesRead, AreInlinesRead};
+ghost use Rattle.html_round_trip.specs.ReadBack.Forms.{ArePlainTreesRead, AreTablesRead, AreTextsRead, OfEachTable};
+ghost use Rattle.html_round_trip.specs.ReadBack.ReadBack.{AreDocumentsReadBack, ArePlainBytesReadAgain, ArePlainBytesStable};
+ghost use Rattle.html_round_trip.specs.ReadBack.ReadBack.{ArePlainForestsReadAgain};
 
 /// The doctype, `html`, `head` with white space and a title, white space, and `body` lead from one insertion mode to the next.
 pub fn frames_are_read()

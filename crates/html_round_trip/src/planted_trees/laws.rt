@@ -1,5 +1,6 @@
 //! Laws of planted trees. Each function's contract is one law.
-ghost use Rattle.html_round_trip.specs.Planting.Laws.{ArePlainDocumentsPlanted, ArePlainTreesPlantable, ArePlantedAlone, AreShownTreesWalked, IsPlantingLawful};
+ghost use Rattle.html_round_trip.specs.Planting.Laws.{ArePlainDocumentsPlanted, ArePlainTreesPlantable, ArePlantedAlone};
+ghost use Rattle.html_round_trip.specs.Planting.Laws.{AreShownTreesWalked, IsPlantingLawful};
 
 /// Trees that are planted in a node come last in it, and nothing else changes.
 pub fn planted_trees_are_added()

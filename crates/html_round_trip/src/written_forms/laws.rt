@@ -1,6 +1,7 @@
 //! Laws of reading written forms back, by a table that reads the references that escaping writes. Each function's contract is
 //! one law.
-ghost use Rattle.html_round_trip.specs.Slices.Laws.{AreFormsSpelled, AreFormsRead, AreFormsNoted, AreFormsClean, AreReaders, AreTextsRead, AreTextsNoted, AreTitlesRead, AreFormsNormal};
+ghost use Rattle.html_round_trip.specs.Slices.Laws.{AreFormsSpelled, AreFormsRead, AreFormsNoted, AreFormsClean, AreReaders};
+ghost use Rattle.html_round_trip.specs.Slices.Laws.{AreTextsRead, AreTextsNoted, AreTitlesRead, AreFormsNormal};
 ghost use Rattle.html_round_trip.specs.Slices.PlainForms.{ArePlainFormsRead};
 
 use html_tokens::sink::TokenSink;

@@ -1,6 +1,7 @@
 -- The "after after frameset" insertion mode (HTML Standard, section 13.2.6.4.21).
 use Rattle.std.specs.Prelude.{List, [], ◌∷◌}
-use Rattle.html_rules.specs.Table.{Row, StartTags, WhiteSpace, Comment, EndOfFile, AnythingElse, Nothing, ParseError, AppendCommentToDocument, Done, Using, row}
+use Rattle.html_rules.specs.Table.{Row, StartTags, WhiteSpace, Comment, EndOfFile, AnythingElse, Nothing, ParseError}
+use Rattle.html_rules.specs.Table.{AppendCommentToDocument, Done, Using, row}
 use Rattle.html_rules.specs.declared.insertion_mode.InsertionMode.TheVariants.{InHead, InBody}
 use Rattle.html_rules.specs.declared.tag_set.TagSet.TheVariants as set
 

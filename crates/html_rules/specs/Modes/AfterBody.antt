@@ -1,6 +1,7 @@
 -- The "after body" insertion mode (HTML Standard, section 13.2.6.4.17).
 use Rattle.std.specs.Prelude.{List, [], ◌∷◌}
-use Rattle.html_rules.specs.Table.{Row, StartTags, EndTags, WhiteSpace, Comment, EndOfFile, AnythingElse, InFragment, Nothing, ParseError, AppendCommentToRoot, SwitchTo, Done, Reprocess, Using, row, row_if}
+use Rattle.html_rules.specs.Table.{Row, StartTags, EndTags, WhiteSpace, Comment, EndOfFile, AnythingElse, InFragment, Nothing}
+use Rattle.html_rules.specs.Table.{ParseError, AppendCommentToRoot, SwitchTo, Done, Reprocess, Using, row, row_if}
 use Rattle.html_rules.specs.declared.insertion_mode.InsertionMode.TheVariants.{InBody, AfterAfterBody}
 use Rattle.html_rules.specs.declared.tag_set.TagSet.TheVariants as set
 

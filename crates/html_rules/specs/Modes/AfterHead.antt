@@ -1,6 +1,8 @@
 -- The "after head" insertion mode (HTML Standard, section 13.2.6.4.6).
 use Rattle.std.specs.Prelude.{List, [], ◌∷◌, codes}
-use Rattle.html_rules.specs.Table.{Row, StartTags, EndTags, AnyEndTag, WhiteSpace, Comment, AnythingElse, Nothing, ParseError, InsertElement, InsertNew, AppendText, AppendComment, PushHeadElem, RemoveHeadElem, SwitchTo, FramesetNotOk, Done, Reprocess, Using, UsingThen, row, ◌▸◌}
+use Rattle.html_rules.specs.Table.{Row, StartTags, EndTags, AnyEndTag, WhiteSpace, Comment, AnythingElse, Nothing, ParseError}
+use Rattle.html_rules.specs.Table.{InsertElement, InsertNew, AppendText, AppendComment, PushHeadElem, RemoveHeadElem, SwitchTo}
+use Rattle.html_rules.specs.Table.{FramesetNotOk, Done, Reprocess, Using, UsingThen, row, ◌▸◌}
 use Rattle.html_rules.specs.declared.insertion_mode.InsertionMode.TheVariants.{InHead, InBody, InFrameset}
 use Rattle.html_rules.specs.declared.tag_set.TagSet.TheVariants as set
 

@@ -1,6 +1,8 @@
 -- The "before head" insertion mode (HTML Standard, section 13.2.6.4.3).
 use Rattle.std.specs.Prelude.{List, [], ◌∷◌, codes}
-use Rattle.html_rules.specs.Table.{Row, StartTags, EndTags, AnyEndTag, WhiteSpace, Comment, AnythingElse, Nothing, ParseError, InsertElement, InsertNew, AppendComment, SetHeadElem, SwitchTo, Done, Reprocess, Using, row, ◌▸◌}
+use Rattle.html_rules.specs.Table.{Row, StartTags, EndTags, AnyEndTag, WhiteSpace, Comment, AnythingElse, Nothing, ParseError}
+use Rattle.html_rules.specs.Table.{InsertElement, InsertNew, AppendComment, SetHeadElem, SwitchTo, Done, Reprocess, Using, row}
+use Rattle.html_rules.specs.Table.{◌▸◌}
 use Rattle.html_rules.specs.declared.insertion_mode.InsertionMode.TheVariants.{InHead, InBody}
 use Rattle.html_rules.specs.declared.tag_set.TagSet.TheVariants as set
 

@@ -1,6 +1,8 @@
 -- The "in column group" insertion mode (HTML Standard, section 13.2.6.4.12).
 use Rattle.std.specs.Prelude.{List, [], ◌∷◌}
-use Rattle.html_rules.specs.Table.{Row, StartTags, EndTags, WhiteSpace, Comment, EndOfFile, AnythingElse, CurrentIs, Nothing, ParseError, InsertVoid, AppendText, AppendComment, Pop, SwitchTo, Done, Acknowledged, Reprocess, Using, row, row_if, ◌▸◌}
+use Rattle.html_rules.specs.Table.{Row, StartTags, EndTags, WhiteSpace, Comment, EndOfFile, AnythingElse, CurrentIs, Nothing}
+use Rattle.html_rules.specs.Table.{ParseError, InsertVoid, AppendText, AppendComment, Pop, SwitchTo, Done, Acknowledged}
+use Rattle.html_rules.specs.Table.{Reprocess, Using, row, row_if, ◌▸◌}
 use Rattle.html_rules.specs.declared.insertion_mode.InsertionMode.TheVariants.{InHead, InBody, InTable}
 use Rattle.html_rules.specs.declared.tag_set.TagSet.TheVariants as set
 

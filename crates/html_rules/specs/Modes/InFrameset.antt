@@ -1,6 +1,8 @@
 -- The "in frameset" insertion mode (HTML Standard, section 13.2.6.4.18).
 use Rattle.std.specs.Prelude.{List, [], ◌∷◌}
-use Rattle.html_rules.specs.Table.{Row, StartTags, EndTags, WhiteSpace, Comment, EndOfFile, AnythingElse, Not, Both, InFragment, CurrentIs, RootAlone, Nothing, When, ParseError, InsertElement, InsertVoid, AppendText, AppendComment, Pop, SwitchTo, Done, Acknowledged, Using, row, row_if, ◌▸◌}
+use Rattle.html_rules.specs.Table.{Row, StartTags, EndTags, WhiteSpace, Comment, EndOfFile, AnythingElse, Not, Both, InFragment}
+use Rattle.html_rules.specs.Table.{CurrentIs, RootAlone, Nothing, When, ParseError, InsertElement, InsertVoid, AppendText}
+use Rattle.html_rules.specs.Table.{AppendComment, Pop, SwitchTo, Done, Acknowledged, Using, row, row_if, ◌▸◌}
 use Rattle.html_rules.specs.declared.insertion_mode.InsertionMode.TheVariants.{InHead, InBody, AfterFrameset}
 use Rattle.html_rules.specs.declared.tag_set.TagSet.TheVariants as set
 

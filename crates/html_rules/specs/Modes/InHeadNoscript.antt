@@ -1,6 +1,7 @@
 -- The "in head noscript" insertion mode (HTML Standard, section 13.2.6.4.5).
 use Rattle.std.specs.Prelude.{List, [], ◌∷◌}
-use Rattle.html_rules.specs.Table.{Row, StartTags, EndTags, AnyEndTag, WhiteSpace, Comment, AnythingElse, Nothing, ParseError, Pop, SwitchTo, Done, Reprocess, Using, row, ◌▸◌}
+use Rattle.html_rules.specs.Table.{Row, StartTags, EndTags, AnyEndTag, WhiteSpace, Comment, AnythingElse, Nothing, ParseError}
+use Rattle.html_rules.specs.Table.{Pop, SwitchTo, Done, Reprocess, Using, row, ◌▸◌}
 use Rattle.html_rules.specs.declared.insertion_mode.InsertionMode.TheVariants.{InHead, InBody}
 use Rattle.html_rules.specs.declared.tag_set.TagSet.TheVariants as set
 

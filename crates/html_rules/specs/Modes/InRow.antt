@@ -1,6 +1,8 @@
 -- The "in row" insertion mode (HTML Standard, section 13.2.6.4.14).
 use Rattle.std.specs.Prelude.{List, [], ◌∷◌}
-use Rattle.html_rules.specs.Table.{Row, StartTags, EndTags, AnythingElse, Not, InScope, TokenInScope, Nothing, ParseError, InsertElement, Pop, ClearBackTo, InsertMarker, SwitchTo, Done, Reprocess, Using, row, row_if, ◌▸◌}
+use Rattle.html_rules.specs.Table.{Row, StartTags, EndTags, AnythingElse, Not, InScope, TokenInScope, Nothing, ParseError}
+use Rattle.html_rules.specs.Table.{InsertElement, Pop, ClearBackTo, InsertMarker, SwitchTo, Done, Reprocess, Using, row, row_if}
+use Rattle.html_rules.specs.Table.{◌▸◌}
 use Rattle.html_rules.specs.declared.insertion_mode.InsertionMode.TheVariants.{InTable, InTableBody, InCell}
 use Rattle.html_rules.specs.declared.tag_set.TagSet.TheVariants as set
 

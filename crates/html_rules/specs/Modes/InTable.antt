@@ -1,7 +1,12 @@
 -- The "in table" insertion mode (HTML Standard, section 13.2.6.4.9).
 use Rattle.std.specs.Prelude.{List, [], ◌∷◌, codes}
-use Rattle.html_rules.specs.Table.{Row, StartTags, EndTags, Character, Null, Comment, EndOfFile, AnythingElse, Not, Both, CurrentIs, TemplateOpen, InScope, HasFormElem, TypeHidden, Nothing, ParseError, InsertElement, InsertVoid, InsertFormVoid, InsertNew, AppendComment, PopUntil, ClearBackTo, InsertMarker, SwitchTo, SaveMode, ResetMode, EnableFosterParenting, Done, Acknowledged, Reprocess, ReprocessInMode, Using, row, row_if, ◌▸◌, fostered}
-use Rattle.html_rules.specs.declared.insertion_mode.InsertionMode.TheVariants.{InHead, InBody, InTableText, InCaption, InColumnGroup, InTableBody}
+use Rattle.html_rules.specs.Table.{Row, StartTags, EndTags, Character, Null, Comment, EndOfFile, AnythingElse, Not, Both}
+use Rattle.html_rules.specs.Table.{CurrentIs, TemplateOpen, InScope, HasFormElem, TypeHidden, Nothing, ParseError}
+use Rattle.html_rules.specs.Table.{InsertElement, InsertVoid, InsertFormVoid, InsertNew, AppendComment, PopUntil, ClearBackTo}
+use Rattle.html_rules.specs.Table.{InsertMarker, SwitchTo, SaveMode, ResetMode, EnableFosterParenting, Done, Acknowledged}
+use Rattle.html_rules.specs.Table.{Reprocess, ReprocessInMode, Using, row, row_if, ◌▸◌, fostered}
+use Rattle.html_rules.specs.declared.insertion_mode.InsertionMode.TheVariants.{InHead, InBody, InTableText, InCaption}
+use Rattle.html_rules.specs.declared.insertion_mode.InsertionMode.TheVariants.{InColumnGroup, InTableBody}
 use Rattle.html_rules.specs.declared.tag_set.TagSet.TheVariants as set
 
 abbrev pub in_table : List Row

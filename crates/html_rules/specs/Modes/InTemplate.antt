@@ -1,6 +1,8 @@
 -- The "in template" insertion mode (HTML Standard, section 13.2.6.4.16).
 use Rattle.std.specs.Prelude.{List, [], ◌∷◌}
-use Rattle.html_rules.specs.Table.{Row, StartTags, EndTags, AnyStartTag, Character, Comment, EndOfFile, AnythingElse, TemplateOpen, Nothing, ParseError, PopUntil, ClearToMarker, ResetMode, SetTemplateMode, PopTemplateMode, Done, Reprocess, ReprocessInMode, Using, row, row_if, ◌▸◌}
+use Rattle.html_rules.specs.Table.{Row, StartTags, EndTags, AnyStartTag, Character, Comment, EndOfFile, AnythingElse}
+use Rattle.html_rules.specs.Table.{TemplateOpen, Nothing, ParseError, PopUntil, ClearToMarker, ResetMode, SetTemplateMode}
+use Rattle.html_rules.specs.Table.{PopTemplateMode, Done, Reprocess, ReprocessInMode, Using, row, row_if, ◌▸◌}
 use Rattle.html_rules.specs.declared.insertion_mode.InsertionMode.TheVariants.{InHead, InBody, InTable, InColumnGroup, InTableBody, InRow}
 use Rattle.html_rules.specs.declared.tag_set.TagSet.TheVariants as set
 

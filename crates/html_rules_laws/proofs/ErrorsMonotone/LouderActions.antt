@@ -7,11 +7,19 @@ use Rattle.markup.specs.declared.quirks.QuirksMode.{QuirksMode}
 use Rattle.markup.specs.declared.quirks.QuirksMode.TheVariants.{Quirks}
 use Rattle.html_tokens.specs.declared.tags.Tag.{Tag}
 use Rattle.html_tokens.specs.declared.token.Token.{Token}
-use Rattle.html_tokens.specs.declared.token.Token.TheVariants.{DoctypeToken, TagToken, CommentToken, CharacterTokens, NullCharacterToken, EOFToken, ParseError as ErrorToken}
-use Rattle.html_rules.specs.Actions.{act, append_in_body, restore_mode, for_tag, forget_form_elem, frameset_not_ok, frameset_not_ok_unless_white, insert_form_void, save_mode, keep_text, pop_template_mode, push_head, push_head_elem, push_template_mode, remove_form_elem, remove_from_stack_if, remove_head_elem, set_form_elem, set_foster_parenting, set_head_elem, set_ignore_lf, set_mode, set_quirks_mode, set_template_mode, insert_pending_text, insert_table_text, without_pending_text}
+use Rattle.html_tokens.specs.declared.token.Token.TheVariants.{DoctypeToken, TagToken, CommentToken, CharacterTokens}
+use Rattle.html_tokens.specs.declared.token.Token.TheVariants.{NullCharacterToken, EOFToken, ParseError as ErrorToken}
+use Rattle.html_rules.specs.Actions.{act, append_in_body, restore_mode, for_tag, forget_form_elem, frameset_not_ok}
+use Rattle.html_rules.specs.Actions.{frameset_not_ok_unless_white, insert_form_void, save_mode, keep_text, pop_template_mode}
+use Rattle.html_rules.specs.Actions.{push_head, push_head_elem, push_template_mode, remove_form_elem, remove_from_stack_if}
+use Rattle.html_rules.specs.Actions.{remove_head_elem, set_form_elem, set_foster_parenting, set_head_elem, set_ignore_lf}
+use Rattle.html_rules.specs.Actions.{set_mode, set_quirks_mode, set_template_mode, insert_pending_text, insert_table_text}
+use Rattle.html_rules.specs.Actions.{without_pending_text}
 use Rattle.html_rules.specs.Choice.{choose}
 use Rattle.html_rules.specs.Conditions.{holds}
-use Rattle.html_rules.specs.ForeignContent.{ForeignEnd, Dropped, AsInMode, Closed, close_foreign, close_foreign_by, enter_foreign, foreign_end, foreign_start, foreign_start_at, is_foreign, is_foreign_at, pop_foreign}
+use Rattle.html_rules.specs.ForeignContent.{ForeignEnd, Dropped, AsInMode, Closed, close_foreign, close_foreign_by}
+use Rattle.html_rules.specs.ForeignContent.{enter_foreign, foreign_end, foreign_start, foreign_start_at, is_foreign}
+use Rattle.html_rules.specs.ForeignContent.{is_foreign_at, pop_foreign}
 use Rattle.html_rules.specs.Formatting.{create_formatting_element_for, reconstruct_active_formatting_elements}
 use Rattle.html_rules.specs.Names.{Namespace, Html}
 use Rattle.html_rules.specs.Places.{append_text, insert_and_pop_element_for, insert_element, insert_element_for, open_element, put_element}
@@ -19,7 +27,22 @@ use Rattle.html_rules.specs.Renames.{adjust_attributes, adjust_tag_name}
 use Rattle.html_rules.specs.Reset.{mode_of, mode_of_context, mode_of_open, reset_insertion_mode}
 use Rattle.html_rules.specs.Stack.{parse_error, pop, pop_until_current}
 use Rattle.html_rules.specs.State.{Open, State, adjusted_current_node, current_number, is_in, is_named}
-use Rattle.html_rules.specs.Table.{Action, Nothing, Then, When, ParseError, InsertElement, InsertVoid, InsertVoidAs, InsertFormVoid, InsertNew, InsertNewVoid, CreateRoot, CreateNewRoot, AppendText, AppendReplacement, AppendComment, AppendCommentToDocument, AppendCommentToRoot, InsertTemplate, AddAttributesToRoot, AddAttributesToBody, RemoveBody, Pop, PopUntil, ClearBackTo, Close, CloseToken, CloseP, CloseItem, ImpliedEndTags, ImpliedEndTagsExcept, ImpliedEndTagsExceptToken, ImpliedEndTagsThoroughly, AnyOtherEndTag, CheckBodyEnd, SetHeadElem, PushHeadElem, RemoveHeadElem, SetFormElem, ForgetFormElem, RemoveFormElem, Reconstruct, InsertFormatting, InsertMarker, ClearToMarker, AdoptionAgency, AdoptNobr, CloseMisnestedA, SwitchTo, SaveMode, RestoreMode, ResetMode, PushTemplateMode, SetTemplateMode, PopTemplateMode, SetQuirks, FramesetNotOk, FramesetNotOkUnlessWhite, IgnoreLineFeed, EnableFosterParenting, DisableFosterParenting, KeepText, InsertPendingText, EnterForeign, InsertForeign, PopForeign, CloseForeign, Condition, Always, Not, Both, ScriptingEnabled, IframeSrcdoc, InFragment, ContextIs, InQuirksMode, FramesetOk, CurrentIs, CurrentIsToken, RootAlone, SecondIsBody, TemplateOpen, HasTemplateModes, InScope, TokenInScope, HasFormElem, FormElemInScope, FormElemIsCurrent, AListed, TypeHidden, FontAttributes, EndsInHtml, ForeignEndError}
+use Rattle.html_rules.specs.Table.{Action, Nothing, Then, When, ParseError, InsertElement, InsertVoid, InsertVoidAs}
+use Rattle.html_rules.specs.Table.{InsertFormVoid, InsertNew, InsertNewVoid, CreateRoot, CreateNewRoot, AppendText}
+use Rattle.html_rules.specs.Table.{AppendReplacement, AppendComment, AppendCommentToDocument, AppendCommentToRoot}
+use Rattle.html_rules.specs.Table.{InsertTemplate, AddAttributesToRoot, AddAttributesToBody, RemoveBody, Pop, PopUntil}
+use Rattle.html_rules.specs.Table.{ClearBackTo, Close, CloseToken, CloseP, CloseItem, ImpliedEndTags, ImpliedEndTagsExcept}
+use Rattle.html_rules.specs.Table.{ImpliedEndTagsExceptToken, ImpliedEndTagsThoroughly, AnyOtherEndTag, CheckBodyEnd}
+use Rattle.html_rules.specs.Table.{SetHeadElem, PushHeadElem, RemoveHeadElem, SetFormElem, ForgetFormElem, RemoveFormElem}
+use Rattle.html_rules.specs.Table.{Reconstruct, InsertFormatting, InsertMarker, ClearToMarker, AdoptionAgency, AdoptNobr}
+use Rattle.html_rules.specs.Table.{CloseMisnestedA, SwitchTo, SaveMode, RestoreMode, ResetMode, PushTemplateMode}
+use Rattle.html_rules.specs.Table.{SetTemplateMode, PopTemplateMode, SetQuirks, FramesetNotOk, FramesetNotOkUnlessWhite}
+use Rattle.html_rules.specs.Table.{IgnoreLineFeed, EnableFosterParenting, DisableFosterParenting, KeepText, InsertPendingText}
+use Rattle.html_rules.specs.Table.{EnterForeign, InsertForeign, PopForeign, CloseForeign, Condition, Always, Not, Both}
+use Rattle.html_rules.specs.Table.{ScriptingEnabled, IframeSrcdoc, InFragment, ContextIs, InQuirksMode, FramesetOk, CurrentIs}
+use Rattle.html_rules.specs.Table.{CurrentIsToken, RootAlone, SecondIsBody, TemplateOpen, HasTemplateModes, InScope}
+use Rattle.html_rules.specs.Table.{TokenInScope, HasFormElem, FormElemInScope, FormElemIsCurrent, AListed, TypeHidden}
+use Rattle.html_rules.specs.Table.{FontAttributes, EndsInHtml, ForeignEndError}
 use Rattle.html_rules.specs.Templates.{attach_shadow_root, insert_template, may_be_shadow_root, number_of}
 use Rattle.html_rules.specs.Tokens.{attributes_of, is_white, name_of, text_of}
 use Rattle.html_rules.specs.declared.insertion_mode.InsertionMode.{InsertionMode}
@@ -27,7 +50,20 @@ use Rattle.html_rules.specs.declared.insertion_mode.InsertionMode.TheVariants.{I
 use Rattle.html_rules.specs.declared.tag_set.TagSet.TheVariants as set
 use Rattle.html_rules_laws.specs.Errors.{Commutes, louder}
 use Rattle.html_rules_laws.proofs.ErrorsMonotone.LouderAdoption.{adoption_agency-louder, misnested-louder}
-use Rattle.html_rules_laws.proofs.ErrorsMonotone.LouderSteps.{IsLoud, add_attributes_to_body-louder, add_attributes_to_root-louder, append_comment-louder, append_comment_to_doc-louder, append_comment_to_html-louder, append_text-louder, check_body_end-louder, choose-louder, clear-louder, close_item-louder, close_p-louder, create_formatting_element_for-louder, create_root-louder, expect_to_close-louder, generate_implied_end_except-louder, generate_implied_end_tags-louder, insert_element-louder, insert_element_for-louder, open_element-louder, parse_error-louder, pop-louder, pop_but_root-louder, pop_until-louder, process_end_tag_in_body-louder, push_marker-louder, put_element-louder, reconstruct-louder, remove_body-louder, remove_from_stack-louder, same-louder, then-louder}
+use Rattle.html_rules_laws.proofs.ErrorsMonotone.LouderSteps.{IsLoud, add_attributes_to_body-louder}
+use Rattle.html_rules_laws.proofs.ErrorsMonotone.LouderSteps.{add_attributes_to_root-louder, append_comment-louder}
+use Rattle.html_rules_laws.proofs.ErrorsMonotone.LouderSteps.{append_comment_to_doc-louder, append_comment_to_html-louder}
+use Rattle.html_rules_laws.proofs.ErrorsMonotone.LouderSteps.{append_text-louder, check_body_end-louder, choose-louder}
+use Rattle.html_rules_laws.proofs.ErrorsMonotone.LouderSteps.{clear-louder, close_item-louder, close_p-louder}
+use Rattle.html_rules_laws.proofs.ErrorsMonotone.LouderSteps.{create_formatting_element_for-louder, create_root-louder}
+use Rattle.html_rules_laws.proofs.ErrorsMonotone.LouderSteps.{expect_to_close-louder, generate_implied_end_except-louder}
+use Rattle.html_rules_laws.proofs.ErrorsMonotone.LouderSteps.{generate_implied_end_tags-louder, insert_element-louder}
+use Rattle.html_rules_laws.proofs.ErrorsMonotone.LouderSteps.{insert_element_for-louder, open_element-louder}
+use Rattle.html_rules_laws.proofs.ErrorsMonotone.LouderSteps.{parse_error-louder, pop-louder, pop_but_root-louder}
+use Rattle.html_rules_laws.proofs.ErrorsMonotone.LouderSteps.{pop_until-louder, process_end_tag_in_body-louder}
+use Rattle.html_rules_laws.proofs.ErrorsMonotone.LouderSteps.{push_marker-louder, put_element-louder, reconstruct-louder}
+use Rattle.html_rules_laws.proofs.ErrorsMonotone.LouderSteps.{remove_body-louder, remove_from_stack-louder, same-louder}
+use Rattle.html_rules_laws.proofs.ErrorsMonotone.LouderSteps.{then-louder}
 
 module _ (g : ℕ → ℕ) (commutes : Commutes g) where
   pub holds-louder : (c : Condition) (t : Token) (s : State) → holds c t (louder g s) ≡ holds c t s
@@ -79,11 +115,15 @@ module _ (g : ℕ → ℕ) (commutes : Commutes g) where
   mode_of_context-louder (Some x) s = refl
 
   before-same : (s : State) (x : Open) (c c' m m' : InsertionMode) → c ≡ c' → m ≡ m' →
-      choose (is_in set.TdTh x) (λ _. InCell) (λ _. choose (is_in set.Head x) (λ _. InHead) (λ _. choose (is_in set.Html x) (λ _. c) (λ _. mode_of s x (λ _. m))))
-      ≡ choose (is_in set.TdTh x) (λ _. InCell) (λ _. choose (is_in set.Head x) (λ _. InHead) (λ _. choose (is_in set.Html x) (λ _. c') (λ _. mode_of s x (λ _. m'))))
+      choose (is_in set.TdTh x) (λ _. InCell)
+      (λ _. choose (is_in set.Head x) (λ _. InHead) (λ _. choose (is_in set.Html x) (λ _. c) (λ _. mode_of s x (λ _. m))))
+      ≡ choose (is_in set.TdTh x) (λ _. InCell)
+      (λ _. choose (is_in set.Head x) (λ _. InHead) (λ _. choose (is_in set.Html x) (λ _. c') (λ _. mode_of s x (λ _. m'))))
   before-same s x c c' m m' e e' =
-      ap (λ c. choose (is_in set.TdTh x) (λ _. InCell) (λ _. choose (is_in set.Head x) (λ _. InHead) (λ _. choose (is_in set.Html x) (λ _. c) (λ _. mode_of s x (λ _. m))))) e
-      ∙ ap (λ m. choose (is_in set.TdTh x) (λ _. InCell) (λ _. choose (is_in set.Head x) (λ _. InHead) (λ _. choose (is_in set.Html x) (λ _. c') (λ _. mode_of s x (λ _. m))))) e'
+      ap (λ c. choose (is_in set.TdTh x) (λ _. InCell)
+      (λ _. choose (is_in set.Head x) (λ _. InHead) (λ _. choose (is_in set.Html x) (λ _. c) (λ _. mode_of s x (λ _. m))))) e
+      ∙ ap (λ m. choose (is_in set.TdTh x) (λ _. InCell)
+      (λ _. choose (is_in set.Head x) (λ _. InHead) (λ _. choose (is_in set.Html x) (λ _. c') (λ _. mode_of s x (λ _. m))))) e'
 
   mode_of_open-louder : (xs : List Open) (s : State) → mode_of_open (louder g s) xs ≡ mode_of_open s xs
   mode_of_open-louder [] s = refl
@@ -122,10 +162,12 @@ module _ (g : ℕ → ℕ) (commutes : Commutes g) where
   append_in_body-louder : (text : List ℕ) → IsLoud g commutes (append_in_body text)
   append_in_body-louder text =
       then-louder g commutes (λ s. frameset_not_ok_unless_white text (reconstruct_active_formatting_elements s)) (append_text text)
-      (then-louder g commutes reconstruct_active_formatting_elements (frameset_not_ok_unless_white text) (reconstruct-louder g commutes) (unless_white-louder text))
+      (then-louder g commutes reconstruct_active_formatting_elements (frameset_not_ok_unless_white text)
+      (reconstruct-louder g commutes) (unless_white-louder text))
       (append_text-louder g commutes text)
 
-  fostered-louder : (text : List ℕ) → IsLoud g commutes (λ s. set_foster_parenting false (append_in_body text (set_foster_parenting true (parse_error s))))
+  fostered-louder : (text : List ℕ)
+      → IsLoud g commutes (λ s. set_foster_parenting false (append_in_body text (set_foster_parenting true (parse_error s))))
   fostered-louder text =
       then-louder g commutes (λ s. append_in_body text (set_foster_parenting true (parse_error s))) (set_foster_parenting false)
       (then-louder g commutes (λ s. set_foster_parenting true (parse_error s)) (append_in_body text)
@@ -134,7 +176,9 @@ module _ (g : ℕ → ℕ) (commutes : Commutes g) where
       (set_foster-louder false)
 
   insert_table_text-louder : (text : List ℕ) → IsLoud g commutes (insert_table_text text)
-  insert_table_text-louder text s = choose-louder g commutes (is_white text) (append_text text) (λ s. set_foster_parenting false (append_in_body text (set_foster_parenting true (parse_error s)))) (append_text-louder g commutes text) (fostered-louder text) s
+  insert_table_text-louder text s = choose-louder g commutes (is_white text) (append_text text)
+      (λ s. set_foster_parenting false (append_in_body text (set_foster_parenting true (parse_error s))))
+      (append_text-louder g commutes text) (fostered-louder text) s
 
   tell_pending-louder : IsLoud g commutes insert_pending_text
   unfolding insert_pending_text
@@ -155,7 +199,9 @@ module _ (g : ℕ → ℕ) (commutes : Commutes g) where
   enter_foreign-louder : (namespace : Namespace) (tag : Tag) → IsLoud g commutes (enter_foreign namespace tag)
   unfolding enter_foreign
   enter_foreign-louder namespace tag s =
-      choose-louder g commutes tag.self_closing (put_element namespace tag.name (adjust_attributes namespace tag.attrs) tag.had_duplicate_attributes) (insert_element namespace tag.name (adjust_attributes namespace tag.attrs) tag.had_duplicate_attributes)
+      choose-louder g commutes tag.self_closing
+      (put_element namespace tag.name (adjust_attributes namespace tag.attrs) tag.had_duplicate_attributes)
+      (insert_element namespace tag.name (adjust_attributes namespace tag.attrs) tag.had_duplicate_attributes)
       (put_element-louder g commutes namespace tag.name (adjust_attributes namespace tag.attrs) tag.had_duplicate_attributes)
       (insert_element-louder g commutes namespace tag.name (adjust_attributes namespace tag.attrs) tag.had_duplicate_attributes) s
 
@@ -172,19 +218,27 @@ module _ (g : ℕ → ℕ) (commutes : Commutes g) where
 
   attach-louder : (tag : Tag) (host : ℕ) → IsLoud g commutes (attach_shadow_root tag host)
   attach-louder tag host opened =
-      choose-louder g commutes (opened.answers.attaches_shadow (with_errors 0 opened.forest) host (current_number opened.open_elems) tag.attrs) (λ s. s) (λ s. insert_element_for tag (pop s))
-      (same-louder g commutes) (then-louder g commutes pop (insert_element_for tag) (pop-louder g commutes) (insert_element_for-louder g commutes tag)) opened
+      choose-louder g commutes (opened.answers.attaches_shadow (with_errors 0 opened.forest) host
+      (current_number opened.open_elems) tag.attrs) (λ s. s) (λ s. insert_element_for tag (pop s))
+      (same-louder g commutes) (then-louder g commutes pop (insert_element_for tag) (pop-louder g commutes)
+      (insert_element_for-louder g commutes tag)) opened
 
   insert_template-louder : (tag : Tag) → IsLoud g commutes (insert_template tag)
   unfolding insert_template
   insert_template-louder tag s =
-      choose-louder g commutes (may_be_shadow_root tag s) (λ r. attach_shadow_root tag (number_of (adjusted_current_node s)) (open_element Html tag.name tag.attrs tag.had_duplicate_attributes r)) (insert_element_for tag)
-      (then-louder g commutes (open_element Html tag.name tag.attrs tag.had_duplicate_attributes) (attach_shadow_root tag (number_of (adjusted_current_node s))) (open_element-louder g commutes Html tag.name tag.attrs tag.had_duplicate_attributes) (attach-louder tag (number_of (adjusted_current_node s))))
+      choose-louder g commutes (may_be_shadow_root tag s)
+      (λ r. attach_shadow_root tag (number_of (adjusted_current_node s))
+      (open_element Html tag.name tag.attrs tag.had_duplicate_attributes r)) (insert_element_for tag)
+      (then-louder g commutes (open_element Html tag.name tag.attrs tag.had_duplicate_attributes)
+      (attach_shadow_root tag (number_of (adjusted_current_node s)))
+      (open_element-louder g commutes Html tag.name tag.attrs tag.had_duplicate_attributes)
+      (attach-louder tag (number_of (adjusted_current_node s))))
       (insert_element_for-louder g commutes tag) s
 
   -- an action for a tag
 
-  for_tag-louder : (step : Tag → State → State) (t : Token) → ((tag : Tag) → IsLoud g commutes (step tag)) → IsLoud g commutes (for_tag step t)
+  for_tag-louder : (step : Tag → State → State) (t : Token) → ((tag : Tag) → IsLoud g commutes (step tag))
+      → IsLoud g commutes (for_tag step t)
   for_tag-louder step (TagToken tag) is s = is tag s
   for_tag-louder step _ is s = refl
 
@@ -194,18 +248,23 @@ module _ (g : ℕ → ℕ) (commutes : Commutes g) where
   form_void-louder : (tag : Tag) → IsLoud g commutes (insert_form_void tag)
   form_void-louder tag s = ap {A = State} (λ made. record made { form_elem = Some (node_count s.forest) }) (void-louder tag s)
 
-  when-louder : (b : Bool) (b' : Bool) (f : State → State) → b' ≡ b → IsLoud g commutes f → (s : State) → choose b' (λ _. f (louder g s)) (λ _. louder g s) ≡ louder g (choose b (λ _. f s) (λ _. s))
-  when-louder b b' f e is s = ap (λ b. choose b (λ _. f (louder g s)) (λ _. louder g s)) e ∙ choose-louder g commutes b f (λ s. s) is (same-louder g commutes) s
+  when-louder : (b : Bool) (b' : Bool) (f : State → State) → b' ≡ b → IsLoud g commutes f → (s : State)
+      → choose b' (λ _. f (louder g s)) (λ _. louder g s) ≡ louder g (choose b (λ _. f s) (λ _. s))
+  when-louder b b' f e is s = ap (λ b. choose b (λ _. f (louder g s)) (λ _. louder g s)) e
+      ∙ choose-louder g commutes b f (λ s. s) is (same-louder g commutes) s
 
   pub act-louder : (a : Action) (t : Token) → IsLoud g commutes (act a t)
-  unfolding save_mode push_template_mode pop_template_mode set_template_mode frameset_not_ok set_head_elem push_head_elem remove_head_elem set_form_elem forget_form_elem remove_form_elem keep_text foreign_start pop_foreign close_foreign foreign_end pop_until_current
+  unfolding save_mode push_template_mode pop_template_mode set_template_mode frameset_not_ok set_head_elem
+      push_head_elem remove_head_elem set_form_elem forget_form_elem remove_form_elem keep_text foreign_start
+      pop_foreign close_foreign foreign_end pop_until_current
   act-louder Nothing t s = refl
   act-louder (Then a b) t s = then-louder g commutes (act a t) (act b t) (act-louder a t) (act-louder b t) s
   act-louder (When c a) t s = when-louder (holds c t s) (holds c t (louder g s)) (act a t) (holds-louder c t s) (act-louder a t) s
   act-louder ParseError t s = parse_error-louder g commutes s
   act-louder InsertElement t s = for_tag-louder insert_element_for t (insert_element_for-louder g commutes) s
   act-louder InsertVoid t s = for_tag-louder insert_and_pop_element_for t void-louder s
-  act-louder (InsertVoidAs name) t s = for_tag-louder (λ tag. insert_and_pop_element_for (record tag { name = name })) t (λ tag. void-louder (record tag { name = name })) s
+  act-louder (InsertVoidAs name) t s =
+      for_tag-louder (λ tag. insert_and_pop_element_for (record tag { name = name })) t (λ tag. void-louder (record tag { name = name })) s
   act-louder InsertFormVoid t s = for_tag-louder insert_form_void t form_void-louder s
   act-louder (InsertNew name) t s = insert_element-louder g commutes Html name [] false s
   act-louder (InsertNewVoid name) t s = put_element-louder g commutes Html name [] false s

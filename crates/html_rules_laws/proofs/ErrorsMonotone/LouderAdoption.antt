@@ -4,7 +4,10 @@ use Rattle.std.specs.Prelude.{not, ◌&&◌, ◌++◌}
 use Rattle.markup.specs.Forest.{Forest, Last, node_count, put, remove, reparent_children}
 use Rattle.markup.proofs.ErrorsApart.{errors-apart}
 use Rattle.html_tokens.specs.declared.tags.Tag.{Tag}
-use Rattle.html_rules.specs.Adoption.{Turned, Walk, adopt, adopt_from, adopt_listed, adopt_open, adoption_agency, adoption_turn, adoption_turns, begin_walk, between, close_misnested, copy_if, copy_node, error_if_not_current, furthest_block, go_on, handle_misnested_a_tags, is_number, listed_as, opened_after, opened_before, opened_for, relist, unlist, walk, with_copy}
+use Rattle.html_rules.specs.Adoption.{Turned, Walk, adopt, adopt_from, adopt_listed, adopt_open, adoption_agency, adoption_turn}
+use Rattle.html_rules.specs.Adoption.{adoption_turns, begin_walk, between, close_misnested, copy_if, copy_node}
+use Rattle.html_rules.specs.Adoption.{error_if_not_current, furthest_block, go_on, handle_misnested_a_tags, is_number}
+use Rattle.html_rules.specs.Adoption.{listed_as, opened_after, opened_before, opened_for, relist, unlist, walk, with_copy}
 use Rattle.html_rules.specs.Choice.{choose}
 use Rattle.html_rules.specs.Formatting.{Listed, is_listed, last_named, with_in_place, without_entry}
 use Rattle.html_rules.specs.Names.{Html}
@@ -13,7 +16,10 @@ use Rattle.html_rules.specs.Stack.{in_scope, is_open, parse_error, pop, remove_f
 use Rattle.html_rules.specs.State.{Open, Element, State, current_is, current_node, current_number, is_named}
 use Rattle.html_rules.specs.declared.tag_set.TagSet.TheVariants as set
 use Rattle.html_rules_laws.specs.Errors.{Commutes, louder, louder_forest}
-use Rattle.html_rules_laws.proofs.ErrorsMonotone.LouderSteps.{IsLoud, apart-louder, choose-louder, parse_error-louder, place_for-louder, pop-louder, process_end_tag_in_body-louder, remove_from_stack-louder, same-louder, then-louder, with_element-louder}
+use Rattle.html_rules_laws.proofs.ErrorsMonotone.LouderSteps.{IsLoud, apart-louder, choose-louder, parse_error-louder}
+use Rattle.html_rules_laws.proofs.ErrorsMonotone.LouderSteps.{place_for-louder, pop-louder, process_end_tag_in_body-louder}
+use Rattle.html_rules_laws.proofs.ErrorsMonotone.LouderSteps.{remove_from_stack-louder, same-louder, then-louder}
+use Rattle.html_rules_laws.proofs.ErrorsMonotone.LouderSteps.{with_element-louder}
 
 abbrev louder_walk : (ℕ → ℕ) → Walk → Walk
 louder_walk g w = record w { forest = louder_forest g w.forest }
@@ -50,39 +56,51 @@ module _ (g : ℕ → ℕ) (commutes : Commutes g) where
 
   -- the last node is put at its place
   placed : Listed → Walk → State → Forest → Forest
-  placed formatting_element w s f = put f (place_for s.foster_parenting f s.open_elems (current_node (opened_before formatting_element.number s.open_elems))) w.last_node
+  placed formatting_element w s f =
+      put f (place_for s.foster_parenting f s.open_elems (current_node (opened_before formatting_element.number s.open_elems))) w.last_node
 
-  placed-louder : (formatting_element : Listed) (w : Walk) (s : State) (f : Forest) → placed formatting_element w s (louder_forest g f) ≡ louder_forest g (placed formatting_element w s f)
+  placed-louder : (formatting_element : Listed) (w : Walk) (s : State) (f : Forest) → placed formatting_element w s
+      (louder_forest g f) ≡ louder_forest g (placed formatting_element w s f)
   unfolding placed
   placed-louder formatting_element w s f =
-      ap (λ place. put (louder_forest g f) place w.last_node) (place_for-louder g commutes s.foster_parenting f s.open_elems (current_node (opened_before formatting_element.number s.open_elems)))
+      ap (λ place. put (louder_forest g f) place w.last_node)
+      (place_for-louder g commutes s.foster_parenting f s.open_elems
+      (current_node (opened_before formatting_element.number s.open_elems)))
 
   -- what follows once it is put
   finished : Listed → Open → Walk → State → Forest → State
   finished formatting_element block w s f = record s {
     forest = put (reparent_children (with_copy f formatting_element.tag) block.number (node_count f)) (Last block.number) (node_count f);
     active_formatting = relist formatting_element.number (Element (node_count f) formatting_element.tag) w.copies w.active_formatting;
-    open_elems = opened_after block.number s.open_elems ++ opened_for f formatting_element.tag ∷ block ∷ w.copies ++ opened_before formatting_element.number s.open_elems;
+    open_elems = opened_after block.number s.open_elems ++ opened_for f formatting_element.tag ∷ block ∷ w.copies
+        ++ opened_before formatting_element.number s.open_elems;
   }
 
-  finished-louder : (formatting_element : Listed) (block : Open) (w : Walk) (s : State) (f : Forest) → finished formatting_element block w s (louder_forest g f) ≡ louder g (finished formatting_element block w s f)
+  finished-louder : (formatting_element : Listed) (block : Open) (w : Walk) (s : State) (f : Forest)
+      → finished formatting_element block w s (louder_forest g f) ≡ louder g (finished formatting_element block w s f)
   unfolding finished
   finished-louder formatting_element block w s f =
       ap (λ made. record s {
         forest = put (reparent_children made block.number (node_count f)) (Last block.number) (node_count f);
         active_formatting = relist formatting_element.number (Element (node_count f) formatting_element.tag) w.copies w.active_formatting;
-        open_elems = opened_after block.number s.open_elems ++ opened_for f formatting_element.tag ∷ block ∷ w.copies ++ opened_before formatting_element.number s.open_elems;
+        open_elems = opened_after block.number s.open_elems ++ opened_for f formatting_element.tag ∷ block ∷
+            w.copies ++ opened_before formatting_element.number s.open_elems;
       }) (with_copy-louder formatting_element.tag f)
 
-  adopt-is : (formatting_element : Listed) (block : Open) (w : Walk) (s : State) → adopt formatting_element block w s ≡ finished formatting_element block w s (placed formatting_element w s (remove w.forest w.last_node))
+  adopt-is : (formatting_element : Listed) (block : Open) (w : Walk) (s : State)
+      → adopt formatting_element block w s ≡ finished formatting_element block w s
+      (placed formatting_element w s (remove w.forest w.last_node))
   unfolding finished placed
   adopt-is formatting_element block w s = refl
 
-  adopt-is-louder : (formatting_element : Listed) (block : Open) (w : Walk) (s : State) → adopt formatting_element block (louder_walk g w) (louder g s) ≡ finished formatting_element block w s (placed formatting_element w s (remove (louder_forest g w.forest) w.last_node))
+  adopt-is-louder : (formatting_element : Listed) (block : Open) (w : Walk) (s : State)
+      → adopt formatting_element block (louder_walk g w) (louder g s) ≡ finished formatting_element block w s
+      (placed formatting_element w s (remove (louder_forest g w.forest) w.last_node))
   unfolding finished placed
   adopt-is-louder formatting_element block w s = refl
 
-  adopt-louder : (formatting_element : Listed) (block : Open) (w : Walk) (s : State) → adopt formatting_element block (louder_walk g w) (louder g s) ≡ louder g (adopt formatting_element block w s)
+  adopt-louder : (formatting_element : Listed) (block : Open) (w : Walk) (s : State)
+      → adopt formatting_element block (louder_walk g w) (louder g s) ≡ louder g (adopt formatting_element block w s)
   adopt-louder formatting_element block w s =
       let removed = remove w.forest w.last_node in
       adopt-is-louder formatting_element block w s
@@ -91,7 +109,8 @@ module _ (g : ℕ → ℕ) (commutes : Commutes g) where
       ∙ finished-louder formatting_element block w s (placed formatting_element w s removed)
       ∙ ap (louder g) (sym (adopt-is formatting_element block w s))
 
-  adopt_from-louder : (formatting_element : Listed) (o : Option Open) (s : State) → adopt_from formatting_element o (louder g s) ≡ louder_turned g (adopt_from formatting_element o s)
+  adopt_from-louder : (formatting_element : Listed) (o : Option Open) (s : State) → adopt_from formatting_element o
+      (louder g s) ≡ louder_turned g (adopt_from formatting_element o s)
   adopt_from-louder formatting_element None s = refl
   adopt_from-louder formatting_element (Some block) s =
       let w = begin_walk block s in
@@ -100,22 +119,27 @@ module _ (g : ℕ → ℕ) (commutes : Commutes g) where
       ∙ adopt-louder formatting_element block (walk 3 (between formatting_element block s) w) s)
 
   error_if_not_current-louder : (formatting_element : Listed) → IsLoud g commutes (error_if_not_current formatting_element)
-  error_if_not_current-louder formatting_element s = choose-louder g commutes (current_is (is_number formatting_element.number) s.open_elems) (λ s. s) parse_error (same-louder g commutes) (parse_error-louder g commutes) s
+  error_if_not_current-louder formatting_element s = choose-louder g commutes
+      (current_is (is_number formatting_element.number) s.open_elems) (λ s. s) parse_error (same-louder g commutes)
+      (parse_error-louder g commutes) s
 
-  adopt_open-louder : (formatting_element : Listed) (s : State) → adopt_open formatting_element (louder g s) ≡ louder_turned g (adopt_open formatting_element s)
+  adopt_open-louder : (formatting_element : Listed) (s : State) → adopt_open formatting_element
+      (louder g s) ≡ louder_turned g (adopt_open formatting_element s)
   adopt_open-louder formatting_element s =
       let o = furthest_block (opened_after formatting_element.number s.open_elems) in
       ap (adopt_from formatting_element o) (error_if_not_current-louder formatting_element s)
       ∙ adopt_from-louder formatting_element o (error_if_not_current formatting_element s)
 
-  turned-louder : (b : Bool) (x y x' y' : Turned) → x' ≡ louder_turned g x → y' ≡ louder_turned g y → choose b (λ _. x') (λ _. y') ≡ louder_turned g (choose b (λ _. x) (λ _. y))
+  turned-louder : (b : Bool) (x y x' y' : Turned) → x' ≡ louder_turned g x → y' ≡ louder_turned g y
+      → choose b (λ _. x') (λ _. y') ≡ louder_turned g (choose b (λ _. x) (λ _. y))
   turned-louder true x y x' y' e e' = e
   turned-louder false x y x' y' e e' = e'
 
   unlist-louder : (formatting_element : Listed) → IsLoud g commutes (λ s. unlist formatting_element (parse_error s))
   unlist-louder formatting_element s = ap (unlist formatting_element) (parse_error-louder g commutes s)
 
-  adopt_listed-louder : (o : Option Listed) (name : List ℕ) (s : State) → adopt_listed o name (louder g s) ≡ louder_turned g (adopt_listed o name s)
+  adopt_listed-louder : (o : Option Listed) (name : List ℕ) (s : State) → adopt_listed o name
+      (louder g s) ≡ louder_turned g (adopt_listed o name s)
   adopt_listed-louder None name s = ap (λ s. record { state = s; goes_on = false }) (process_end_tag_in_body-louder g commutes name s)
   adopt_listed-louder (Some formatting_element) name s =
       turned-louder (not (is_open formatting_element.number s.open_elems)) _ _ _ _
@@ -128,7 +152,8 @@ module _ (g : ℕ → ℕ) (commutes : Commutes g) where
   unfolding adoption_turn
   adoption_turn-louder name s = adopt_listed-louder (last_named name s.active_formatting) name s
 
-  go_on-louder : (turned : Turned) (go : State → State) → IsLoud g commutes go → go_on (louder_turned g turned) go ≡ louder g (go_on turned go)
+  go_on-louder : (turned : Turned) (go : State → State) → IsLoud g commutes go
+      → go_on (louder_turned g turned) go ≡ louder g (go_on turned go)
   go_on-louder turned go is = choose-louder g commutes turned.goes_on go (λ s. s) is (same-louder g commutes) turned.state
 
   adoption_turns-louder : (n : ℕ) (name : List ℕ) → IsLoud g commutes (adoption_turns n name)
@@ -141,13 +166,16 @@ module _ (g : ℕ → ℕ) (commutes : Commutes g) where
   pub adoption_agency-louder : (name : List ℕ) → IsLoud g commutes (adoption_agency name)
   unfolding adoption_agency
   adoption_agency-louder name s =
-      choose-louder g commutes (current_is (is_named name) s.open_elems && not (is_listed (current_number s.open_elems) s.active_formatting)) pop (adoption_turns 8 name) (pop-louder g commutes) (adoption_turns-louder 8 name) s
+      choose-louder g commutes (current_is (is_named name) s.open_elems
+      && not (is_listed (current_number s.open_elems) s.active_formatting)) pop (adoption_turns 8 name)
+      (pop-louder g commutes) (adoption_turns-louder 8 name) s
 
   close_misnested-louder : (o : Option Listed) → IsLoud g commutes (close_misnested o)
   close_misnested-louder None s = refl
   close_misnested-louder (Some a) s =
       then-louder g commutes (λ s. unlist a (adoption_agency (codes "a") (parse_error s))) (remove_from_stack a.number)
-      (λ s. ap (unlist a) (then-louder g commutes parse_error (adoption_agency (codes "a")) (parse_error-louder g commutes) (adoption_agency-louder (codes "a")) s))
+      (λ s. ap (unlist a) (then-louder g commutes parse_error (adoption_agency (codes "a"))
+      (parse_error-louder g commutes) (adoption_agency-louder (codes "a")) s))
       (remove_from_stack-louder g commutes a.number)
       s
 

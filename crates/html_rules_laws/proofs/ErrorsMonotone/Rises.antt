@@ -26,7 +26,8 @@ one_more-full x h = grind (arith, nat_tests)
 
 rises-by : (b : Bool) (n k : ℕ) → nat_lt n (2 ^ 64 - 1) ≡ b → rises (if b then n + 1 else n) k ≡ one_more (rises n k)
 rises-by true n k e = let f : n + 1 ≡ suc n = omega arith in rw f refl
-rises-by false n k e = let h = rises-least n k in let full : 2 ^ 64 - 1 ≤ n = grind (arith, nat_tests) in sym (one_more-full (rises n k) (omega arith))
+rises-by false n k e = let h = rises-least n k in let full : 2 ^ 64 - 1 ≤ n = grind (arith, nat_tests) in
+    sym (one_more-full (rises n k) (omega arith))
 
 rises-Commutes : (k : ℕ) → Commutes (λ n. rises n k)
 rises-Commutes k n = rises-by (nat_lt n (2 ^ 64 - 1)) n k refl

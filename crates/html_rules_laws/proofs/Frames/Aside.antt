@@ -7,24 +7,47 @@ use Rattle.markup.specs.declared.attributes.Attribute.{Attribute}
 use Rattle.html_tokens.specs.declared.tags.Tag.{Tag}
 use Rattle.html_tokens.specs.declared.token.Token.{Token}
 use Rattle.html_tokens.specs.declared.token.Token.TheVariants.{TagToken}
-use Rattle.html_rules.specs.Actions.{act, restore_mode, for_tag, forget_form_elem, frameset_not_ok, frameset_not_ok_unless_white, insert_form_void, save_mode, keep_text, pop_template_mode, push_head, push_head_elem, push_template_mode, remove_form_elem, remove_head_elem, set_foster_parenting, set_form_elem, set_head_elem, set_ignore_lf, set_mode, set_quirks_mode, set_template_mode, insert_pending_text, without_first}
+use Rattle.html_rules.specs.Actions.{act, restore_mode, for_tag, forget_form_elem, frameset_not_ok}
+use Rattle.html_rules.specs.Actions.{frameset_not_ok_unless_white, insert_form_void, save_mode, keep_text, pop_template_mode}
+use Rattle.html_rules.specs.Actions.{push_head, push_head_elem, push_template_mode, remove_form_elem, remove_head_elem}
+use Rattle.html_rules.specs.Actions.{set_foster_parenting, set_form_elem, set_head_elem, set_ignore_lf, set_mode}
+use Rattle.html_rules.specs.Actions.{set_quirks_mode, set_template_mode, insert_pending_text, without_first}
 use Rattle.html_rules.specs.Adoption.{adopt_from, handle_misnested_a_tags}
 use Rattle.html_rules.specs.Choice.{choose}
 use Rattle.html_rules.specs.Conditions.{holds}
 use Rattle.html_rules.specs.ForeignContent.{close_foreign, ends_foreign, enter_foreign, foreign_end, foreign_start, pop_foreign}
 use Rattle.html_rules.specs.Formatting.{Listed, clear_active_formatting_to_marker, create_formatting_element_for, last_named, push_marker}
 use Rattle.html_rules.specs.Names.{Html}
-use Rattle.html_rules.specs.Places.{append_comment, append_comment_to_doc, append_comment_to_html, append_text, create_root, insert_and_pop_element_for, insert_element, insert_element_for, open_element, put_element}
+use Rattle.html_rules.specs.Places.{append_comment, append_comment_to_doc, append_comment_to_html, append_text, create_root}
+use Rattle.html_rules.specs.Places.{insert_and_pop_element_for, insert_element, insert_element_for, open_element, put_element}
 use Rattle.html_rules.specs.Reset.{reset_insertion_mode}
-use Rattle.html_rules.specs.Stack.{add_attributes_to, add_attributes_to_body, add_attributes_to_root, body_elem, close_item, expect_to_close, generate_implied_end_tags, parse_error, pop_but_root, pop_until, pop_until_current, remove_body, remove_if}
+use Rattle.html_rules.specs.Stack.{add_attributes_to, add_attributes_to_body, add_attributes_to_root, body_elem, close_item}
+use Rattle.html_rules.specs.Stack.{expect_to_close, generate_implied_end_tags, parse_error, pop_but_root, pop_until}
+use Rattle.html_rules.specs.Stack.{pop_until_current, remove_body, remove_if}
 use Rattle.html_rules.specs.State.{Open, Entry, State, adjusted_current_node, is_in, is_named}
-use Rattle.html_rules.specs.Table.{Action, Nothing, Then, When, ParseError, InsertElement, InsertVoid, InsertVoidAs, InsertFormVoid, InsertNew, InsertNewVoid, CreateRoot, CreateNewRoot, AppendText, AppendReplacement, AppendComment, AppendCommentToDocument, AppendCommentToRoot, InsertTemplate, AddAttributesToRoot, AddAttributesToBody, RemoveBody, Pop, PopUntil, ClearBackTo, Close, CloseToken, CloseP, CloseItem, ImpliedEndTags, ImpliedEndTagsExcept, ImpliedEndTagsExceptToken, ImpliedEndTagsThoroughly, AnyOtherEndTag, CheckBodyEnd, SetHeadElem, PushHeadElem, RemoveHeadElem, SetFormElem, ForgetFormElem, RemoveFormElem, Reconstruct, InsertFormatting, InsertMarker, ClearToMarker, AdoptionAgency, AdoptNobr, CloseMisnestedA, SwitchTo, SaveMode, RestoreMode, ResetMode, PushTemplateMode, SetTemplateMode, PopTemplateMode, SetQuirks, FramesetNotOk, FramesetNotOkUnlessWhite, IgnoreLineFeed, EnableFosterParenting, DisableFosterParenting, KeepText, InsertPendingText, EnterForeign, InsertForeign, PopForeign, CloseForeign}
+use Rattle.html_rules.specs.Table.{Action, Nothing, Then, When, ParseError, InsertElement, InsertVoid, InsertVoidAs}
+use Rattle.html_rules.specs.Table.{InsertFormVoid, InsertNew, InsertNewVoid, CreateRoot, CreateNewRoot, AppendText}
+use Rattle.html_rules.specs.Table.{AppendReplacement, AppendComment, AppendCommentToDocument, AppendCommentToRoot}
+use Rattle.html_rules.specs.Table.{InsertTemplate, AddAttributesToRoot, AddAttributesToBody, RemoveBody, Pop, PopUntil}
+use Rattle.html_rules.specs.Table.{ClearBackTo, Close, CloseToken, CloseP, CloseItem, ImpliedEndTags, ImpliedEndTagsExcept}
+use Rattle.html_rules.specs.Table.{ImpliedEndTagsExceptToken, ImpliedEndTagsThoroughly, AnyOtherEndTag, CheckBodyEnd}
+use Rattle.html_rules.specs.Table.{SetHeadElem, PushHeadElem, RemoveHeadElem, SetFormElem, ForgetFormElem, RemoveFormElem}
+use Rattle.html_rules.specs.Table.{Reconstruct, InsertFormatting, InsertMarker, ClearToMarker, AdoptionAgency, AdoptNobr}
+use Rattle.html_rules.specs.Table.{CloseMisnestedA, SwitchTo, SaveMode, RestoreMode, ResetMode, PushTemplateMode}
+use Rattle.html_rules.specs.Table.{SetTemplateMode, PopTemplateMode, SetQuirks, FramesetNotOk, FramesetNotOkUnlessWhite}
+use Rattle.html_rules.specs.Table.{IgnoreLineFeed, EnableFosterParenting, DisableFosterParenting, KeepText, InsertPendingText}
+use Rattle.html_rules.specs.Table.{EnterForeign, InsertForeign, PopForeign, CloseForeign}
 use Rattle.html_rules.specs.Templates.{insert_template}
 use Rattle.html_rules.specs.Tokens.{attributes_of, name_of, text_of}
 use Rattle.html_rules.specs.declared.insertion_mode.InsertionMode.{InsertionMode}
 use Rattle.html_rules.specs.declared.tag_set.TagSet.TheVariants as set
 use Rattle.html_rules_laws.specs.Settled.{are_template_modes, is_template_mode}
-use Rattle.html_rules_laws.proofs.Frames.KeptBySteps.{IsKeptBySteps, agency-keeps, check-keeps, close_by-keeps, close_item-keeps, close_p-keeps, enter-keeps, except-keeps, expect_to_close-keeps, for_tag-keeps, foreign-keeps, generic-keeps, insert-keeps, list-keeps, misnested-keeps, pop_until-keeps, pop_until_current-keeps, push_head-keeps, reconstruct-keeps, tell-keeps, template-keeps, unopened-keeps}
+use Rattle.html_rules_laws.proofs.Frames.KeptBySteps.{IsKeptBySteps, agency-keeps, check-keeps, close_by-keeps}
+use Rattle.html_rules_laws.proofs.Frames.KeptBySteps.{close_item-keeps, close_p-keeps, enter-keeps, except-keeps}
+use Rattle.html_rules_laws.proofs.Frames.KeptBySteps.{expect_to_close-keeps, for_tag-keeps, foreign-keeps, generic-keeps}
+use Rattle.html_rules_laws.proofs.Frames.KeptBySteps.{insert-keeps, list-keeps, misnested-keeps, pop_until-keeps}
+use Rattle.html_rules_laws.proofs.Frames.KeptBySteps.{pop_until_current-keeps, push_head-keeps, reconstruct-keeps, tell-keeps}
+use Rattle.html_rules_laws.proofs.Frames.KeptBySteps.{template-keeps, unopened-keeps}
 
 -- the modes, the head, the context and the end are as they were
 pub record IsAside (s r : State) : Type 0 where
@@ -42,11 +65,19 @@ pub same : (s : State) → IsAside s s
 same s = record { mode = refl; original = refl; modes = refl; head = refl; context = refl; ended = refl }
 
 -- another tree, other open elements, another list, other flags
-pub other : (s : State) (f : Forest) (xs : List Open) (entries : List Entry) (ok foster : Bool) → IsAside s (record s { forest = f; open_elems = xs; active_formatting = entries; frameset_ok = ok; foster_parenting = foster })
+pub other : (s : State) (f : Forest) (xs : List Open) (entries : List Entry) (ok foster : Bool)
+    → IsAside s (record s { forest = f; open_elems = xs; active_formatting = entries; frameset_ok = ok; foster_parenting = foster })
 other s f xs entries ok foster = record { mode = refl; original = refl; modes = refl; head = refl; context = refl; ended = refl }
 
 pub after : (s r q : State) → IsAside s r → IsAside r q → IsAside s q
-after s r q h k = record { mode = k.mode ∙ h.mode; original = k.original ∙ h.original; modes = k.modes ∙ h.modes; head = k.head ∙ h.head; context = k.context ∙ h.context; ended = k.ended ∙ h.ended }
+after s r q h k = record {
+  mode = k.mode ∙ h.mode;
+  original = k.original ∙ h.original;
+  modes = k.modes ∙ h.modes;
+  head = k.head ∙ h.head;
+  context = k.context ∙ h.context;
+  ended = k.ended ∙ h.ended;
+}
 
 from-aside : (fe : Listed) (o : Option Open) (s : State) → IsAside s (adopt_from fe o s).state
 from-aside fe None s = other s _ _ _ _ _
@@ -114,7 +145,8 @@ pub form-rest : (tag : Tag) (s : State) → IsRest s (insert_form_void tag s)
 unfolding put_element
 form-rest tag s = record { context = refl; ended = refl; modes = λ m. m }
 
-tagged-rest : (step : Tag → State → State) (t : Token) → ((tag : Tag) (s : State) → IsRest s (step tag s)) → (s : State) → IsRest s (for_tag step t s)
+tagged-rest : (step : Tag → State → State) (t : Token) → ((tag : Tag) (s : State) → IsRest s (step tag s))
+    → (s : State) → IsRest s (for_tag step t s)
 tagged-rest step (TagToken tag) h s = h tag s
 tagged-rest step t h s = rest-same s
 
@@ -122,14 +154,22 @@ tag-rest : (step : Tag → State → State) (t : Token) → ((tag : Tag) → Asi
 tag-rest step t h s = aside-rest s _ (for_tag-keeps aside_kept step t h s)
 
 pub act-rest : (a : Action) → sets_template_modes a ≡ true → (t : Token) (s : State) → IsRest s (act a t s)
-unfolding append_comment append_comment_to_doc append_comment_to_html create_root add_attributes_to_root add_attributes_to_body remove_body generate_implied_end_tags pop_but_root push_head_elem remove_head_elem remove_form_elem create_formatting_element_for push_marker clear_active_formatting_to_marker handle_misnested_a_tags set_mode save_mode restore_mode push_template_mode pop_template_mode set_template_mode set_quirks_mode frameset_not_ok frameset_not_ok_unless_white set_ignore_lf set_foster_parenting set_head_elem set_form_elem forget_form_elem keep_text insert_pending_text reset_insertion_mode foreign_start pop_foreign close_foreign
+unfolding append_comment append_comment_to_doc append_comment_to_html create_root add_attributes_to_root
+    add_attributes_to_body remove_body generate_implied_end_tags pop_but_root push_head_elem remove_head_elem
+    remove_form_elem create_formatting_element_for push_marker clear_active_formatting_to_marker
+    handle_misnested_a_tags set_mode save_mode restore_mode push_template_mode pop_template_mode set_template_mode
+    set_quirks_mode frameset_not_ok frameset_not_ok_unless_white set_ignore_lf set_foster_parenting set_head_elem
+    set_form_elem forget_form_elem keep_text insert_pending_text reset_insertion_mode foreign_start pop_foreign close_foreign
 act-rest Nothing p t s = rest-same s
-act-rest (Then a b) p t s = let parts = and_parts (sets_template_modes a) (sets_template_modes b) p in rest-after s (act a t s) _ (act-rest a parts.0 t s) (act-rest b parts.1 t (act a t s))
+act-rest (Then a b) p t s = let parts = and_parts (sets_template_modes a) (sets_template_modes b) p in
+    rest-after s (act a t s) _ (act-rest a parts.0 t s) (act-rest b parts.1 t (act a t s))
 act-rest (When c a) p t s = rest-either (holds c t s) s (act a t s) s (act-rest a p t s) (rest-same s)
 act-rest ParseError p t s = aside-rest s _ (aside_kept.errs s)
 act-rest InsertElement p t s = tag-rest insert_element_for t (insert-keeps aside_kept) s
-act-rest InsertVoid p t s = tag-rest insert_and_pop_element_for t (λ tag s. aside_kept.puts Html tag.name tag.attrs tag.had_duplicate_attributes s) s
-act-rest (InsertVoidAs name) p t s = tag-rest (λ tag. insert_and_pop_element_for (record tag { name = name })) t (λ tag s. aside_kept.puts Html name tag.attrs tag.had_duplicate_attributes s) s
+act-rest InsertVoid p t s = tag-rest insert_and_pop_element_for t
+    (λ tag s. aside_kept.puts Html tag.name tag.attrs tag.had_duplicate_attributes s) s
+act-rest (InsertVoidAs name) p t s = tag-rest (λ tag. insert_and_pop_element_for (record tag { name = name })) t
+    (λ tag s. aside_kept.puts Html name tag.attrs tag.had_duplicate_attributes s) s
 act-rest InsertFormVoid p t s = tagged-rest insert_form_void t form-rest s
 act-rest (InsertNew name) p t s = aside-rest s _ (aside_kept.inserts Html name [] false s)
 act-rest (InsertNewVoid name) p t s = aside-rest s _ (aside_kept.puts Html name [] false s)
@@ -143,7 +183,8 @@ act-rest AppendCommentToRoot p t s = aside-rest s _ (other s _ _ _ _ _)
 act-rest InsertTemplate p t s = tag-rest insert_template t (template-keeps aside_kept) s
 act-rest AddAttributesToRoot p t s = aside-rest s _ (other s _ _ _ _ _)
 act-rest AddAttributesToBody p t s = aside-rest s _ (aside_kept.adds (body_elem s.open_elems) (attributes_of t) s)
-act-rest RemoveBody p t s = aside-rest s _ (after s _ _ (aside_kept.removes (body_elem s.open_elems) s) (pop_until_current-keeps aside_kept (is_in set.Html) (remove_if (body_elem s.open_elems) s)))
+act-rest RemoveBody p t s = aside-rest s _ (after s _ _ (aside_kept.removes (body_elem s.open_elems) s)
+    (pop_until_current-keeps aside_kept (is_in set.Html) (remove_if (body_elem s.open_elems) s)))
 act-rest Pop p t s = aside-rest s _ (other s _ _ _ _ _)
 act-rest (PopUntil names) p t s = aside-rest s _ (pop_until-keeps aside_kept (is_in names) s)
 act-rest (ClearBackTo names) p t s = aside-rest s _ (pop_until_current-keeps aside_kept (is_in names) s)
@@ -164,7 +205,8 @@ act-rest SetFormElem p t s = record { context = refl; ended = refl; modes = λ m
 act-rest RemoveFormElem p t s = aside-rest s _ (unopened-keeps aside_kept s.form_elem s)
 act-rest ForgetFormElem p t s = record { context = refl; ended = refl; modes = λ m. m }
 act-rest Reconstruct p t s = aside-rest s _ (reconstruct-keeps aside_kept s)
-act-rest InsertFormatting p t s = tag-rest create_formatting_element_for t (λ tag s. after s _ _ (other s _ _ _ _ _) (list-keeps aside_kept tag _)) s
+act-rest InsertFormatting p t s = tag-rest create_formatting_element_for t
+    (λ tag s. after s _ _ (other s _ _ _ _ _) (list-keeps aside_kept tag _)) s
 act-rest InsertMarker p t s = aside-rest s _ (other s _ _ _ _ _)
 act-rest ClearToMarker p t s = aside-rest s _ (other s _ _ _ _ _)
 act-rest AdoptionAgency p t s = aside-rest s _ (agency-keeps aside_kept (name_of t) s)
@@ -184,7 +226,8 @@ act-rest IgnoreLineFeed p t s = record { context = refl; ended = refl; modes = �
 act-rest EnableFosterParenting p t s = record { context = refl; ended = refl; modes = λ m. m }
 act-rest DisableFosterParenting p t s = record { context = refl; ended = refl; modes = λ m. m }
 act-rest KeepText p t s = record { context = refl; ended = refl; modes = λ m. m }
-act-rest InsertPendingText p t s = let told = tell-keeps aside_kept s.pending_table_text s in record { context = told.context; ended = told.ended; modes = λ m. rw told.modes m }
+act-rest InsertPendingText p t s = let told = tell-keeps aside_kept s.pending_table_text s in
+    record { context = told.context; ended = told.ended; modes = λ m. rw told.modes m }
 act-rest (EnterForeign namespace) p t s = tag-rest (enter_foreign namespace) t (enter-keeps aside_kept namespace) s
 act-rest InsertForeign p t s = tag-rest foreign_start t (λ tag s. foreign-keeps aside_kept (adjusted_current_node s) tag s) s
 act-rest PopForeign p t s = aside-rest s _ (pop_until_current-keeps aside_kept ends_foreign s)

@@ -21,7 +21,8 @@ pub same : (s : State) → IsFramed s s
 same s = record { framed = λ e. e; form = refl }
 
 -- another tree, other open elements, another list
-pub other : (s : State) (f : Forest) (xs : List Open) (entries : List Entry) (foster : Bool) → IsFramed s (record s { forest = f; open_elems = xs; active_formatting = entries; foster_parenting = foster })
+pub other : (s : State) (f : Forest) (xs : List Open) (entries : List Entry) (foster : Bool)
+    → IsFramed s (record s { forest = f; open_elems = xs; active_formatting = entries; foster_parenting = foster })
 other s f xs entries foster = record { framed = λ e. e; form = refl }
 
 pub after : (s r q : State) → IsFramed s r → IsFramed r q → IsFramed s q

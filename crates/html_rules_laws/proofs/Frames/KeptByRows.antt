@@ -7,10 +7,14 @@ use Rattle.html_rules.specs.Actions.{act, restore_mode, set_mode}
 use Rattle.html_rules.specs.Choice.{choose}
 use Rattle.html_rules.specs.ForeignContent.{is_foreign}
 use Rattle.html_rules.specs.Modes.Foreign.{in_foreign_content}
-use Rattle.html_rules.specs.Rules.{Ending, Finished, Again, Replied, Settled, Turn, check_acknowledged, concluded, first_fit, fits, four_for_each, is_self_closing, most_modes, rows, settle, settled_by, turn, turn_by_row, using_rules_for, within}
+use Rattle.html_rules.specs.Rules.{Ending, Finished, Again, Replied, Settled, Turn, check_acknowledged, concluded, first_fit}
+use Rattle.html_rules.specs.Rules.{fits, four_for_each, is_self_closing, most_modes, rows, settle, settled_by, turn}
+use Rattle.html_rules.specs.Rules.{turn_by_row, using_rules_for, within}
 use Rattle.html_rules.specs.Stack.{parse_error}
 use Rattle.html_rules.specs.State.{Open, State, current_number}
-use Rattle.html_rules.specs.Table.{Row, Action, Nothing, Conclusion, Done, Acknowledged, Reprocess, ReprocessInOriginal, ReprocessInMode, Using, UsingThen, UsingCurrentMode, RawText, PlainText, RunScript, ReportEncoding}
+use Rattle.html_rules.specs.Table.{Row, Action, Nothing, Conclusion, Done, Acknowledged, Reprocess, ReprocessInOriginal}
+use Rattle.html_rules.specs.Table.{ReprocessInMode, Using, UsingThen, UsingCurrentMode, RawText, PlainText, RunScript}
+use Rattle.html_rules.specs.Table.{ReportEncoding}
 use Rattle.html_rules.specs.declared.insertion_mode.InsertionMode.{InsertionMode}
 use Rattle.html_rules_laws.proofs.FirstFit.{by_fit}
 
@@ -36,7 +40,9 @@ pub record IsKept (R : State → State → Type 0) (test : Action → Bool) : Ty
   pub nothing : test Nothing ≡ true
 
 module _ (R : State → State → Type 0) (test : Action → Bool) (is : IsKept R test) where
-  concluded-kept : (using : InsertionMode → Token → State → Turn) (t : Token) → ((m : InsertionMode) (s : State) → R s (using m t s).state) → (e : Conclusion) → then_passes test e ≡ true → (script : ℕ) (s : State) → R s (concluded using e t script s).state
+  concluded-kept : (using : InsertionMode → Token → State → Turn) (t : Token)
+      → ((m : InsertionMode) (s : State) → R s (using m t s).state) → (e : Conclusion) → then_passes test e ≡ true
+      → (script : ℕ) (s : State) → R s (concluded using e t script s).state
   concluded-kept using t go Done h script s = is.same s
   concluded-kept using t go Acknowledged h script s = is.same s
   concluded-kept using t go (Reprocess m) h script s = is.moves m s
@@ -50,13 +56,16 @@ module _ (R : State → State → Type 0) (test : Action → Bool) (is : IsKept 
   concluded-kept using t go RunScript h script s = is.same s
   concluded-kept using t go ReportEncoding h script s = is.same s
 
-  first-kept : (using : InsertionMode → Token → State → Turn) (t : Token) → ((m : InsertionMode) (s : State) → R s (using m t s).state) → (rs : List Row) → all_pass test rs ≡ true → (s : State) → R s (turn_by_row using (first_fit rs t s) t s).state
+  first-kept : (using : InsertionMode → Token → State → Turn) (t : Token)
+      → ((m : InsertionMode) (s : State) → R s (using m t s).state) → (rs : List Row) → all_pass test rs ≡ true
+      → (s : State) → R s (turn_by_row using (first_fit rs t s) t s).state
   first-kept using t go [] h s = is.acts Nothing is.nothing t s
   first-kept using t go (r ∷ rs) h s =
       let parts = and_parts (test r.does && then_passes test r.ends) (all_pass test rs) h in
       let own = and_parts (test r.does) (then_passes test r.ends) parts.0 in
       by_fit (λ r. R s (turn_by_row using r t s).state) r (first_fit rs t s) (fits r t s)
-      (λ fit. is.after s (act r.does t s) _ (is.acts r.does own.0 t s) (concluded-kept using t go r.ends own.1 (current_number s.open_elems) (act r.does t s)))
+      (λ fit. is.after s (act r.does t s) _ (is.acts r.does own.0 t s)
+      (concluded-kept using t go r.ends own.1 (current_number s.open_elems) (act r.does t s)))
       (first-kept using t go rs parts.1 s)
 
   using-kept : (n : ℕ) (t : Token) (m : InsertionMode) (s : State) → R s (using_rules_for n m t s).state
@@ -70,7 +79,9 @@ module _ (R : State → State → Type 0) (test : Action → Bool) (is : IsKept 
 
   pub turn-kept : (t : Token) (s : State) → R s (turn t s).state
   unfolding turn
-  turn-kept t s = either-kept (is_foreign s t) s _ _ (first-kept (using_rules_for most_modes) t (using-kept most_modes t) in_foreign_content is.foreign s) (using-kept most_modes t s.mode s)
+  turn-kept t s = either-kept (is_foreign s t) s _ _
+      (first-kept (using_rules_for most_modes) t (using-kept most_modes t) in_foreign_content is.foreign s)
+      (using-kept most_modes t s.mode s)
 
   check-kept : (acknowledged : Bool) (t : Token) (s : State) → R s (check_acknowledged acknowledged t s)
   check-kept true t s = is.same s
@@ -79,15 +90,18 @@ module _ (R : State → State → Type 0) (test : Action → Bool) (is : IsKept 
     by true = is.errs s
     by false = is.same s
 
-  settled-kept : (again : State → Settled) → ((s : State) → R s (again s).state) → (e : Ending) (t : Token) (s : State) → R s (settled_by again e t s).state
+  settled-kept : (again : State → Settled) → ((s : State) → R s (again s).state) → (e : Ending) (t : Token)
+      (s : State) → R s (settled_by again e t s).state
   settled-kept again go (Finished acknowledged) t s = check-kept acknowledged t s
   settled-kept again go Again t s = go s
   settled-kept again go (Replied r) t s = is.same s
 
-  within-kept : (n : ℕ) (beyond : State → Settled) (t : Token) → ((s : State) → R s (beyond s).state) → (s : State) → R s (within n beyond t s).state
+  within-kept : (n : ℕ) (beyond : State → Settled) (t : Token) → ((s : State) → R s (beyond s).state) → (s : State)
+      → R s (within n beyond t s).state
   unfolding within
   within-kept zero beyond t go s = go s
-  within-kept (suc n) beyond t go s = is.after s (turn t s).state _ (turn-kept t s) (settled-kept (within n beyond t) (within-kept n beyond t go) (turn t s).ends t (turn t s).state)
+  within-kept (suc n) beyond t go s = is.after s (turn t s).state _ (turn-kept t s)
+      (settled-kept (within n beyond t) (within-kept n beyond t go) (turn t s).ends t (turn t s).state)
 
   four-kept : (xs : List Open) (t : Token) (s : State) → R s (four_for_each xs t s).state
   unfolding four_for_each

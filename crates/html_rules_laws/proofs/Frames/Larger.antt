@@ -7,7 +7,8 @@ use Rattle.markup.specs.declared.quirks.QuirksMode.{QuirksMode}
 use Rattle.html_tokens.specs.declared.token.Doctype.{Doctype}
 use Rattle.html_tokens.specs.declared.token.Token.{Token}
 use Rattle.html_tokens.specs.declared.token.Token.TheVariants.{DoctypeToken, TagToken, CharacterTokens, EOFToken}
-use Rattle.html_rules.specs.Actions.{act, restore_mode, for_tag, forget_form_elem, insert_form_void, set_form_elem, set_head_elem, set_ignore_lf, set_mode, set_quirks_mode}
+use Rattle.html_rules.specs.Actions.{act, restore_mode, for_tag, forget_form_elem, insert_form_void, set_form_elem}
+use Rattle.html_rules.specs.Actions.{set_head_elem, set_ignore_lf, set_mode, set_quirks_mode}
 use Rattle.html_rules.specs.Choice.{choose}
 use Rattle.html_rules.specs.Conditions.{holds}
 use Rattle.html_rules.specs.Doctypes.{doctype_error, quirks_of}
@@ -18,12 +19,15 @@ use Rattle.html_rules.specs.Modes.Foreign.{in_foreign_content}
 use Rattle.html_rules.specs.Rules.{Settled, rows, settle}
 use Rattle.html_rules.specs.Stack.{parse_error}
 use Rattle.html_rules.specs.State.{Open, State}
-use Rattle.html_rules.specs.Step.{followed_by, after_line_feed, doctype_taken, first_doctype_taken, if_kept, taken, taken_by, text_taken, untouched}
-use Rattle.html_rules.specs.Table.{Action, Row, Conclusion, UsingThen, CreateNewRoot, Then, When, SetHeadElem, SetFormElem, ForgetFormElem, InsertFormVoid}
+use Rattle.html_rules.specs.Step.{followed_by, after_line_feed, doctype_taken, first_doctype_taken, if_kept, taken, taken_by}
+use Rattle.html_rules.specs.Step.{text_taken, untouched}
+use Rattle.html_rules.specs.Table.{Action, Row, Conclusion, UsingThen, CreateNewRoot, Then, When, SetHeadElem, SetFormElem}
+use Rattle.html_rules.specs.Table.{ForgetFormElem, InsertFormVoid}
 use Rattle.html_rules.specs.declared.insertion_mode.InsertionMode.{InsertionMode}
 use Rattle.html_rules.specs.declared.insertion_mode.InsertionMode.TheVariants as mode
 use Rattle.html_rules_laws.proofs.Frames.KeptByRows.{IsKept as IsKeptByRows, all_pass, settle-kept, then_passes}
-use Rattle.html_rules_laws.proofs.Frames.Grown.{IsGrown, IsKept, act-grows, count-put, grown-after, grown-node, grown-same, parse_error-grows, put_element-grows}
+use Rattle.html_rules_laws.proofs.Frames.Grown.{IsGrown, IsKept, act-grows, count-put, grown-after, grown-node, grown-same}
+use Rattle.html_rules_laws.proofs.Frames.Grown.{parse_error-grows, put_element-grows}
 
 -- a state has the context of another, and no fewer nodes
 pub record Larger (s r : State) : Type 0 where
@@ -44,7 +48,8 @@ of-kept : (s r : State) → IsKept s r → Larger s r
 of-kept s r h = record { grown = h.grown; context = h.context }
 
 form-void-larger : (t : Token) (s : State) → Larger s (for_tag insert_form_void t s)
-form-void-larger (TagToken tag) s = let put = put_element-grows Html tag.name tag.attrs tag.had_duplicate_attributes s in record { grown = put.grown; context = put.context }
+form-void-larger (TagToken tag) s = let put = put_element-grows Html tag.name tag.attrs tag.had_duplicate_attributes
+    s in record { grown = put.grown; context = put.context }
 form-void-larger _ s = larger-same s
 
 act-larger : (a : Action) (t : Token) (s : State) → Larger s (act a t s)
@@ -99,7 +104,8 @@ text-larger : (text : List ℕ) (before : Settled) → Larger before.state (text
 text-larger [] before = larger-same before.state
 text-larger (c ∷ cs) before =
     let t : Token = CharacterTokens (c ∷ []) in
-    larger-after before.state (settle t before.state).state (text_taken (c ∷ cs) before).state (settle-larger t before.state) (text-larger cs (followed_by before (settle t before.state)))
+    larger-after before.state (settle t before.state).state (text_taken (c ∷ cs) before).state
+    (settle-larger t before.state) (text-larger cs (followed_by before (settle t before.state)))
 
 put-larger : (d : Doctype) (s : State) → Larger s (append_doctype_to_document d s)
 unfolding append_doctype_to_document
@@ -121,7 +127,9 @@ first-larger d s =
     let laid : State = set_quirks_mode (quirks_of s.opts.iframe_srcdoc d) kept in
     let one = larger-either (doctype_error d) s (parse_error s) s (error-larger s) (larger-same s) in
     let two = larger-either s.opts.drop_doctype told told (append_doctype_to_document d told) (larger-same told) (put-larger d told) in
-    larger-after s told _ one (larger-after told kept _ two (larger-after kept laid _ (quirks-larger (quirks_of s.opts.iframe_srcdoc d) kept) (moved-larger mode.BeforeHtml laid)))
+    larger-after s told _ one
+    (larger-after told kept _ two
+    (larger-after kept laid _ (quirks-larger (quirks_of s.opts.iframe_srcdoc d) kept) (moved-larger mode.BeforeHtml laid)))
 
 doctype-larger : (m : InsertionMode) (d : Doctype) (s : State) → Larger s (doctype_taken m d s)
 doctype-larger mode.Initial d s = first-larger d s
@@ -145,7 +153,8 @@ context-in f g None grown h = tt
 context-in f g (Some c) grown h = let less : node_count f ≤ node_count g = grown.nodes in omega arith
 
 -- the context stays a node of the tree
-pub context-stays : (s r : State) → Larger s r → IfSome s.context_elem (λ c. IsNode s.forest c.number) → IfSome r.context_elem (λ c. IsNode r.forest c.number)
+pub context-stays : (s r : State) → Larger s r → IfSome s.context_elem (λ c. IsNode s.forest c.number)
+    → IfSome r.context_elem (λ c. IsNode r.forest c.number)
 context-stays s r h is = rw h.context (context-in s.forest r.forest s.context_elem h.grown is)
 
 -- so it does where the root is created and the mode reset

@@ -7,15 +7,24 @@ use Rattle.std.proofs.lemmas.Bool.{and_parts}
 use Rattle.markup.specs.Forest.{node_count}
 use Rattle.markup.specs.declared.attributes.Attribute.{Attribute}
 use Rattle.html_tokens.specs.declared.tags.Tag.{Tag}
-use Rattle.html_rules.specs.Actions.{append_in_body, frameset_not_ok_unless_white, remove_from_stack_if, set_foster_parenting, insert_table_text}
-use Rattle.html_rules.specs.Adoption.{Walk, adopt, adopt_from, adopt_listed, adopt_open, adoption_agency, adoption_turn, adoption_turns, begin_walk, between, close_misnested, copy_if, cut_at, furthest_block, is_number, listed_as, opened_after, opened_before, relist, unlist, walk}
+use Rattle.html_rules.specs.Actions.{append_in_body, frameset_not_ok_unless_white, remove_from_stack_if, set_foster_parenting}
+use Rattle.html_rules.specs.Actions.{insert_table_text}
+use Rattle.html_rules.specs.Adoption.{Walk, adopt, adopt_from, adopt_listed, adopt_open, adoption_agency, adoption_turn}
+use Rattle.html_rules.specs.Adoption.{adoption_turns, begin_walk, between, close_misnested, copy_if, cut_at, furthest_block}
+use Rattle.html_rules.specs.Adoption.{is_number, listed_as, opened_after, opened_before, relist, unlist, walk}
 use Rattle.html_rules.specs.Choice.{choose}
 use Rattle.html_rules.specs.ForeignContent.{ForeignEnd, Dropped, AsInMode, Closed, close_foreign_by, enter_foreign, foreign_start_at}
-use Rattle.html_rules.specs.Formatting.{Listed, after_marker, count_equal, create_formatting_element_for, is_equiv_modulo_attr_order, is_listed, last_named, list_current, put_after, reconstruct_active_formatting_elements, reopen, stands_for, with_in_place, with_room, without_earliest, without_entry}
+use Rattle.html_rules.specs.Formatting.{Listed, after_marker, count_equal, create_formatting_element_for}
+use Rattle.html_rules.specs.Formatting.{is_equiv_modulo_attr_order, is_listed, last_named, list_current, put_after}
+use Rattle.html_rules.specs.Formatting.{reconstruct_active_formatting_elements, reopen, stands_for, with_in_place, with_room}
+use Rattle.html_rules.specs.Formatting.{without_earliest, without_entry}
 use Rattle.html_rules.specs.Names.{Namespace, Html, MathMl, Svg, Other, is_html}
 use Rattle.html_rules.specs.Places.{append_text, insert_element, insert_element_for, put_element}
 use Rattle.html_rules.specs.Sets.{is_among, mathml_names_of, names_of, svg_names_of}
-use Rattle.html_rules.specs.Stack.{add_attributes_to, check_body_end, close_item, close_item_named, close_p_element, close_p_element_in_button_scope, expect_to_close, finds_generic, generate_implied_end_except, generate_implied_end_tags, in_scope, is_open, item_name, nothing, parse_error, pop, pop_until, pop_until_current, process_end_tag_in_body, remove_from_stack, remove_if}
+use Rattle.html_rules.specs.Stack.{add_attributes_to, check_body_end, close_item, close_item_named, close_p_element}
+use Rattle.html_rules.specs.Stack.{close_p_element_in_button_scope, expect_to_close, finds_generic, generate_implied_end_except}
+use Rattle.html_rules.specs.Stack.{generate_implied_end_tags, in_scope, is_open, item_name, nothing, parse_error, pop}
+use Rattle.html_rules.specs.Stack.{pop_until, pop_until_current, process_end_tag_in_body, remove_from_stack, remove_if}
 use Rattle.html_rules.specs.State.{Open, Entry, Element, Marker, State, current_is, current_number, is_in, is_named}
 use Rattle.html_rules.specs.Tokens.{is_white}
 use Rattle.html_rules.specs.declared.tag_set.TagSet.{TagSet}
@@ -38,7 +47,8 @@ pub same-tame : Tames (λ s. s)
 same-tame s l = record { firm = firm-same s.open_elems; listed = l }
 
 pub after-tame : (s r q : State) → IsTame s r → (are_formatting r.active_formatting ≡ true → IsTame r q) → IsTame s q
-after-tame s r q h k = let more = k h.listed in record { firm = firm-after s.open_elems r.open_elems q.open_elems h.firm more.firm; listed = more.listed }
+after-tame s r q h k = let more = k h.listed in
+    record { firm = firm-after s.open_elems r.open_elems q.open_elems h.firm more.firm; listed = more.listed }
 
 pub either-tame : (b : Bool) (s x y : State) → IsTame s x → IsTame s y → IsTame s (choose b (λ _. x) (λ _. y))
 either-tame true s x y h k = h
@@ -66,7 +76,8 @@ pop_until_current-tame p s l = part-tame s _ (part-from p s.open_elems) l
 
 pub expect_to_close-tame : (p : Open → Bool) → Tames (expect_to_close p)
 unfolding expect_to_close
-expect_to_close-tame p s l = either-tame (current_is p s.open_elems) s _ _ (pop_until-tame p s l) (after-tame s (parse_error s) _ (parse_error-tame s l) (pop_until-tame p (parse_error s)))
+expect_to_close-tame p s l = either-tame (current_is p s.open_elems) s _ _ (pop_until-tame p s l)
+    (after-tame s (parse_error s) _ (parse_error-tame s l) (pop_until-tame p (parse_error s)))
 
 pub except-tame : (except : Open → Bool) → Tames (generate_implied_end_except except)
 unfolding generate_implied_end_except
@@ -85,7 +96,8 @@ unopened-tame None s l = same-tame s l
 unopened-tame (Some n) s l = remove-tame n s l
 
 closed-tame : (p : Open → Bool) → Tames (λ s. expect_to_close p (generate_implied_end_except p s))
-closed-tame p s l = after-tame s (generate_implied_end_except p s) _ (except-tame p s l) (expect_to_close-tame p (generate_implied_end_except p s))
+closed-tame p s l = after-tame s (generate_implied_end_except p s) _ (except-tame p s l)
+    (expect_to_close-tame p (generate_implied_end_except p s))
 
 pub close_p-tame : Tames close_p_element_in_button_scope
 unfolding close_p_element_in_button_scope close_p_element
@@ -101,7 +113,8 @@ close_item-tame items s l = close_named-tame (item_name items s.open_elems) s l
 
 pub generic-tame : (name : List ℕ) → Tames (process_end_tag_in_body name)
 unfolding process_end_tag_in_body
-generic-tame name s l = either-tame (finds_generic (is_named name) s.open_elems) s _ _ (closed-tame (is_named name) s l) (parse_error-tame s l)
+generic-tame name s l = either-tame (finds_generic (is_named name) s.open_elems) s _ _
+    (closed-tame (is_named name) s l) (parse_error-tame s l)
 
 pub check-tame : Tames check_body_end
 unfolding check_body_end
@@ -111,15 +124,19 @@ pub append_text-tame : (text : List ℕ) → Tames (append_text text)
 unfolding append_text
 append_text-tame text s l = part-tame s _ (part-same s.open_elems) l
 
-pub put_element-tame : (namespace : Namespace) (name : List ℕ) (attributes : List Attribute) (dup : Bool) → Tames (put_element namespace name attributes dup)
+pub put_element-tame : (namespace : Namespace) (name : List ℕ) (attributes : List Attribute) (dup : Bool)
+    → Tames (put_element namespace name attributes dup)
 unfolding put_element
 put_element-tame namespace name attributes dup s l = part-tame s _ (part-same s.open_elems) l
 
 -- elements come
 
-pub insert_element-tame : (namespace : Namespace) (name : List ℕ) (attributes : List Attribute) (dup : Bool) → ((n : ℕ) → IsOrdinary (record { number = n; namespace = namespace; name = name })) → Tames (insert_element namespace name attributes dup)
+pub insert_element-tame : (namespace : Namespace) (name : List ℕ) (attributes : List Attribute) (dup : Bool)
+    → ((n : ℕ) → IsOrdinary (record { number = n; namespace = namespace; name = name }))
+    → Tames (insert_element namespace name attributes dup)
 unfolding insert_element
-insert_element-tame namespace name attributes dup plain s l = record { firm = firm-plain _ s.open_elems (plain (node_count s.forest)); listed = l }
+insert_element-tame namespace name attributes dup plain s l =
+    record { firm = firm-plain _ s.open_elems (plain (node_count s.forest)); listed = l }
 
 abbrev pub special_names : List (List ℕ)
 special_names = codes "html" ∷ codes "head" ∷ codes "template" ∷ []
@@ -130,17 +147,20 @@ three false true c h = absurd (true≢false h)
 three false false true h = absurd (true≢false h)
 three false false false h = (refl, (refl, refl))
 
-pub plain-name : (name : List ℕ) → is_among name special_names ≡ false → (n : ℕ) → IsOrdinary (record { number = n; namespace = Html; name = name })
+pub plain-name : (name : List ℕ) → is_among name special_names ≡ false → (n : ℕ)
+    → IsOrdinary (record { number = n; namespace = Html; name = name })
 unfolding names_of
 plain-name name h n =
     let parts = three (bytes_eq name (codes "html")) (bytes_eq name (codes "head")) (bytes_eq name (codes "template")) h in
     record { root = parts.0; head = parts.1.0; template = parts.1.1 }
 
-pub plain-formatting : (tag : Tag) → is_among tag.name (names_of set.FormattingEnd) ≡ true → (n : ℕ) → IsOrdinary (record { number = n; namespace = Html; name = tag.name })
+pub plain-formatting : (tag : Tag) → is_among tag.name (names_of set.FormattingEnd) ≡ true → (n : ℕ)
+    → IsOrdinary (record { number = n; namespace = Html; name = tag.name })
 unfolding names_of
 plain-formatting tag h n = plain-name tag.name (disjoint tag.name (names_of set.FormattingEnd) special_names refl h) n
 
-pub plain-foreign : (namespace : Namespace) (name : List ℕ) → is_html namespace ≡ false → (n : ℕ) → IsOrdinary (record { number = n; namespace = namespace; name = name })
+pub plain-foreign : (namespace : Namespace) (name : List ℕ) → is_html namespace ≡ false → (n : ℕ)
+    → IsOrdinary (record { number = n; namespace = namespace; name = name })
 unfolding names_of mathml_names_of svg_names_of
 plain-foreign Html name h n = absurd (true≢false h)
 plain-foreign MathMl name h n = record { root = refl; head = refl; template = refl }
@@ -154,13 +174,16 @@ listed-tame tag h s l =
     let made = insert_element-tame Html tag.name tag.attrs tag.had_duplicate_attributes (plain-formatting tag h) s l in
     record { firm = made.firm; listed = rw h made.listed }
 
-choose-listed : (b : Bool) (xs ys : List Entry) → are_formatting xs ≡ true → are_formatting ys ≡ true → are_formatting (choose b (λ _. xs) (λ _. ys)) ≡ true
+choose-listed : (b : Bool) (xs ys : List Entry) → are_formatting xs ≡ true → are_formatting ys ≡ true
+    → are_formatting (choose b (λ _. xs) (λ _. ys)) ≡ true
 choose-listed true xs ys h k = h
 choose-listed false xs ys h k = k
 
-cons-listed : (entry : Entry) (xs ys : List Entry) → are_formatting (entry ∷ xs) ≡ true → are_formatting ys ≡ true → are_formatting (entry ∷ ys) ≡ true
+cons-listed : (entry : Entry) (xs ys : List Entry) → are_formatting (entry ∷ xs) ≡ true → are_formatting ys ≡ true
+    → are_formatting (entry ∷ ys) ≡ true
 cons-listed Marker xs ys h k = k
-cons-listed (Element n tag) xs ys h k = let own = (and_parts (is_among tag.name (names_of set.FormattingEnd)) (are_formatting xs) h).0 in rw (own, k) refl
+cons-listed (Element n tag) xs ys h k = let own =
+    (and_parts (is_among tag.name (names_of set.FormattingEnd)) (are_formatting xs) h).0 in rw (own, k) refl
 
 tail-listed : (entry : Entry) (xs : List Entry) → are_formatting (entry ∷ xs) ≡ true → are_formatting xs ≡ true
 tail-listed Marker xs h = h
@@ -170,15 +193,20 @@ earliest-listed : (tag : Tag) (entries : List Entry) → are_formatting entries 
 earliest-listed tag [] h = h
 earliest-listed tag (Marker ∷ entries) h = h
 earliest-listed tag (Element n other ∷ entries) h =
-    choose-listed (is_equiv_modulo_attr_order tag other && nat_eq (count_equal tag entries) 0) entries (Element n other ∷ without_earliest tag entries) (tail-listed (Element n other) entries h) (cons-listed (Element n other) entries (without_earliest tag entries) h (earliest-listed tag entries (tail-listed (Element n other) entries h)))
+    choose-listed (is_equiv_modulo_attr_order tag other && nat_eq (count_equal tag entries) 0) entries
+    (Element n other ∷ without_earliest tag entries) (tail-listed (Element n other) entries h)
+    (cons-listed (Element n other) entries (without_earliest tag entries) h
+    (earliest-listed tag entries (tail-listed (Element n other) entries h)))
 
 room-listed : (tag : Tag) (entries : List Entry) → are_formatting entries ≡ true → are_formatting (with_room tag entries) ≡ true
-room-listed tag entries h = choose-listed (nat_le 3 (count_equal tag entries)) (without_earliest tag entries) entries (earliest-listed tag entries h) h
+room-listed tag entries h = choose-listed (nat_le 3 (count_equal tag entries)) (without_earliest tag entries)
+    entries (earliest-listed tag entries h) h
 
 pub formatting-tame : (tag : Tag) → is_among tag.name (names_of set.FormattingEnd) ≡ true → Tames (create_formatting_element_for tag)
 unfolding create_formatting_element_for
 formatting-tame tag h s l =
-    let made = listed-tame tag h (record s { active_formatting = with_room tag s.active_formatting }) (room-listed tag s.active_formatting l) in
+    let made = listed-tame tag h (record s { active_formatting = with_room tag s.active_formatting })
+    (room-listed tag s.active_formatting l) in
     record { firm = made.firm; listed = made.listed }
 
 pub behind-listed : (entries : List Entry) → are_formatting entries ≡ true → are_formatting (after_marker entries) ≡ true
@@ -202,42 +230,55 @@ reconstruct-tame s l = reopen-tame s.active_formatting l s
 
 pub without-listed : (n : ℕ) (entries : List Entry) → are_formatting entries ≡ true → are_formatting (without_entry n entries) ≡ true
 without-listed n [] h = h
-without-listed n (entry ∷ entries) h = choose-listed (stands_for n entry) entries _ (tail-listed entry entries h) (cons-listed entry entries _ h (without-listed n entries (tail-listed entry entries h)))
+without-listed n (entry ∷ entries) h = choose-listed (stands_for n entry) entries _ (tail-listed entry entries h)
+    (cons-listed entry entries _ h (without-listed n entries (tail-listed entry entries h)))
 
-head-listed : (new : ℕ) (tag : Tag) (entries : List Entry) → is_among tag.name (names_of set.FormattingEnd) ≡ true → are_formatting entries ≡ true → are_formatting (Element new tag ∷ entries) ≡ true
+head-listed : (new : ℕ) (tag : Tag) (entries : List Entry) → is_among tag.name (names_of set.FormattingEnd) ≡ true
+    → are_formatting entries ≡ true → are_formatting (Element new tag ∷ entries) ≡ true
 head-listed new tag entries h k = rw (h, k) refl
 
-pub in_place-listed : (n new : ℕ) (tag : Tag) → is_among tag.name (names_of set.FormattingEnd) ≡ true → (entries : List Entry) → are_formatting entries ≡ true → are_formatting (with_in_place n (Element new tag) entries) ≡ true
+pub in_place-listed : (n new : ℕ) (tag : Tag) → is_among tag.name (names_of set.FormattingEnd) ≡ true
+    → (entries : List Entry) → are_formatting entries ≡ true → are_formatting (with_in_place n (Element new tag) entries) ≡ true
 in_place-listed n new tag t [] h = h
 in_place-listed n new tag t (entry ∷ entries) h =
-    choose-listed (stands_for n entry) _ _ (head-listed new tag entries t (tail-listed entry entries h)) (cons-listed entry entries _ h (in_place-listed n new tag t entries (tail-listed entry entries h)))
+    choose-listed (stands_for n entry) _ _ (head-listed new tag entries t (tail-listed entry entries h))
+    (cons-listed entry entries _ h (in_place-listed n new tag t entries (tail-listed entry entries h)))
 
-after-listed : (n new : ℕ) (tag : Tag) → is_among tag.name (names_of set.FormattingEnd) ≡ true → (entries : List Entry) → are_formatting entries ≡ true → are_formatting (put_after n (Element new tag) entries) ≡ true
+after-listed : (n new : ℕ) (tag : Tag) → is_among tag.name (names_of set.FormattingEnd) ≡ true
+    → (entries : List Entry) → are_formatting entries ≡ true → are_formatting (put_after n (Element new tag) entries) ≡ true
 after-listed n new tag t [] h = h
 after-listed n new tag t (entry ∷ entries) h =
-    choose-listed (stands_for n entry) _ _ (head-listed new tag (entry ∷ entries) t h) (cons-listed entry entries _ h (after-listed n new tag t entries (tail-listed entry entries h)))
+    choose-listed (stands_for n entry) _ _ (head-listed new tag (entry ∷ entries) t h)
+    (cons-listed entry entries _ h (after-listed n new tag t entries (tail-listed entry entries h)))
 
-relist-listed : (n new : ℕ) (tag : Tag) (copies : List Open) (entries : List Entry) → is_among tag.name (names_of set.FormattingEnd) ≡ true → are_formatting entries ≡ true → are_formatting (relist n (Element new tag) copies entries) ≡ true
+relist-listed : (n new : ℕ) (tag : Tag) (copies : List Open) (entries : List Entry)
+    → is_among tag.name (names_of set.FormattingEnd) ≡ true → are_formatting entries ≡ true
+    → are_formatting (relist n (Element new tag) copies entries) ≡ true
 relist-listed n new tag [] entries t h = in_place-listed n new tag t entries h
-relist-listed n new tag (x ∷ copies) entries t h = without-listed n (put_after x.number (Element new tag) entries) (after-listed x.number new tag t entries h)
+relist-listed n new tag (x ∷ copies) entries t h = without-listed n (put_after x.number (Element new tag) entries)
+    (after-listed x.number new tag t entries h)
 
 -- what is found in the list was made for a formatting element
 IsFormatting : Option Listed → Type 0
 IsFormatting o = IfSome o (λ listed. is_among listed.tag.name (names_of set.FormattingEnd) ≡ true)
 
-choose-formatting : (b : Bool) (x y : Option Listed) → IfSome x (λ listed. is_among listed.tag.name (names_of set.FormattingEnd) ≡ true) → IfSome y (λ listed. is_among listed.tag.name (names_of set.FormattingEnd) ≡ true)
+choose-formatting : (b : Bool) (x y : Option Listed)
+    → IfSome x (λ listed. is_among listed.tag.name (names_of set.FormattingEnd) ≡ true)
+    → IfSome y (λ listed. is_among listed.tag.name (names_of set.FormattingEnd) ≡ true)
     → IfSome (choose b (λ _. x) (λ _. y)) (λ listed. is_among listed.tag.name (names_of set.FormattingEnd) ≡ true)
 choose-formatting true x y h k = h
 choose-formatting false x y h k = k
 
-pub as-formatting : (n : ℕ) (entries : List Entry) → are_formatting entries ≡ true → IfSome (listed_as n entries) (λ listed. is_among listed.tag.name (names_of set.FormattingEnd) ≡ true)
+pub as-formatting : (n : ℕ) (entries : List Entry) → are_formatting entries ≡ true → IfSome (listed_as n entries)
+    (λ listed. is_among listed.tag.name (names_of set.FormattingEnd) ≡ true)
 as-formatting n [] h = tt
 as-formatting n (Marker ∷ entries) h = as-formatting n entries h
 as-formatting n (Element m tag ∷ entries) h =
     let parts = and_parts (is_among tag.name (names_of set.FormattingEnd)) (are_formatting entries) h in
     choose-formatting (nat_eq m n) _ _ parts.0 (as-formatting n entries parts.1)
 
-pub named-formatting : (name : List ℕ) (entries : List Entry) → are_formatting entries ≡ true → IfSome (last_named name entries) (λ listed. is_among listed.tag.name (names_of set.FormattingEnd) ≡ true)
+pub named-formatting : (name : List ℕ) (entries : List Entry) → are_formatting entries ≡ true
+    → IfSome (last_named name entries) (λ listed. is_among listed.tag.name (names_of set.FormattingEnd) ≡ true)
 named-formatting name [] h = tt
 named-formatting name (Marker ∷ entries) h = tt
 named-formatting name (Element m tag ∷ entries) h =
@@ -248,7 +289,8 @@ record WalksWell (w : Walk) : Type 0 where
   plain : ArePlain w.copies
   listed : are_formatting w.active_formatting ≡ true
 
-copied-well : (o : Option Listed) (w : Walk) → IfSome o (λ listed. is_among listed.tag.name (names_of set.FormattingEnd) ≡ true) → WalksWell w → WalksWell (copy_if o w)
+copied-well : (o : Option Listed) (w : Walk)
+    → IfSome o (λ listed. is_among listed.tag.name (names_of set.FormattingEnd) ≡ true) → WalksWell w → WalksWell (copy_if o w)
 copied-well None w h is = is
 copied-well (Some listed) w h is = record {
   plain = plain-append w.copies _ is.plain (plain-formatting listed.tag h (node_count w.forest), tt);
@@ -257,59 +299,81 @@ copied-well (Some listed) w h is = record {
 
 walked-well : (left : ℕ) (xs : List Open) (w : Walk) → WalksWell w → WalksWell (walk left xs w)
 walked-well left [] w is = is
-walked-well zero (x ∷ xs) w is = walked-well zero xs (record w { active_formatting = without_entry x.number w.active_formatting }) (record { plain = is.plain; listed = without-listed x.number w.active_formatting is.listed })
-walked-well (suc left) (x ∷ xs) w is = walked-well left xs (copy_if (listed_as x.number w.active_formatting) w) (copied-well (listed_as x.number w.active_formatting) w (as-formatting x.number w.active_formatting is.listed) is)
+walked-well zero (x ∷ xs) w is = walked-well zero xs
+    (record w { active_formatting = without_entry x.number w.active_formatting })
+    (record { plain = is.plain; listed = without-listed x.number w.active_formatting is.listed })
+walked-well (suc left) (x ∷ xs) w is = walked-well left xs (copy_if (listed_as x.number w.active_formatting) w)
+    (copied-well (listed_as x.number w.active_formatting) w (as-formatting x.number w.active_formatting is.listed) is)
 
 -- the copies of a walk were made for formatting elements
-pub walked-plain : (left : ℕ) (xs : List Open) (block : Open) (s : State) → are_formatting s.active_formatting ≡ true → ArePlain (walk left xs (begin_walk block s)).copies
+pub walked-plain : (left : ℕ) (xs : List Open) (block : Open) (s : State)
+    → are_formatting s.active_formatting ≡ true → ArePlain (walk left xs (begin_walk block s)).copies
 walked-plain left xs block s l = (walked-well left xs (begin_walk block s) (record { plain = tt; listed = l })).plain
 
-adopt-tame : (fe : Listed) (block : Open) (w : Walk) (s : State) → is_among fe.tag.name (names_of set.FormattingEnd) ≡ true → WalksWell w → is_open fe.number s.open_elems ≡ true
+adopt-tame : (fe : Listed) (block : Open) (w : Walk) (s : State) → is_among fe.tag.name (names_of set.FormattingEnd)
+    ≡ true → WalksWell w → is_open fe.number s.open_elems ≡ true
     → furthest_block (opened_after fe.number s.open_elems) ≡ Some block → IsTame s (adopt fe block w s)
 adopt-tame fe block w s t is there e =
     let at = found fe.number block s.open_elems there e in
     record {
-      firm = adopted-firm s.open_elems (opened_after block.number s.open_elems) (opened_before fe.number s.open_elems) block at.0 _ w.copies at.1 (plain-formatting fe.tag t _) is.plain;
+      firm = adopted-firm s.open_elems (opened_after block.number s.open_elems)
+          (opened_before fe.number s.open_elems) block at.0 _ w.copies at.1 (plain-formatting fe.tag t _) is.plain;
       listed = relist-listed fe.number _ fe.tag w.copies w.active_formatting t is.listed;
     }
 
-from-tame : (fe : Listed) (s : State) (o : Option Open) → is_among fe.tag.name (names_of set.FormattingEnd) ≡ true → are_formatting s.active_formatting ≡ true → is_open fe.number s.open_elems ≡ true
+from-tame : (fe : Listed) (s : State) (o : Option Open) → is_among fe.tag.name (names_of set.FormattingEnd) ≡ true
+    → are_formatting s.active_formatting ≡ true → is_open fe.number s.open_elems ≡ true
     → furthest_block (opened_after fe.number s.open_elems) ≡ o → IsTame s (adopt_from fe o s).state
-from-tame fe s None t l there e = part-tame s (cut_at fe s) (part-below (is_number fe.number) s.open_elems) (without-listed fe.number s.active_formatting l)
-from-tame fe s (Some block) t l there e = adopt-tame fe block (walk 3 (between fe block s) (begin_walk block s)) s t (walked-well 3 (between fe block s) (begin_walk block s) (record { plain = tt; listed = l })) there e
+from-tame fe s None t l there e = part-tame s (cut_at fe s) (part-below (is_number fe.number) s.open_elems)
+    (without-listed fe.number s.active_formatting l)
+from-tame fe s (Some block) t l there e = adopt-tame fe block (walk 3 (between fe block s) (begin_walk block s)) s t
+    (walked-well 3 (between fe block s) (begin_walk block s) (record { plain = tt; listed = l })) there e
 
-open-tame : (fe : Listed) (s : State) → is_among fe.tag.name (names_of set.FormattingEnd) ≡ true → are_formatting s.active_formatting ≡ true → is_open fe.number s.open_elems ≡ true → IsTame s (adopt_open fe s).state
+open-tame : (fe : Listed) (s : State) → is_among fe.tag.name (names_of set.FormattingEnd) ≡ true
+    → are_formatting s.active_formatting ≡ true → is_open fe.number s.open_elems ≡ true → IsTame s (adopt_open fe s).state
 unfolding parse_error
 open-tame fe s t l there = by (current_is (is_number fe.number) s.open_elems) where
-  by : (b : Bool) → IsTame s (adopt_from fe (furthest_block (opened_after fe.number s.open_elems)) (choose b (λ _. s) (λ _. parse_error s))).state
+  by : (b : Bool) → IsTame s (adopt_from fe (furthest_block (opened_after fe.number s.open_elems))
+      (choose b (λ _. s) (λ _. parse_error s))).state
   by true = from-tame fe s (furthest_block (opened_after fe.number s.open_elems)) t l there refl
-  by false = after-tame s (parse_error s) _ (parse_error-tame s l) (λ l. from-tame fe (parse_error s) (furthest_block (opened_after fe.number s.open_elems)) t l there refl)
+  by false = after-tame s (parse_error s) _ (parse_error-tame s l)
+      (λ l. from-tame fe (parse_error s) (furthest_block (opened_after fe.number s.open_elems)) t l there refl)
 
-pub turned-tame : (o : Option Listed) (name : List ℕ) (s : State) → IfSome o (λ listed. is_among listed.tag.name (names_of set.FormattingEnd) ≡ true) → are_formatting s.active_formatting ≡ true → IsTame s (adopt_listed o name s).state
+pub turned-tame : (o : Option Listed) (name : List ℕ) (s : State)
+    → IfSome o (λ listed. is_among listed.tag.name (names_of set.FormattingEnd) ≡ true)
+    → are_formatting s.active_formatting ≡ true → IsTame s (adopt_listed o name s).state
 turned-tame None name s t l = generic-tame name s l
-turned-tame (Some fe) name s t l = by (is_open fe.number s.open_elems) (in_scope set.DefaultScope (is_number fe.number) s.open_elems) refl where
-  by : (a b : Bool) → is_open fe.number s.open_elems ≡ a → IsTame s (choose (not a) (λ _. record { state = unlist fe (parse_error s); goes_on = false }) (λ _. choose (not b) (λ _. record { state = parse_error s; goes_on = false }) (λ _. adopt_open fe s))).state
-  by false b e = after-tame s (parse_error s) _ (parse_error-tame s l) (λ l. part-tame (parse_error s) _ (part-same (parse_error s).open_elems) (without-listed fe.number (parse_error s).active_formatting l))
-  by true false e = parse_error-tame s l
-  by true true e = open-tame fe s t l e
+turned-tame (Some fe) name s t l = by (is_open fe.number s.open_elems)
+    (in_scope set.DefaultScope (is_number fe.number) s.open_elems) refl where
+      by : (a b : Bool) → is_open fe.number s.open_elems ≡ a
+          → IsTame s (choose (not a) (λ _. record { state = unlist fe (parse_error s); goes_on = false })
+          (λ _. choose (not b) (λ _. record { state = parse_error s; goes_on = false }) (λ _. adopt_open fe s))).state
+      by false b e = after-tame s (parse_error s) _ (parse_error-tame s l)
+          (λ l. part-tame (parse_error s) _ (part-same (parse_error s).open_elems)
+          (without-listed fe.number (parse_error s).active_formatting l))
+      by true false e = parse_error-tame s l
+      by true true e = open-tame fe s t l e
 
 turns-tame : (n : ℕ) (name : List ℕ) → Tames (adoption_turns n name)
 unfolding adoption_turns adoption_turn
 turns-tame zero name s l = same-tame s l
 turns-tame (suc n) name s l =
     let turned = turned-tame (last_named name s.active_formatting) name s (named-formatting name s.active_formatting l) l in
-    either-tame (adoption_turn name s).goes_on s _ _ (after-tame s (adoption_turn name s).state _ turned (turns-tame n name (adoption_turn name s).state)) turned
+    either-tame (adoption_turn name s).goes_on s _ _
+    (after-tame s (adoption_turn name s).state _ turned (turns-tame n name (adoption_turn name s).state)) turned
 
 pub agency-tame : (name : List ℕ) → Tames (adoption_agency name)
 unfolding adoption_agency
-agency-tame name s l = either-tame (current_is (is_named name) s.open_elems && not (is_listed (current_number s.open_elems) s.active_formatting)) s _ _ (pop-tame s l) (turns-tame 8 name s l)
+agency-tame name s l = either-tame (current_is (is_named name) s.open_elems
+    && not (is_listed (current_number s.open_elems) s.active_formatting)) s _ _ (pop-tame s l) (turns-tame 8 name s l)
 
 pub misnested-tame : (o : Option Listed) → Tames (close_misnested o)
 misnested-tame None s l = same-tame s l
 misnested-tame (Some a) s l =
     let closed : State = adoption_agency (codes "a") (parse_error s) in
     after-tame s closed _ (after-tame s (parse_error s) closed (parse_error-tame s l) (agency-tame (codes "a") (parse_error s)))
-    (λ l. after-tame closed (unlist a closed) _ (part-tame closed (unlist a closed) (part-same closed.open_elems) (without-listed a.number closed.active_formatting l)) (remove-tame a.number (unlist a closed)))
+    (λ l. after-tame closed (unlist a closed) _ (part-tame closed (unlist a closed) (part-same closed.open_elems)
+    (without-listed a.number closed.active_formatting l)) (remove-tame a.number (unlist a closed)))
 
 -- other steps
 
@@ -323,13 +387,16 @@ remove_if-tame (Some n) s l = part-tame s _ (part-same s.open_elems) l
 
 pub enter-tame : (namespace : Namespace) (tag : Tag) → is_html namespace ≡ false → Tames (enter_foreign namespace tag)
 unfolding enter_foreign
-enter-tame namespace tag h s l = either-tame tag.self_closing s _ _ (put_element-tame namespace tag.name _ tag.had_duplicate_attributes s l) (insert_element-tame namespace tag.name _ tag.had_duplicate_attributes (plain-foreign namespace tag.name h) s l)
+enter-tame namespace tag h s l = either-tame tag.self_closing s _ _
+    (put_element-tame namespace tag.name _ tag.had_duplicate_attributes s l)
+    (insert_element-tame namespace tag.name _ tag.had_duplicate_attributes (plain-foreign namespace tag.name h) s l)
 
 pub foreign-tame : (o : Option Open) (tag : Tag) → IfSome o (λ x. is_html x.namespace ≡ false) → Tames (foreign_start_at o tag)
 foreign-tame None tag h s l = same-tame s l
 foreign-tame (Some x) tag h s l = enter-tame x.namespace _ h s l
 
-pub close_by-tame : (e : ForeignEnd) (s : State) → LeavesPart s.open_elems e → are_formatting s.active_formatting ≡ true → IsTame s (close_foreign_by e s)
+pub close_by-tame : (e : ForeignEnd) (s : State) → LeavesPart s.open_elems e
+    → are_formatting s.active_formatting ≡ true → IsTame s (close_foreign_by e s)
 close_by-tame Dropped s h l = same-tame s l
 close_by-tame AsInMode s h l = same-tame s l
 close_by-tame (Closed left) s h l = part-tame s _ h l
@@ -338,7 +405,9 @@ in_body-tame : (text : List ℕ) → Tames (append_in_body text)
 unfolding frameset_not_ok_unless_white
 in_body-tame text s l =
     let made : State = reconstruct_active_formatting_elements s in
-    after-tame s (frameset_not_ok_unless_white text made) _ (after-tame s made _ (reconstruct-tame s l) (part-tame made _ (part-same made.open_elems))) (append_text-tame text (frameset_not_ok_unless_white text made))
+    after-tame s (frameset_not_ok_unless_white text made) _
+    (after-tame s made _ (reconstruct-tame s l) (part-tame made _ (part-same made.open_elems)))
+    (append_text-tame text (frameset_not_ok_unless_white text made))
 
 pub tell-tame : (text : List ℕ) → Tames (insert_table_text text)
 unfolding set_foster_parenting
@@ -346,5 +415,6 @@ tell-tame text s l =
     let fostered : State = set_foster_parenting true (parse_error s) in
     either-tame (is_white text) s _ _ (append_text-tame text s l)
     (after-tame s (append_in_body text fostered) _
-    (after-tame s fostered _ (after-tame s (parse_error s) fostered (parse_error-tame s l) (part-tame (parse_error s) fostered (part-same (parse_error s).open_elems))) (in_body-tame text fostered))
+    (after-tame s fostered _ (after-tame s (parse_error s) fostered (parse_error-tame s l)
+    (part-tame (parse_error s) fostered (part-same (parse_error s).open_elems))) (in_body-tame text fostered))
     (part-tame (append_in_body text fostered) _ (part-same (append_in_body text fostered).open_elems)))

@@ -28,10 +28,16 @@ context-count false = refl
 document-nested : (setting : Setting) (f : Forest) → IsNested (before_document setting f)
 document-nested setting f = record { fits = refl; count = refl; framed = λ e. refl; form = tt }
 
-fragment-nested : (setting : Setting) (context : Open) (form : Option ℕ) (f : Forest) → IsTree f → IfSome form (λ n. element_name (data_of f n) ≡ Some (element_name_of Html (codes "form"))) → IsNested (before_fragment setting context form f)
+fragment-nested : (setting : Setting) (context : Open) (form : Option ℕ) (f : Forest) → IsTree f
+    → IfSome form (λ n. element_name (data_of f n) ≡ Some (element_name_of Html (codes "form")))
+    → IsNested (before_fragment setting context form f)
 unfolding create_root
 fragment-nested setting context form f tree named =
-    let s : State = create_root [] (record (before_document setting f) { context_elem = Some context; form_elem = form; template_modes = modes_of_context context }) in
+    let s : State = create_root [] (record (before_document setting f) {
+      context_elem = Some context;
+      form_elem = form;
+      template_modes = modes_of_context context;
+    }) in
     let at = IsParent-document f tree.forest in
     let made = made-Made f Html (codes "html") [] false [] tree tt tt in
     let whole = put-Made f Html (codes "html") [] false [] (Last 0) tree tt tt at (IsParent-document _ made.stays.tree.forest) in

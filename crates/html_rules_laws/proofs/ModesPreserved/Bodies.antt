@@ -16,13 +16,17 @@ use Rattle.html_rules.specs.Sets.{is_among, mathml_names_of, names_of, svg_names
 use Rattle.html_rules.specs.Shape.{one_if}
 use Rattle.html_rules.specs.Stack.{in_scope}
 use Rattle.html_rules.specs.State.{Open, State, current_is, is_in, is_named}
-use Rattle.html_rules.specs.Table.{Condition, InScope, TokenInScope, CurrentIs, Action, Nothing as NoAction, Then, ParseError, InsertElement, SaveMode, SwitchTo, EnableFosterParenting, DisableFosterParenting}
+use Rattle.html_rules.specs.Table.{Condition, InScope, TokenInScope, CurrentIs, Action, Nothing as NoAction, Then, ParseError}
+use Rattle.html_rules.specs.Table.{InsertElement, SaveMode, SwitchTo, EnableFosterParenting, DisableFosterParenting}
 use Rattle.html_rules.specs.Tokens.{name_of}
 use Rattle.html_rules.specs.declared.insertion_mode.InsertionMode.{InsertionMode}
 use Rattle.html_rules.specs.declared.insertion_mode.InsertionMode.TheVariants as mode
 use Rattle.html_rules.specs.declared.tag_set.TagSet.{TagSet}
 use Rattle.html_rules.specs.declared.tag_set.TagSet.TheVariants as set
-use Rattle.html_rules_laws.specs.Nesting.{Part, Root, HeadPart, BodyPart, Frames, Contents, TablePart, Section, RowPart, Cell, CaptionPart, Columns, Loose, Nothing, Ground, IsNested, base, fits_nested, fits_parts, fits_root, has_base, is_loose, is_in_template, may_stand, nested, part_of, set_of, takes}
+use Rattle.html_rules_laws.specs.Nesting.{Part, Root, HeadPart, BodyPart, Frames, Contents, TablePart, Section, RowPart, Cell}
+use Rattle.html_rules_laws.specs.Nesting.{CaptionPart, Columns, Loose, Nothing, Ground, IsNested, base, fits_nested, fits_parts}
+use Rattle.html_rules_laws.specs.Nesting.{fits_root, has_base, is_loose, is_in_template, may_stand, nested, part_of, set_of}
+use Rattle.html_rules_laws.specs.Nesting.{takes}
 use Rattle.html_rules_laws.specs.Upright.{is_first}
 use Rattle.html_rules_laws.proofs.Names.{disjoint, shares_name}
 use Rattle.html_rules_laws.proofs.SetFacts.{apart}
@@ -31,7 +35,8 @@ use Rattle.html_rules_laws.proofs.Soundness.Rows.{is_insert, is_to_text}
 use Rattle.html_rules_laws.proofs.TreePreserved.StandingTrees.{inserted-Made}
 use Rattle.html_rules_laws.proofs.ModesPreserved.Fits.{base-nonempty, based-some}
 use Rattle.html_rules_laws.proofs.ModesPreserved.Flows.{named-out}
-use Rattle.html_rules_laws.proofs.ModesPreserved.Fluid.{At, Fluid, are_parts, fluid-flow, fluid-moved, form-kept, have_parts, loose-is, named-loose, parts-out}
+use Rattle.html_rules_laws.proofs.ModesPreserved.Fluid.{At, Fluid, are_parts, fluid-flow, fluid-moved, form-kept, have_parts}
+use Rattle.html_rules_laws.proofs.ModesPreserved.Fluid.{loose-is, named-loose, parts-out}
 use Rattle.html_rules_laws.proofs.ModesPreserved.Parts.{name-loose, part-apart, set-part}
 use Rattle.html_rules_laws.proofs.ModesPreserved.Runs.{runs, runs-sound}
 use Rattle.html_rules_laws.proofs.ModesPreserved.Smooth.{Guard, NoGuard, Holds, is_tag_kind, kind-loose, loose_kind}
@@ -54,10 +59,13 @@ is_bodily m = false
 
 -- what a state in such a mode has
 
-based : (g : Ground) (template : Bool) (m : InsertionMode) (b : Part) (xs : List Open) → has_base m b ≡ true → nested g xs ≡ true → base xs ≡ b → fits_root g template m b ≡ true → (nested g xs && (has_base m (base xs) && fits_root g template m (base xs))) ≡ true
+based : (g : Ground) (template : Bool) (m : InsertionMode) (b : Part) (xs : List Open) → has_base m b ≡ true
+    → nested g xs ≡ true → base xs ≡ b → fits_root g template m b ≡ true
+    → (nested g xs && (has_base m (base xs) && fits_root g template m (base xs))) ≡ true
 based g template m b xs h n e r = rw (n, e, h, r) refl
 
-pub flow-fits : (g : Ground) (template : Bool) (m : InsertionMode) (b : Part) (xs : List Open) → is_bodily m ≡ true → has_base m b ≡ true → nested g xs ≡ true → base xs ≡ b → fits_root g template m b ≡ true → fits_nested g template m xs ≡ true
+pub flow-fits : (g : Ground) (template : Bool) (m : InsertionMode) (b : Part) (xs : List Open) → is_bodily m ≡ true
+    → has_base m b ≡ true → nested g xs ≡ true → base xs ≡ b → fits_root g template m b ≡ true → fits_nested g template m xs ≡ true
 flow-fits g t mode.InBody b xs f h n e r = based g t mode.InBody b xs h n e r
 flow-fits g t mode.AfterBody b xs f h n e r = based g t mode.AfterBody b xs h n e r
 flow-fits g t mode.AfterAfterBody b xs f h n e r = based g t mode.AfterAfterBody b xs h n e r
@@ -70,17 +78,22 @@ flow-fits g t mode.InColumnGroup b xs f h n e r = based g t mode.InColumnGroup b
 flow-fits g t mode.InTemplate b xs f h n e r = based g t mode.InTemplate b xs h n e r
 flow-fits g t m b xs f h n e r = no f
 
-pub flow-parts : (g : Ground) (template : Bool) (m : InsertionMode) (o : Option InsertionMode) (xs : List Open) → is_bodily m ≡ true → fits_nested g template m xs ≡ true → fits_parts g template m o xs ≡ true
+pub flow-parts : (g : Ground) (template : Bool) (m : InsertionMode) (o : Option InsertionMode) (xs : List Open)
+    → is_bodily m ≡ true → fits_nested g template m xs ≡ true → fits_parts g template m o xs ≡ true
 flow-parts g t mode.Text o xs f h = no f
 flow-parts g t mode.InTableText o xs f h = no f
 flow-parts g t m o xs f h = h
 
-pub flow-direct : (g : Ground) (template : Bool) (m : InsertionMode) (o : Option InsertionMode) (xs : List Open) → is_bodily m ≡ true → fits_parts g template m o xs ≡ true → (nested g xs ≡ true) × ((has_base m (base xs) ≡ true) × (fits_root g template m (base xs) ≡ true))
+pub flow-direct : (g : Ground) (template : Bool) (m : InsertionMode) (o : Option InsertionMode) (xs : List Open)
+    → is_bodily m ≡ true → fits_parts g template m o xs ≡ true → (nested g xs ≡ true)
+    × ((has_base m (base xs) ≡ true) × (fits_root g template m (base xs) ≡ true))
 flow-direct g t m o xs f h = by m f h where
-  split : (m : InsertionMode) → (nested g xs && (has_base m (base xs) && fits_root g t m (base xs))) ≡ true → (nested g xs ≡ true) × ((has_base m (base xs) ≡ true) × (fits_root g t m (base xs) ≡ true))
+  split : (m : InsertionMode) → (nested g xs && (has_base m (base xs) && fits_root g t m (base xs))) ≡ true
+      → (nested g xs ≡ true) × ((has_base m (base xs) ≡ true) × (fits_root g t m (base xs) ≡ true))
   split m h = let one = and_parts (nested g xs) _ h in (one.0, and_parts (has_base m (base xs)) _ one.1)
 
-  by : (m : InsertionMode) → is_bodily m ≡ true → fits_parts g t m o xs ≡ true → (nested g xs ≡ true) × ((has_base m (base xs) ≡ true) × (fits_root g t m (base xs) ≡ true))
+  by : (m : InsertionMode) → is_bodily m ≡ true → fits_parts g t m o xs ≡ true → (nested g xs ≡ true)
+      × ((has_base m (base xs) ≡ true) × (fits_root g t m (base xs) ≡ true))
   by mode.InBody f h = split mode.InBody h
   by mode.AfterBody f h = split mode.AfterBody h
   by mode.AfterAfterBody f h = split mode.AfterAfterBody h
@@ -93,7 +106,8 @@ flow-direct g t m o xs f h = by m f h where
   by mode.InTemplate f h = split mode.InTemplate h
   by m f h = no f
 
-root-flows : (g : Ground) (template : Bool) (m : InsertionMode) (b : Part) → takes g b ≡ true → (m ≡ mode.InTemplate → b ≡ Root → template ≡ true) → fits_root g template m b ≡ true
+root-flows : (g : Ground) (template : Bool) (m : InsertionMode) (b : Part) → takes g b ≡ true
+    → (m ≡ mode.InTemplate → b ≡ Root → template ≡ true) → fits_root g template m b ≡ true
 root-flows g template m Root t i = both _ _ t (by m (λ e. i e refl)) where
   or-true : (b c : Bool) → b ≡ true → (b || c) ≡ true
   or-true b c h = rw h refl
@@ -108,26 +122,35 @@ root-flows g template m Root t i = both _ _ t (by m (λ e. i e refl)) where
 root-flows g template m b t i = refl
 
 -- a state after actions in such a mode, and in another that the token is taken again in
-pub fluid-nested : (g : Ground) (template : Bool) (w : At) (r : State) → Fluid g template w r → is_bodily w.mode ≡ true → has_base w.mode w.base ≡ true → IsNested r
+pub fluid-nested : (g : Ground) (template : Bool) (w : At) (r : State) → Fluid g template w r
+    → is_bodily w.mode ≡ true → has_base w.mode w.base ≡ true → IsNested r
 fluid-nested g template w r h f b = record {
-  fits = rw (h.ground, h.of_template, h.at_mode) (flow-parts g template w.mode r.orig_mode r.open_elems f (flow-fits g template w.mode w.base r.open_elems f b h.nested h.base (root-flows g template w.mode w.base h.takes h.in_template)));
+  fits = rw (h.ground, h.of_template, h.at_mode) (flow-parts g template w.mode r.orig_mode r.open_elems f
+      (flow-fits g template w.mode w.base r.open_elems f b h.nested h.base (root-flows g template w.mode w.base h.takes h.in_template)));
   count = h.count;
   framed = h.framed;
   form = h.form;
 }
 
-pub moved-nested : (g : Ground) (template : Bool) (w : At) (to : InsertionMode) (r : State) → Fluid g template w r → is_bodily to ≡ true → is_in_template to ≡ false → is_first to ≡ false → has_base to w.base ≡ true → IsNested (set_mode to r)
-moved-nested g template w to r h f n i b = fluid-nested g template (record w { mode = to }) (set_mode to r) (fluid-moved g template w to r i n h) f b
+pub moved-nested : (g : Ground) (template : Bool) (w : At) (to : InsertionMode) (r : State) → Fluid g template w r
+    → is_bodily to ≡ true → is_in_template to ≡ false → is_first to ≡ false → has_base to w.base ≡ true → IsNested (set_mode to r)
+moved-nested g template w to r h f n i b = fluid-nested g template (record w { mode = to }) (set_mode to r)
+    (fluid-moved g template w to r i n h) f b
 
 -- text of an element comes
 
-text-nested : (g : Ground) (template : Bool) (w : At) (r : State) → Fluid g template w r → is_bodily w.mode ≡ true → has_base w.mode w.base ≡ true → (tag : Tag) → IsLoose (record { number = node_count r.forest; namespace = Html; name = tag.name }) → IsNested (set_mode mode.Text (save_mode (insert_element_for tag r)))
+text-nested : (g : Ground) (template : Bool) (w : At) (r : State) → Fluid g template w r → is_bodily w.mode ≡ true
+    → has_base w.mode w.base ≡ true → (tag : Tag)
+    → IsLoose (record { number = node_count r.forest; namespace = Html; name = tag.name })
+    → IsNested (set_mode mode.Text (save_mode (insert_element_for tag r)))
 unfolding set_mode save_mode insert_element
 text-nested g template w r h f b tag l =
     let x : Open = record { number = node_count r.forest; namespace = Html; name = tag.name } in
-    let fits = flow-fits g template w.mode w.base r.open_elems f b h.nested h.base (root-flows g template w.mode w.base h.takes h.in_template) in
+    let fits = flow-fits g template w.mode w.base r.open_elems f b h.nested h.base
+    (root-flows g template w.mode w.base h.takes h.in_template) in
     let some = base-nonempty r.open_elems (rw h.base (based-some w.mode w.base b)) in
-    let made = inserted-Made r.foster_parenting r.forest Html tag.name tag.attrs tag.had_duplicate_attributes r.open_elems h.poised.upright.standing.tree tt h.poised.upright.standing.opened in
+    let made = inserted-Made r.foster_parenting r.forest Html tag.name tag.attrs tag.had_duplicate_attributes
+    r.open_elems h.poised.upright.standing.tree tt h.poised.upright.standing.opened in
     let same = pushed-templates x r.open_elems l in
     record {
       fits = rw (h.ground, h.of_template, h.at_mode, l, some) fits;
@@ -137,18 +160,25 @@ text-nested g template w r h f b tag l =
     }
 
 abbrev pub raw : Kind → Guard → Action → At → Bool
-raw kind gd (Then a b) w = (is_insert a && (is_to_text b && ((is_tag_kind kind && loose_kind kind) && (is_bodily w.mode && has_base w.mode w.base)))) || runs kind gd a w (λ v. raw kind NoGuard b v)
+raw kind gd (Then a b) w =
+    (is_insert a && (is_to_text b
+    && ((is_tag_kind kind && loose_kind kind) && (is_bodily w.mode && has_base w.mode w.base))))
+    || runs kind gd a w (λ v. raw kind NoGuard b v)
 raw kind gd a w = false
 
 module _ (g : Ground) (template : Bool) (t : Token) where
-  to-text : (kind : Kind) (a b : Action) (w : At) → (is_insert a && (is_to_text b && ((is_tag_kind kind && loose_kind kind) && (is_bodily w.mode && has_base w.mode w.base)))) ≡ true → is_of kind t ≡ true → (s : State) → Fluid g template w s → IsNested (act b t (act a t s))
+  to-text : (kind : Kind) (a b : Action) (w : At)
+      → (is_insert a && (is_to_text b
+      && ((is_tag_kind kind && loose_kind kind) && (is_bodily w.mode && has_base w.mode w.base)))) ≡ true
+      → is_of kind t ≡ true → (s : State) → Fluid g template w s → IsNested (act b t (act a t s))
   to-text kind InsertElement (Then SaveMode (SwitchTo mode.Text)) w h k s fluid =
       let one = and_parts (is_tag_kind kind && loose_kind kind) _ h in
       let two = and_parts (is_bodily w.mode) _ one.1 in
       let three = and_parts (is_tag_kind kind) (loose_kind kind) one.0 in
       by t refl k three.0 three.1 two.0 two.1
     where
-      tagged : (kind : Kind) (u : Token) → is_tag_kind kind ≡ true → is_of kind u ≡ true → (P : Token → Type 0) → ((tag : Tag) → u ≡ TagToken tag → P (TagToken tag)) → P u
+      tagged : (kind : Kind) (u : Token) → is_tag_kind kind ≡ true → is_of kind u ≡ true → (P : Token → Type 0)
+          → ((tag : Tag) → u ≡ TagToken tag → P (TagToken tag)) → P u
       tagged kind (TagToken tag) g k P h = h tag refl
       tagged (Starts names) u g k P h = no k
       tagged (Ends names) u g k P h = no k
@@ -156,16 +186,23 @@ module _ (g : Ground) (template : Bool) (t : Token) where
       tagged (EndsBut names) u g k P h = no k
       tagged kind u g k P h = no g
 
-      by : (u : Token) → t ≡ u → is_of kind u ≡ true → is_tag_kind kind ≡ true → loose_kind kind ≡ true → is_bodily w.mode ≡ true → has_base w.mode w.base ≡ true → IsNested (act (Then SaveMode (SwitchTo mode.Text)) u (act InsertElement u s))
-      by u e k i l f b = tagged kind u i k (λ u. IsNested (act (Then SaveMode (SwitchTo mode.Text)) u (act InsertElement u s))) (λ tag same. text-nested g template w s fluid f b tag (name-loose tag.name (kind-loose kind tag l (subst (λ u. is_of kind u ≡ true) same k)) (node_count s.forest)))
+      by : (u : Token) → t ≡ u → is_of kind u ≡ true → is_tag_kind kind ≡ true → loose_kind kind ≡ true
+          → is_bodily w.mode ≡ true → has_base w.mode w.base ≡ true
+          → IsNested (act (Then SaveMode (SwitchTo mode.Text)) u (act InsertElement u s))
+      by u e k i l f b = tagged kind u i k
+          (λ u. IsNested (act (Then SaveMode (SwitchTo mode.Text)) u (act InsertElement u s)))
+          (λ tag same. text-nested g template w s fluid f b tag
+          (name-loose tag.name (kind-loose kind tag l (subst (λ u. is_of kind u ≡ true) same k)) (node_count s.forest)))
   to-text kind InsertElement b w h k s fluid = no h
   to-text kind a b w h k s fluid = no h
 
-  pub raw-nested : (kind : Kind) (gd : Guard) (a : Action) (w : At) → raw kind gd a w ≡ true → is_of kind t ≡ true → (s : State) → Holds gd t s → Fluid g template w s → IsNested (act a t s)
+  pub raw-nested : (kind : Kind) (gd : Guard) (a : Action) (w : At) → raw kind gd a w ≡ true → is_of kind t ≡ true
+      → (s : State) → Holds gd t s → Fluid g template w s → IsNested (act a t s)
   raw-nested kind gd (Then a b) w h k s known fluid =
       or_by (is_insert a && (is_to_text b && ((is_tag_kind kind && loose_kind kind) && (is_bodily w.mode && has_base w.mode w.base)))) _ h
       (λ h. to-text kind a b w h k s fluid)
-      (λ h. let one = runs-sound g template t kind gd a w (λ v. raw kind NoGuard b v) h k s known fluid in raw-nested kind NoGuard b one.0 one.1.0 k (act a t s) tt one.1.1)
+      (λ h. let one = runs-sound g template t kind gd a w (λ v. raw kind NoGuard b v) h k s known fluid in
+      raw-nested kind NoGuard b one.0 one.1.0 k (act a t s) tt one.1.1)
   raw-nested kind gd a w h k s known fluid = no h
 
 -- rows that no state with this part finds
@@ -185,14 +222,18 @@ vacuous kind b (TokenInScope scope) = is_bounded scope && (token_parts kind b &&
 vacuous kind b (CurrentIs set.Colgroup) = not (is_columns b)
 vacuous kind b c = false
 
-scope-none : (scope : TagSet) → is_bounded scope ≡ true → (p : Open → Bool) → ((x : Open) → IsLoose x → p x ≡ false) → (b : Part) → bounds b ≡ true → ((x : Open) → part_of x ≡ b → p x ≡ false) → (xs : List Open) → base xs ≡ b → in_scope scope p xs ≡ false
+scope-none : (scope : TagSet) → is_bounded scope ≡ true → (p : Open → Bool) → ((x : Open) → IsLoose x → p x ≡ false)
+    → (b : Part) → bounds b ≡ true → ((x : Open) → part_of x ≡ b → p x ≡ false) → (xs : List Open) → base xs ≡ b
+    → in_scope scope p xs ≡ false
 scope-none scope s p out b c own [] e = refl
 scope-none scope s p out b c own (x ∷ xs) e = by (is_loose (part_of x)) refl e (scope-none scope s p out b c own xs) where
-  past : p x ≡ false → (d : Bool) → in_scope scope p xs ≡ false → choose (p x) (λ _. true) (λ _. choose d (λ _. false) (λ _. in_scope scope p xs)) ≡ false
+  past : p x ≡ false → (d : Bool) → in_scope scope p xs ≡ false → choose (p x) (λ _. true)
+      (λ _. choose d (λ _. false) (λ _. in_scope scope p xs)) ≡ false
   past o true rest = rw o refl
   past o false rest = rw o rest
 
-  by : (l : Bool) → is_loose (part_of x) ≡ l → choose l (λ _. base xs) (λ _. part_of x) ≡ b → (base xs ≡ b → in_scope scope p xs ≡ false) → in_scope scope p (x ∷ xs) ≡ false
+  by : (l : Bool) → is_loose (part_of x) ≡ l → choose l (λ _. base xs) (λ _. part_of x) ≡ b
+      → (base xs ≡ b → in_scope scope p xs ≡ false) → in_scope scope p (x ∷ xs) ≡ false
   by true l e rest = past (out x (loose-is (part_of x) l)) (is_in scope x) (rest e)
   by false l e rest = rw (own x e, bounding scope s x (rw e c)) refl
 
@@ -202,21 +243,26 @@ bound-solid Contents h = refl
 bound-solid TablePart h = refl
 bound-solid b h = no h
 
-names-out : (names : List (List ℕ)) (b : Part) → shares_name names (names_of (set_of b)) ≡ false → bounds b ≡ true → (name : List ℕ) → is_among name names ≡ true → (x : Open) → part_of x ≡ b → is_named name x ≡ false
+names-out : (names : List (List ℕ)) (b : Part) → shares_name names (names_of (set_of b)) ≡ false → bounds b ≡ true
+    → (name : List ℕ) → is_among name names ≡ true → (x : Open) → part_of x ≡ b → is_named name x ≡ false
 names-out names b s c name k x e = by (is_named name x) refl where
   by : (d : Bool) → is_named name x ≡ d → is_named name x ≡ false
   by true n = absurd (named-out [] name b (disjoint name names (names_of (set_of b)) s k) (bound-solid b c) x n e)
   by false n = n
 
-token-none : (scope : TagSet) → is_bounded scope ≡ true → (kind : Kind) (b : Part) → token_parts kind b ≡ true → bounds b ≡ true → (t : Token) → is_of kind t ≡ true → (xs : List Open) → base xs ≡ b → in_scope scope (is_named (name_of t)) xs ≡ false
+token-none : (scope : TagSet) → is_bounded scope ≡ true → (kind : Kind) (b : Part) → token_parts kind b ≡ true
+    → bounds b ≡ true → (t : Token) → is_of kind t ≡ true → (xs : List Open) → base xs ≡ b
+    → in_scope scope (is_named (name_of t)) xs ≡ false
 token-none scope s (Starts names) b h c (TagToken tag) k xs e =
     let tests = and_parts (have_parts names) _ h in
     let among = (and_parts (is_start_tag tag.kind) _ k).1 in
-    scope-none scope s (is_named tag.name) (λ x l. named-loose names tests.0 tag.name among x l) b c (λ x p. names-out names b (not_true _ tests.1) c tag.name among x p) xs e
+    scope-none scope s (is_named tag.name) (λ x l. named-loose names tests.0 tag.name among x l) b c
+    (λ x p. names-out names b (not_true _ tests.1) c tag.name among x p) xs e
 token-none scope s (Ends names) b h c (TagToken tag) k xs e =
     let tests = and_parts (have_parts names) _ h in
     let among = (and_parts (is_end_tag tag.kind) _ k).1 in
-    scope-none scope s (is_named tag.name) (λ x l. named-loose names tests.0 tag.name among x l) b c (λ x p. names-out names b (not_true _ tests.1) c tag.name among x p) xs e
+    scope-none scope s (is_named tag.name) (λ x l. named-loose names tests.0 tag.name among x l) b c
+    (λ x p. names-out names b (not_true _ tests.1) c tag.name among x p) xs e
 token-none scope s (Starts names) b h c t k xs e = no k
 token-none scope s (Ends names) b h c t k xs e = no k
 token-none scope s kind b h c t k xs e = no h
@@ -226,17 +272,20 @@ unfolding names_of mathml_names_of svg_names_of
 columns-is [] h = no h
 columns-is (x ∷ xs) h = rw (set-part set.Colgroup Columns refl x h) refl
 
-pub vacuous-none : (kind : Kind) (b : Part) (c : Condition) → vacuous kind b c ≡ true → (t : Token) → is_of kind t ≡ true → (s : State) → base s.open_elems ≡ b → holds c t s ≡ true → ⊥
+pub vacuous-none : (kind : Kind) (b : Part) (c : Condition) → vacuous kind b c ≡ true → (t : Token)
+    → is_of kind t ≡ true → (s : State) → base s.open_elems ≡ b → holds c t s ≡ true → ⊥
 vacuous-none kind b (InScope scope names) h t k s e o =
     let one = and_parts (is_bounded scope) _ h in
     let two = and_parts (are_parts names) _ one.1 in
     let three = and_parts (bounds b) _ two.1 in
-    true≢false (sym o ∙ scope-none scope one.0 (is_in names) (parts-out names two.0) b three.0 (λ x p. part-apart x b names (bound-solid b three.0) three.1 p) s.open_elems e)
+    true≢false (sym o ∙ scope-none scope one.0 (is_in names) (parts-out names two.0) b three.0
+    (λ x p. part-apart x b names (bound-solid b three.0) three.1 p) s.open_elems e)
 vacuous-none kind b (TokenInScope scope) h t k s e o =
     let one = and_parts (is_bounded scope) _ h in
     let two = and_parts (token_parts kind b) _ one.1 in
     true≢false (sym o ∙ token-none scope one.0 kind b two.0 two.1 t k s.open_elems e)
-vacuous-none kind b (CurrentIs set.Colgroup) h t k s e o = true≢false (sym (ap is_columns (sym e ∙ columns-is s.open_elems o)) ∙ not_true _ h)
+vacuous-none kind b (CurrentIs set.Colgroup) h t k s e o =
+    true≢false (sym (ap is_columns (sym e ∙ columns-is s.open_elems o)) ∙ not_true _ h)
 vacuous-none kind b c h t k s e o = true≢false (sym h)
 
 -- where a template may come
@@ -267,11 +316,17 @@ abbrev pub unfosters : Action → Bool
 unfosters DisableFosterParenting = true
 unfosters a = false
 
-pub stays-fluid : (g : Ground) (template : Bool) (b : Part) (m : InsertionMode) (kind : Kind) (a : Action) → stays a ≡ true → (t : Token) → is_of kind t ≡ true → (s : State) → Fluid g template (record { base = b; exact = false; mode = m }) s → Fluid g template (record { base = b; exact = false; mode = m }) (act a t s)
-stays-fluid g template b m kind (Then a c) h t k s fluid = let tests = and_parts (stays a) (stays c) h in stays-fluid g template b m kind c tests.1 t k (act a t s) (stays-fluid g template b m kind a tests.0 t k s fluid)
+pub stays-fluid : (g : Ground) (template : Bool) (b : Part) (m : InsertionMode) (kind : Kind) (a : Action)
+    → stays a ≡ true → (t : Token) → is_of kind t ≡ true → (s : State)
+    → Fluid g template (record { base = b; exact = false; mode = m }) s
+    → Fluid g template (record { base = b; exact = false; mode = m }) (act a t s)
+stays-fluid g template b m kind (Then a c) h t k s fluid = let tests = and_parts (stays a) (stays c) h in
+    stays-fluid g template b m kind c tests.1 t k (act a t s) (stays-fluid g template b m kind a tests.0 t k s fluid)
 stays-fluid g template b m kind NoAction h t k s fluid = fluid
-stays-fluid g template b m kind ParseError h t k s fluid = fluid-flow g template (record { base = b; exact = false; mode = m }) kind NoGuard ParseError refl refl refl t k s tt fluid
-stays-fluid g template b m kind EnableFosterParenting h t k s fluid = fluid-flow g template (record { base = b; exact = false; mode = m }) kind NoGuard EnableFosterParenting refl refl refl t k s tt fluid
+stays-fluid g template b m kind ParseError h t k s fluid = fluid-flow g template
+    (record { base = b; exact = false; mode = m }) kind NoGuard ParseError refl refl refl t k s tt fluid
+stays-fluid g template b m kind EnableFosterParenting h t k s fluid = fluid-flow g template
+    (record { base = b; exact = false; mode = m }) kind NoGuard EnableFosterParenting refl refl refl t k s tt fluid
 stays-fluid g template b m kind a h t k s fluid = no h
 
 pub unfostered-nested : (a : Action) → unfosters a ≡ true → (t : Token) (s : State) → IsNested s → IsNested (act a t s)

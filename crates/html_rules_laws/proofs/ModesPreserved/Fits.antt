@@ -1,5 +1,6 @@
 -- A state in which the parts nest fits.
-use Rattle.std.proofs.Common.{◌≡◌, ◌∙◌, ℕ, ◌+◌, ◌≤◌, Bool, true, false, List, [], ◌∷◌, length, Option, Some, None, refl, sym, ap, true≢false, arith}
+use Rattle.std.proofs.Common.{◌≡◌, ◌∙◌, ℕ, ◌+◌, ◌≤◌, Bool, true, false, List, [], ◌∷◌, length, Option, Some, None, refl, sym}
+use Rattle.std.proofs.Common.{ap, true≢false, arith}
 use Rattle.std.specs.Prelude.{◌||◌, ◌&&◌, not, is_some}
 use Rattle.std.proofs.lemmas.Bool.{and_parts, eq-eqb}
 use Rattle.html_rules.specs.Choice.{choose}
@@ -12,7 +13,11 @@ use Rattle.html_rules.specs.declared.insertion_mode.InsertionMode.{InsertionMode
 use Rattle.html_rules.specs.declared.insertion_mode.InsertionMode.TheVariants as mode
 use Rattle.html_rules.specs.declared.tag_set.TagSet.TheVariants as set
 use Rattle.html_rules_laws.specs.Held.{wanted}
-use Rattle.html_rules_laws.specs.Nesting.{Part, Root, HeadPart, BodyPart, Frames, Contents, TablePart, Section, RowPart, Cell, CaptionPart, Columns, Loose, Nothing, Ground, Document, InFrames, Flow, IsNested, base, fits_nested, fits_parts, fits_root, fits_table, fits_under, are_html, ground_of, has_base, is_document, is_flow, is_foster, is_frames, is_head, is_loose, is_root, may_stand, nested, part_among, part_of, parts, set_of, top}
+use Rattle.html_rules_laws.specs.Nesting.{Part, Root, HeadPart, BodyPart, Frames, Contents, TablePart, Section, RowPart, Cell}
+use Rattle.html_rules_laws.specs.Nesting.{CaptionPart, Columns, Loose, Nothing, Ground, Document, InFrames, Flow, IsNested}
+use Rattle.html_rules_laws.specs.Nesting.{base, fits_nested, fits_parts, fits_root, fits_table, fits_under, are_html, ground_of}
+use Rattle.html_rules_laws.specs.Nesting.{has_base, is_document, is_flow, is_foster, is_frames, is_head, is_loose, is_root}
+use Rattle.html_rules_laws.specs.Nesting.{may_stand, nested, part_among, part_of, parts, set_of, top}
 use Rattle.html_rules_laws.specs.Sound.{asks_root, has_its_head, is_later, is_table_mode}
 use Rattle.html_rules_laws.proofs.ModesPreserved.Fluid.{parts-out}
 use Rattle.html_rules_laws.proofs.ModesPreserved.Runs.{contents-count}
@@ -102,7 +107,8 @@ nested-root g (x ∷ xs) n s =
     some [] h = absurd (true≢false h)
     some (y ∷ ys) h = refl
 
-    by : (b : Bool) → is_root (part_of x) ≡ b → may_stand g (part_of x) (top xs) ≡ true → (is_nonempty xs ≡ true → has_root xs ≡ true) → choose (is_in set.Html x) (λ _. not (is_nonempty xs)) (λ _. has_root xs) ≡ true
+    by : (b : Bool) → is_root (part_of x) ≡ b → may_stand g (part_of x) (top xs) ≡ true
+        → (is_nonempty xs ≡ true → has_root xs ≡ true) → choose (is_in set.Html x) (λ _. not (is_nonempty xs)) (λ _. has_root xs) ≡ true
     by true e m rest = rw (root-html x ∙ e) (ap not (filled xs (only-nothing g (top xs) (rw (root-is (part_of x) e) at m))))
     by false e m rest = rw (root-html x ∙ e) (rest (some xs (not-nothing g (part_of x) (top xs) e m)))
 
@@ -175,11 +181,13 @@ cell-scope (x ∷ xs) e = by (is_loose (part_of x)) refl e (cell-scope xs) where
   loose-is Loose h = refl
   loose-is p h = no h
 
-  past : (a : Bool) → is_in set.TableScope x ≡ false → in_scope set.TableScope (is_in set.TdTh) xs ≡ true → choose a (λ _. true) (λ _. choose (is_in set.TableScope x) (λ _. false) (λ _. in_scope set.TableScope (is_in set.TdTh) xs)) ≡ true
+  past : (a : Bool) → is_in set.TableScope x ≡ false → in_scope set.TableScope (is_in set.TdTh) xs ≡ true
+      → choose a (λ _. true) (λ _. choose (is_in set.TableScope x) (λ _. false) (λ _. in_scope set.TableScope (is_in set.TdTh) xs)) ≡ true
   past true o rest = refl
   past false o rest = rw o rest
 
-  by : (b : Bool) → is_loose (part_of x) ≡ b → choose b (λ _. base xs) (λ _. part_of x) ≡ Cell → (base xs ≡ Cell → in_scope set.TableScope (is_in set.TdTh) xs ≡ true) → in_scope set.TableScope (is_in set.TdTh) (x ∷ xs) ≡ true
+  by : (b : Bool) → is_loose (part_of x) ≡ b → choose b (λ _. base xs) (λ _. part_of x) ≡ Cell
+      → (base xs ≡ Cell → in_scope set.TableScope (is_in set.TdTh) xs ≡ true) → in_scope set.TableScope (is_in set.TdTh) (x ∷ xs) ≡ true
   by true l e rest = past (is_in set.TdTh x) (parts-out set.TableScope refl x (loose-is (part_of x) l)) (rest e)
   by false l e rest = rw (part-set x Cell e refl) refl
 
@@ -203,7 +211,8 @@ cell-base : (p : Part) → has_base mode.InCell p ≡ true → p ≡ Cell
 cell-base Cell h = refl
 cell-base p h = no h
 
-based-root : (g : Ground) (template : Bool) (m : InsertionMode) (xs : List Open) → (nested g xs && (has_base m (base xs) && fits_root g template m (base xs))) ≡ true → has_root xs ≡ true
+based-root : (g : Ground) (template : Bool) (m : InsertionMode) (xs : List Open)
+    → (nested g xs && (has_base m (base xs) && fits_root g template m (base xs))) ≡ true → has_root xs ≡ true
 based-root g template m xs h =
     let tests = and_parts (nested g xs) _ h in
     nested-root g xs tests.0 (base-nonempty xs (based-some m (base xs) (and_parts (has_base m (base xs)) _ tests.1).0))
@@ -214,7 +223,8 @@ frames-some Frames h = refl
 frames-some p h = no h
 
 pub frames-root : (g : Ground) (xs : List Open) → (nested g xs && is_frames (top xs)) ≡ true → has_root xs ≡ true
-frames-root g xs h = let tests = and_parts (nested g xs) _ h in nested-root g xs tests.0 (nonempty-top xs true (frames-some (top xs) tests.1))
+frames-root g xs h = let tests = and_parts (nested g xs) _ h in nested-root g xs tests.0
+    (nonempty-top xs true (frames-some (top xs) tests.1))
 
 in-frames : (g : Ground) (xs : List Open) → (not (is_flow g) && (nested g xs && is_frames (top xs))) ≡ true → has_root xs ≡ true
 in-frames g xs h = frames-root g xs (and_parts (not (is_flow g)) _ h).1
@@ -222,20 +232,25 @@ in-frames g xs h = frames-root g xs (and_parts (not (is_flow g)) _ h).1
 behind-frames : (g : Ground) (xs : List Open) → (not (is_flow g) && (are_html xs && has_root xs)) ≡ true → has_root xs ≡ true
 behind-frames g xs h = (and_parts (are_html xs) _ (and_parts (not (is_flow g)) _ h).1).1
 
-module _ (context : Option Open) (head : Option ℕ) (modes : List InsertionMode) (some : is_document (ground_of context) ≡ true → is_some head ≡ true) where
+module _ (context : Option Open) (head : Option ℕ) (modes : List InsertionMode)
+    (some : is_document (ground_of context) ≡ true → is_some head ≡ true) where
   abbrev g : Ground
   g = ground_of context
 
-  root-top : (xs : List Open) → (is_document g && (nested g xs && is_root (top xs))) ≡ true → (is_document g ≡ true) × ((has_root xs ≡ true) × (is_at_root xs ≡ true))
+  root-top : (xs : List Open) → (is_document g && (nested g xs && is_root (top xs))) ≡ true → (is_document g ≡ true)
+      × ((has_root xs ≡ true) × (is_at_root xs ≡ true))
   root-top xs h =
       let one = and_parts (is_document g) _ h in
       let two = and_parts (nested g xs) _ one.1 in
       (one.0, (nested-root g xs two.0 (nonempty-top xs true (ap is_nothing (root-is (top xs) two.1))), sym (at-root xs) ∙ two.1))
 
-  head-top : (xs : List Open) → (nested g xs && is_head (top xs)) ≡ true → (is_some head ≡ true) × ((has_root xs ≡ true) × (is_at_root xs ≡ false))
+  head-top : (xs : List Open) → (nested g xs && is_head (top xs)) ≡ true → (is_some head ≡ true)
+      × ((has_root xs ≡ true) × (is_at_root xs ≡ false))
   head-top xs h =
-      let one = and_parts (nested g xs) _ h in
-      (some (head-document g xs one.0 one.1), (nested-root g xs one.0 (nonempty-top xs true (head-some (top xs) one.1)), sym (at-root xs) ∙ head-root (top xs) one.1))
+      let one = and_parts (nested g xs) _ h in (
+        some (head-document g xs one.0 one.1),
+        (nested-root g xs one.0 (nonempty-top xs true (head-some (top xs) one.1)), sym (at-root xs) ∙ head-root (top xs) one.1),
+      )
     where
       head-some : (p : Part) → is_head p ≡ true → is_nothing p ≡ false
       head-some HeadPart h = refl
@@ -245,17 +260,21 @@ module _ (context : Option Open) (head : Option ℕ) (modes : List InsertionMode
       head-root HeadPart h = refl
       head-root p h = no h
 
-  template-modes : (template : Bool) (xs : List Open) → open_templates xs + one_if template ≡ length modes → has_base mode.InTemplate (base xs) ≡ true → fits_root g template mode.InTemplate (base xs) ≡ true → is_nonempty modes ≡ true
+  template-modes : (template : Bool) (xs : List Open) → open_templates xs + one_if template ≡ length modes
+      → has_base mode.InTemplate (base xs) ≡ true → fits_root g template mode.InTemplate (base xs) ≡ true → is_nonempty modes ≡ true
   template-modes template xs count b f = by (base xs) refl b f where
-    by : (p : Part) → base xs ≡ p → has_base mode.InTemplate p ≡ true → fits_root g template mode.InTemplate p ≡ true → is_nonempty modes ≡ true
+    by : (p : Part) → base xs ≡ p → has_base mode.InTemplate p ≡ true → fits_root g template mode.InTemplate
+        p ≡ true → is_nonempty modes ≡ true
     by Contents e b f = nonempty-modes modes (let many = contents-count xs e in let c = count in omega arith)
-    by Root e b f = let one : one_if template ≡ 1 = ap one_if (root-template template (and_parts (is_flow g) _ f).1) in nonempty-modes modes (let c = count in omega arith) where
-      root-template : (b : Bool) → (b || false) ≡ true → b ≡ true
-      root-template true h = refl
-      root-template false h = h
+    by Root e b f = let one : one_if template ≡ 1 = ap one_if (root-template template (and_parts (is_flow g) _ f).1)
+        in nonempty-modes modes (let c = count in omega arith) where
+          root-template : (b : Bool) → (b || false) ≡ true → b ≡ true
+          root-template true h = refl
+          root-template false h = h
     by p e b f = no b
 
-  pub fits-direct : (template : Bool) (m : InsertionMode) (xs : List Open) → open_templates xs + one_if template ≡ length modes → fits_nested g template m xs ≡ true → fits_in m xs head modes ≡ true
+  pub fits-direct : (template : Bool) (m : InsertionMode) (xs : List Open)
+      → open_templates xs + one_if template ≡ length modes → fits_nested g template m xs ≡ true → fits_in m xs head modes ≡ true
   fits-direct template mode.Initial xs count h = h
   fits-direct template mode.BeforeHtml xs count h = h
   fits-direct template mode.BeforeHead xs count h = (root-top xs h).1.0
@@ -287,14 +306,16 @@ module _ (context : Option Open) (head : Option ℕ) (modes : List InsertionMode
   fits-direct template mode.AfterAfterBody xs count h = based-root g template mode.AfterAfterBody xs h
 
   -- where something is open, the root is
-  pub direct-root : (template : Bool) (m : InsertionMode) (xs : List Open) → is_nonempty xs ≡ true → fits_nested g template m xs ≡ true → has_root xs ≡ true
+  pub direct-root : (template : Bool) (m : InsertionMode) (xs : List Open) → is_nonempty xs ≡ true
+      → fits_nested g template m xs ≡ true → has_root xs ≡ true
   direct-root template mode.Initial xs s h = absurd (true≢false (sym s ∙ not_true _ h))
   direct-root template mode.BeforeHtml xs s h = absurd (true≢false (sym s ∙ not_true _ h))
   direct-root template mode.BeforeHead xs s h = (root-top xs h).1.0
   direct-root template mode.AfterHead xs s h = (root-top xs h).1.0
   direct-root template mode.InHead xs s h = (head-top xs h).1.0
   direct-root template mode.InHeadNoscript [] s h = no h
-  direct-root template mode.InHeadNoscript (x ∷ xs) s h = let one = and_parts (is_loose (part_of x)) _ h in rw (root-html x, loose-not_root (part_of x) one.0) ((head-top xs one.1).1.0)
+  direct-root template mode.InHeadNoscript (x ∷ xs) s h = let one = and_parts (is_loose (part_of x)) _ h in
+      rw (root-html x, loose-not_root (part_of x) one.0) ((head-top xs one.1).1.0)
   direct-root template mode.InFrameset xs s h = in-frames g xs h
   direct-root template mode.AfterFrameset xs s h = in-frames g xs h
   direct-root template mode.AfterAfterFrameset xs s h = behind-frames g xs h
@@ -312,21 +333,27 @@ module _ (context : Option Open) (head : Option ℕ) (modes : List InsertionMode
   direct-root template mode.AfterAfterBody xs s h = based-root g template mode.AfterAfterBody xs h
 
   -- under a text
-  text-fits : (template : Bool) (o : Option InsertionMode) (xs : List Open) → open_templates xs + one_if template ≡ length modes → fits_under g template o xs ≡ true → (has_root xs && not (is_at_root xs) && fits_in_original o (without_current xs) head modes) ≡ true
+  text-fits : (template : Bool) (o : Option InsertionMode) (xs : List Open)
+      → open_templates xs + one_if template ≡ length modes → fits_under g template o xs ≡ true
+      → (has_root xs && not (is_at_root xs) && fits_in_original o (without_current xs) head modes) ≡ true
   text-fits template None xs count h = no h
   text-fits template (Some m) [] count h = no h
   text-fits template (Some m) (x ∷ xs) count h =
       let one = and_parts (is_loose (part_of x)) _ h in
       let two = and_parts (is_nonempty xs) _ one.1 in
       let not_root : is_in set.Html x ≡ false = root-html x ∙ loose-not_root (part_of x) one.0 in
-      let count' : open_templates xs + one_if template ≡ length modes = ap (λ n. n + one_if template) (sym (loose-count x xs one.0)) ∙ count in
+      let count' : open_templates xs + one_if template ≡ length modes = ap (λ n. n + one_if template)
+      (sym (loose-count x xs one.0)) ∙ count in
       rw (not_root, direct-root template m xs two.0 two.1, fits-direct template m xs count' two.1) refl
 
-  table-fits : (template : Bool) (o : Option InsertionMode) (xs : List Open) → open_templates xs + one_if template ≡ length modes → fits_table g template o xs ≡ true → fits_in_original o xs head modes ≡ true
+  table-fits : (template : Bool) (o : Option InsertionMode) (xs : List Open)
+      → open_templates xs + one_if template ≡ length modes → fits_table g template o xs ≡ true → fits_in_original o xs head modes ≡ true
   table-fits template None xs count h = no h
-  table-fits template (Some m) xs count h = fits-direct template m xs count (and_parts (is_table_mode m) _ (and_parts (is_foster (top xs)) _ h).1).1
+  table-fits template (Some m) xs count h = fits-direct template m xs count
+      (and_parts (is_table_mode m) _ (and_parts (is_foster (top xs)) _ h).1).1
 
-  parts-fit : (template : Bool) (m : InsertionMode) (o : Option InsertionMode) (xs : List Open) → open_templates xs + one_if template ≡ length modes → fits_parts g template m o xs ≡ true → fits_mode m o xs head modes ≡ true
+  parts-fit : (template : Bool) (m : InsertionMode) (o : Option InsertionMode) (xs : List Open)
+      → open_templates xs + one_if template ≡ length modes → fits_parts g template m o xs ≡ true → fits_mode m o xs head modes ≡ true
   parts-fit template mode.Text o xs count h = text-fits template o xs count h
   parts-fit template mode.InTableText o xs count h = table-fits template o xs count h
   parts-fit template mode.Initial o xs count h = fits-direct template mode.Initial xs count h
@@ -350,7 +377,8 @@ module _ (context : Option Open) (head : Option ℕ) (modes : List InsertionMode
   parts-fit template mode.AfterAfterFrameset o xs count h = fits-direct template mode.AfterAfterFrameset xs count h
 
 -- before the head no head is asked for
-early-same : (m : InsertionMode) (o : Option InsertionMode) (xs : List Open) (head other : Option ℕ) (modes : List InsertionMode) → is_later m ≡ false → fits_mode m o xs head modes ≡ fits_mode m o xs other modes
+early-same : (m : InsertionMode) (o : Option InsertionMode) (xs : List Open) (head other : Option ℕ)
+    (modes : List InsertionMode) → is_later m ≡ false → fits_mode m o xs head modes ≡ fits_mode m o xs other modes
 early-same mode.Initial o xs head other modes l = refl
 early-same mode.BeforeHtml o xs head other modes l = refl
 early-same mode.BeforeHead o xs head other modes l = refl
@@ -362,7 +390,10 @@ unfolding is_fit
 nested-fits s held h = both _ _ (by (is_later s.mode) refl) (eq-eqb (length s.template_modes) (wanted s) (sym h.count)) where
   by : (b : Bool) → is_later s.mode ≡ b → fits_mode s.mode s.orig_mode s.open_elems s.head_elem s.template_modes ≡ true
   by true l =
-      parts-fit s.context_elem s.head_elem s.template_modes (λ d. or_some (is_some s.head_elem) (asks_root s.context_elem) (rw l at held) (document-asks s.context_elem d)) (context_is set.Template s.context_elem) s.mode s.orig_mode s.open_elems h.count h.fits
+      parts-fit s.context_elem s.head_elem s.template_modes
+      (λ d. or_some (is_some s.head_elem) (asks_root s.context_elem) (rw l at held)
+      (document-asks s.context_elem d)) (context_is set.Template s.context_elem) s.mode s.orig_mode s.open_elems h.count h.fits
   by false l =
       early-same s.mode s.orig_mode s.open_elems s.head_elem (Some 0) s.template_modes l
-      ∙ parts-fit s.context_elem (Some 0) s.template_modes (λ d. refl) (context_is set.Template s.context_elem) s.mode s.orig_mode s.open_elems h.count h.fits
+      ∙ parts-fit s.context_elem (Some 0) s.template_modes (λ d. refl) (context_is set.Template s.context_elem)
+      s.mode s.orig_mode s.open_elems h.count h.fits

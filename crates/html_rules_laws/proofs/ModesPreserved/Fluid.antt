@@ -1,5 +1,6 @@
 -- States in the modes in which elements come one in another, within a row.
-use Rattle.std.proofs.Common.{◌≡◌, ◌∙◌, ℕ, ◌+◌, Bool, true, false, List, [], ◌∷◌, length, Option, Some, None, refl, sym, ap, subst, true≢false, codes}
+use Rattle.std.proofs.Common.{◌≡◌, ◌∙◌, ℕ, ◌+◌, Bool, true, false, List, [], ◌∷◌, length, Option, Some, None, refl, sym, ap}
+use Rattle.std.proofs.Common.{subst, true≢false, codes}
 use Rattle.std.specs.Prelude.{◌||◌, ◌&&◌, not, IfSome}
 use Rattle.std.specs.Str.{bytes_eq}
 use Rattle.std.proofs.lemmas.Bool.{and_parts}
@@ -21,7 +22,9 @@ use Rattle.html_rules.specs.declared.insertion_mode.InsertionMode.TheVariants as
 use Rattle.html_rules.specs.declared.tag_set.TagSet.{TagSet}
 use Rattle.html_rules.specs.declared.tag_set.TagSet.TheVariants as set
 use Rattle.html_rules_laws.specs.Held.{wanted}
-use Rattle.html_rules_laws.specs.Nesting.{Part, Root, Contents, Section, RowPart, Cell, CaptionPart, Columns, Loose, Nothing, Ground, base, ground_of, is_loose, is_in_template, may_stand, nested, part_among, part_of, parts, set_of, takes, top}
+use Rattle.html_rules_laws.specs.Nesting.{Part, Root, Contents, Section, RowPart, Cell, CaptionPart, Columns, Loose, Nothing}
+use Rattle.html_rules_laws.specs.Nesting.{Ground, base, ground_of, is_loose, is_in_template, may_stand, nested, part_among}
+use Rattle.html_rules_laws.specs.Nesting.{part_of, parts, set_of, takes, top}
 use Rattle.html_rules_laws.specs.Soundness.{is_plain_action}
 use Rattle.html_rules_laws.specs.Upright.{is_first}
 use Rattle.html_rules_laws.proofs.Frames.Aside.{IsAside}
@@ -68,14 +71,19 @@ base-solid (x ∷ xs) = by (is_loose (part_of x)) refl (base-solid xs) where
   by true e rest = rest
   by false e rest = e
 
-pub form-kept : (o : Option ℕ) (f g : Forest) → ((n : ℕ) (name : QualName) → element_name (data_of f n) ≡ Some name → element_name (data_of g n) ≡ Some name)
-    → IfSome o (λ n. element_name (data_of f n) ≡ Some (element_name_of Html (codes "form"))) → IfSome o (λ n. element_name (data_of g n) ≡ Some (element_name_of Html (codes "form")))
+pub form-kept : (o : Option ℕ) (f g : Forest) → ((n : ℕ) (name : QualName) → element_name (data_of f n) ≡ Some name
+    → element_name (data_of g n) ≡ Some name)
+    → IfSome o (λ n. element_name (data_of f n) ≡ Some (element_name_of Html (codes "form")))
+    → IfSome o (λ n. element_name (data_of g n) ≡ Some (element_name_of Html (codes "form")))
 form-kept None f g names h = tt
 form-kept (Some n) f g names h = names n (element_name_of Html (codes "form")) h
 
 -- what is open changes, and so does the part that was opened last
-pub fluid-changed : (g : Ground) (template : Bool) (v w : At) (s r : State) → Fluid g template v s → Poised r → IsAside s r → IsFramed s r → ((n : ℕ) (name : QualName) → element_name (data_of s.forest n) ≡ Some name → element_name (data_of r.forest n) ≡ Some name)
-    → nested g r.open_elems ≡ true → base r.open_elems ≡ w.base → (w.exact ≡ true → top r.open_elems ≡ w.base) → takes g w.base ≡ true → w.mode ≡ v.mode → (w.mode ≡ mode.InTemplate → w.base ≡ Root → template ≡ true)
+pub fluid-changed : (g : Ground) (template : Bool) (v w : At) (s r : State) → Fluid g template v s → Poised r
+    → IsAside s r → IsFramed s r → ((n : ℕ) (name : QualName) → element_name (data_of s.forest n) ≡ Some name
+    → element_name (data_of r.forest n) ≡ Some name)
+    → nested g r.open_elems ≡ true → base r.open_elems ≡ w.base → (w.exact ≡ true → top r.open_elems ≡ w.base)
+    → takes g w.base ≡ true → w.mode ≡ v.mode → (w.mode ≡ mode.InTemplate → w.base ≡ Root → template ≡ true)
     → open_templates r.open_elems ≡ open_templates s.open_elems → Fluid g template w r
 fluid-changed g template v w s r h poised aside framed names nest based exact take at root same = record {
   poised = poised;
@@ -93,18 +101,25 @@ fluid-changed g template v w s r h poised aside framed names nest based exact ta
 }
   where
     counted : wanted r ≡ length r.template_modes
-    counted = ap (λ n. n + one_if (context_is set.Template r.context_elem)) same ∙ ap (λ c. open_templates s.open_elems + one_if (context_is set.Template c)) aside.context ∙ h.count ∙ ap length (sym aside.modes)
+    counted = ap (λ n. n + one_if (context_is set.Template r.context_elem)) same
+        ∙ ap (λ c. open_templates s.open_elems + one_if (context_is set.Template c)) aside.context ∙ h.count ∙ ap length (sym aside.modes)
 
 -- loose elements come and go
-pub fluid-flow : (g : Ground) (template : Bool) (v : At) (kind : Kind) (gd : Guard) (a : Action) → flows kind gd v.base a ≡ true → tame_in kind a ≡ true → is_plain_action a ≡ true → (t : Token) → is_of kind t ≡ true → (s : State) → Holds gd t s → Fluid g template v s → Fluid g template (loosened v) (act a t s)
+pub fluid-flow : (g : Ground) (template : Bool) (v : At) (kind : Kind) (gd : Guard) (a : Action)
+    → flows kind gd v.base a ≡ true → tame_in kind a ≡ true → is_plain_action a ≡ true → (t : Token)
+    → is_of kind t ≡ true → (s : State) → Holds gd t s → Fluid g template v s → Fluid g template (loosened v) (act a t s)
 fluid-flow g template v kind gd a f tame plain t k s holds h =
-    let flow = act-flow g kind gd v.base a f (subst (λ b. is_loose b ≡ false) h.base (base-solid s.open_elems)) t k s h.base holds h.form h.poised.listed h.poised.upright.standing in
+    let flow = act-flow g kind gd v.base a f (subst (λ b. is_loose b ≡ false) h.base (base-solid s.open_elems)) t k
+    s h.base holds h.form h.poised.listed h.poised.upright.standing in
     let after = flow.flow h.nested (rw h.base h.takes) in
-    fluid-changed g template v (loosened v) s (act a t s) h (tame-poised kind a tame plain t k s h.poised) (act-aside kind a tame t s) (act-framed kind gd v.base a f t s)
-    (act-eased kind a tame plain t k s h.poised.listed h.poised.upright.standing).names after.0 (after.1.0 ∙ h.base) (λ e. no e) h.takes refl h.in_template after.1.1
+    fluid-changed g template v (loosened v) s (act a t s) h (tame-poised kind a tame plain t k s h.poised)
+    (act-aside kind a tame t s) (act-framed kind gd v.base a f t s)
+    (act-eased kind a tame plain t k s h.poised.listed h.poised.upright.standing).names after.0 (after.1.0 ∙ h.base)
+    (λ e. no e) h.takes refl h.in_template after.1.1
 
 -- another mode
-pub fluid-moved : (g : Ground) (template : Bool) (v : At) (m : InsertionMode) (s : State) → is_first m ≡ false → is_in_template m ≡ false → Fluid g template v s → Fluid g template (record v { mode = m }) (set_mode m s)
+pub fluid-moved : (g : Ground) (template : Bool) (v : At) (m : InsertionMode) (s : State) → is_first m ≡ false
+    → is_in_template m ≡ false → Fluid g template v s → Fluid g template (record v { mode = m }) (set_mode m s)
 unfolding set_mode
 fluid-moved g template v m s f n h = record {
   poised = moved-poised m s f h.poised;
@@ -158,17 +173,21 @@ below-is g p (x ∷ xs) n e i = by (is_loose (part_of x)) refl e (below-is g p x
   tests : (may_stand g (part_of x) (top xs) ≡ true) × (nested g xs ≡ true)
   tests = and_parts (may_stand g (part_of x) (top xs)) _ n
 
-  by : (b : Bool) → is_loose (part_of x) ≡ b → choose b (λ _. base xs) (λ _. part_of x) ≡ p → (base xs ≡ p → is_inner p ≡ true → IsBelow g p xs) → IsBelow g p (x ∷ xs)
+  by : (b : Bool) → is_loose (part_of x) ≡ b → choose b (λ _. base xs) (λ _. part_of x) ≡ p
+      → (base xs ≡ p → is_inner p ≡ true → IsBelow g p xs) → IsBelow g p (x ∷ xs)
   by true l e rest =
       let is = rest e i in
       record { nested = rw l is.nested; under = rw l is.under; templates = rw (l, loose-template x (loose-is (part_of x) l)) is.templates }
   by false l e rest = record { nested = rw l tests.1; under = rw l (rw e at tests.0); templates = rw (l, part-template x p e i) refl }
 
 -- the element that passes is that part
-pub based-below : (p : Open → Bool) → ((x : Open) → IsLoose x → p x ≡ false) → (xs : List Open) → based p xs ≡ true → left_below p xs ≡ below_base xs
+pub based-below : (p : Open → Bool) → ((x : Open) → IsLoose x → p x ≡ false) → (xs : List Open) → based p xs ≡ true
+    → left_below p xs ≡ below_base xs
 based-below p out [] b = refl
 based-below p out (x ∷ xs) b = by (is_loose (part_of x)) refl b (based-below p out xs) where
-  by : (c : Bool) → is_loose (part_of x) ≡ c → choose c (λ _. based p xs) (λ _. p x) ≡ true → (based p xs ≡ true → left_below p xs ≡ below_base xs) → choose (p x) (λ _. xs) (λ _. left_below p xs) ≡ choose c (λ _. below_base xs) (λ _. xs)
+  by : (c : Bool) → is_loose (part_of x) ≡ c → choose c (λ _. based p xs) (λ _. p x) ≡ true
+      → (based p xs ≡ true → left_below p xs ≡ below_base xs) → choose (p x) (λ _. xs)
+      (λ _. left_below p xs) ≡ choose c (λ _. below_base xs) (λ _. xs)
   by true l b rest = rw (out x (loose-is (part_of x) l)) (rest b)
   by false l b rest = rw b refl
 
@@ -176,10 +195,12 @@ abbrev pub is_nothing : Part → Bool
 is_nothing Nothing = true
 is_nothing p = false
 
-pub base-based : (names : TagSet) (p : Part) → is_loose p ≡ false → within (set_of p) names ≡ true → (xs : List Open) → base xs ≡ p → is_nothing p ≡ false → based (is_in names) xs ≡ true
+pub base-based : (names : TagSet) (p : Part) → is_loose p ≡ false → within (set_of p) names ≡ true
+    → (xs : List Open) → base xs ≡ p → is_nothing p ≡ false → based (is_in names) xs ≡ true
 base-based names p l w [] e n = absurd (true≢false (ap is_nothing e ∙ n))
 base-based names p l w (x ∷ xs) e n = by (is_loose (part_of x)) refl e (λ e. base-based names p l w xs e n) where
-  by : (c : Bool) → is_loose (part_of x) ≡ c → choose c (λ _. base xs) (λ _. part_of x) ≡ p → (base xs ≡ p → based (is_in names) xs ≡ true) → choose c (λ _. based (is_in names) xs) (λ _. is_in names x) ≡ true
+  by : (c : Bool) → is_loose (part_of x) ≡ c → choose c (λ _. base xs) (λ _. part_of x) ≡ p
+      → (base xs ≡ p → based (is_in names) xs ≡ true) → choose c (λ _. based (is_in names) xs) (λ _. is_in names x) ≡ true
   by true l' e rest = rest e
   by false l' e rest = part-within x p names l w e
 
@@ -187,15 +208,19 @@ base-based names p l w (x ∷ xs) e n = by (is_loose (part_of x)) refl e (λ e. 
 pub from-base : (stop : Open → Bool) (xs : List Open) → based stop xs ≡ true → Frees xs (left_from stop xs)
 from-base stop [] b = nil
 from-base stop (x ∷ xs) b = by (is_loose (part_of x)) (stop x) refl b (from-base stop xs) where
-  by : (c d : Bool) → is_loose (part_of x) ≡ c → choose c (λ _. based stop xs) (λ _. d) ≡ true → (based stop xs ≡ true → Frees xs (left_from stop xs)) → Frees (x ∷ xs) (choose d (λ _. x ∷ xs) (λ _. left_from stop xs))
+  by : (c d : Bool) → is_loose (part_of x) ≡ c → choose c (λ _. based stop xs) (λ _. d) ≡ true
+      → (based stop xs ≡ true → Frees xs (left_from stop xs)) → Frees (x ∷ xs) (choose d (λ _. x ∷ xs) (λ _. left_from stop xs))
   by c true l b rest = keep x xs xs (frees-same xs)
   by true false l b rest = drop x xs (left_from stop xs) (loose-is (part_of x) l) (rest b)
   by false false l b rest = no b
 
-pub from-top : (stop : Open → Bool) → ((x : Open) → IsLoose x → stop x ≡ false) → (xs : List Open) → based stop xs ≡ true → top (left_from stop xs) ≡ base xs
+pub from-top : (stop : Open → Bool) → ((x : Open) → IsLoose x → stop x ≡ false) → (xs : List Open)
+    → based stop xs ≡ true → top (left_from stop xs) ≡ base xs
 from-top stop out [] b = no b
 from-top stop out (x ∷ xs) b = by (is_loose (part_of x)) refl b (from-top stop out xs) where
-  by : (c : Bool) → is_loose (part_of x) ≡ c → choose c (λ _. based stop xs) (λ _. stop x) ≡ true → (based stop xs ≡ true → top (left_from stop xs) ≡ base xs) → top (choose (stop x) (λ _. x ∷ xs) (λ _. left_from stop xs)) ≡ choose c (λ _. base xs) (λ _. part_of x)
+  by : (c : Bool) → is_loose (part_of x) ≡ c → choose c (λ _. based stop xs) (λ _. stop x) ≡ true
+      → (based stop xs ≡ true → top (left_from stop xs) ≡ base xs)
+      → top (choose (stop x) (λ _. x ∷ xs) (λ _. left_from stop xs)) ≡ choose c (λ _. base xs) (λ _. part_of x)
   by true l b rest = rw (out x (loose-is (part_of x) l)) (rest b)
   by false l b rest = rw b refl
 
@@ -217,7 +242,8 @@ has-part name (x ∷ names) h k =
     let tests = and_parts (not (is_loose_name x parts)) _ h in
     by (bytes_eq name x) refl k (has-part name names tests.1)
   where
-    by : (b : Bool) → bytes_eq name x ≡ b → (b || is_among name names) ≡ true → (is_among name names ≡ true → is_loose_name name parts ≡ false) → is_loose_name name parts ≡ false
+    by : (b : Bool) → bytes_eq name x ≡ b → (b || is_among name names) ≡ true
+        → (is_among name names ≡ true → is_loose_name name parts ≡ false) → is_loose_name name parts ≡ false
     by true e k rest = rw ((bytes_eq-Decides name x).0 e) (not_true _ (and_parts (not (is_loose_name x parts)) _ h).0)
     by false e k rest = rest k
 
@@ -225,13 +251,16 @@ abbrev has_no_loose : List Part → Bool
 has_no_loose [] = true
 has_no_loose (p ∷ ps) = not (is_loose p) && has_no_loose ps
 
-unnamed : (n : ℕ) (name : List ℕ) (ps : List Part) → has_no_loose ps ≡ true → part_among ps (record { number = n; namespace = Html; name = name }) ≡ Loose → is_loose_name name ps ≡ true
+unnamed : (n : ℕ) (name : List ℕ) (ps : List Part) → has_no_loose ps ≡ true
+    → part_among ps (record { number = n; namespace = Html; name = name }) ≡ Loose → is_loose_name name ps ≡ true
 unnamed n name [] a e = refl
 unnamed n name (p ∷ ps) a e = by (is_among name (names_of (set_of p))) refl e (unnamed n name ps tests.1) where
   tests : (not (is_loose p) ≡ true) × (has_no_loose ps ≡ true)
   tests = and_parts (not (is_loose p)) _ a
 
-  by : (b : Bool) → is_among name (names_of (set_of p)) ≡ b → choose b (λ _. p) (λ _. part_among ps (record { number = n; namespace = Html; name = name })) ≡ Loose → (part_among ps (record { number = n; namespace = Html; name = name }) ≡ Loose → is_loose_name name ps ≡ true)
+  by : (b : Bool) → is_among name (names_of (set_of p)) ≡ b
+      → choose b (λ _. p) (λ _. part_among ps (record { number = n; namespace = Html; name = name })) ≡ Loose
+      → (part_among ps (record { number = n; namespace = Html; name = name }) ≡ Loose → is_loose_name name ps ≡ true)
       → (not b && is_loose_name name ps) ≡ true
   by true i e rest = absurd (true≢false (sym (ap is_loose e) ∙ not_true _ tests.0))
   by false i e rest = rest e
@@ -246,25 +275,32 @@ parts-out names h x l = by x.number x.namespace x.name l where
   tests : (have_parts (names_of names) ≡ true) × ((no_names (mathml_names_of names) ≡ true) × (no_names (svg_names_of names) ≡ true))
   tests = let one = and_parts (have_parts (names_of names)) _ h in (one.0, and_parts (no_names (mathml_names_of names)) _ one.1)
 
-  html : (n : ℕ) (name : List ℕ) (b : Bool) → is_among name (names_of names) ≡ b → part_among parts (record { number = n; namespace = Html; name = name }) ≡ Loose → b ≡ false
+  html : (n : ℕ) (name : List ℕ) (b : Bool) → is_among name (names_of names) ≡ b
+      → part_among parts (record { number = n; namespace = Html; name = name }) ≡ Loose → b ≡ false
   html n name true e l = absurd (true≢false (sym (unnamed n name parts refl l) ∙ has-part name (names_of names) tests.0 e))
   html n name false e l = refl
 
-  by : (n : ℕ) (namespace : Namespace) (name : List ℕ) → part_among parts (record { number = n; namespace = namespace; name = name }) ≡ Loose → is_among name (names_in namespace names) ≡ false
+  by : (n : ℕ) (namespace : Namespace) (name : List ℕ)
+      → part_among parts (record { number = n; namespace = namespace; name = name }) ≡ Loose
+      → is_among name (names_in namespace names) ≡ false
   by n Html name l = html n name (is_among name (names_of names)) refl l
   by n MathMl name l = empty-names (mathml_names_of names) name tests.1.0
   by n Svg name l = empty-names (svg_names_of names) name tests.1.1
   by n (Other uri) name l = refl
 
 -- a name of a part names nothing loose
-pub named-loose : (names : List (List ℕ)) → have_parts names ≡ true → (name : List ℕ) → is_among name names ≡ true → (x : Open) → IsLoose x → is_named name x ≡ false
+pub named-loose : (names : List (List ℕ)) → have_parts names ≡ true → (name : List ℕ) → is_among name names ≡ true
+    → (x : Open) → IsLoose x → is_named name x ≡ false
 unfolding part_of
 named-loose names h name k x l = by x.number x.namespace x.name l where
-  html : (n : ℕ) (own : List ℕ) (b : Bool) → bytes_eq own name ≡ b → part_among parts (record { number = n; namespace = Html; name = own }) ≡ Loose → b ≡ false
-  html n own true e l = absurd (true≢false (sym (unnamed n own parts refl l) ∙ rw ((bytes_eq-Decides own name).0 e) (has-part name names h k)))
+  html : (n : ℕ) (own : List ℕ) (b : Bool) → bytes_eq own name ≡ b
+      → part_among parts (record { number = n; namespace = Html; name = own }) ≡ Loose → b ≡ false
+  html n own true e l = absurd
+      (true≢false (sym (unnamed n own parts refl l) ∙ rw ((bytes_eq-Decides own name).0 e) (has-part name names h k)))
   html n own false e l = refl
 
-  by : (n : ℕ) (namespace : Namespace) (own : List ℕ) → part_among parts (record { number = n; namespace = namespace; name = own }) ≡ Loose → named_in namespace own name ≡ false
+  by : (n : ℕ) (namespace : Namespace) (own : List ℕ)
+      → part_among parts (record { number = n; namespace = namespace; name = own }) ≡ Loose → named_in namespace own name ≡ false
   by n Html own l = html n own (bytes_eq own name) refl l
   by n MathMl own l = refl
   by n Svg own l = refl

@@ -16,11 +16,14 @@ use Rattle.html_rules.specs.Sets.{is_among, mathml_names_of, names_of, svg_names
 use Rattle.html_rules.specs.Shape.{has_root}
 use Rattle.html_rules.specs.Stack.{is_open, open_templates, pop_but_root, without_current_but_root}
 use Rattle.html_rules.specs.State.{Open, Entry, Element, Marker, State, is_in}
-use Rattle.html_rules.specs.Table.{Action, Then, When, InsertElement, AppendText, Pop, Reconstruct, SwitchTo, FramesetNotOkUnlessWhite, InsertPendingText, Conclusion, Done, ReprocessInOriginal}
+use Rattle.html_rules.specs.Table.{Action, Then, When, InsertElement, AppendText, Pop, Reconstruct, SwitchTo}
+use Rattle.html_rules.specs.Table.{FramesetNotOkUnlessWhite, InsertPendingText, Conclusion, Done, ReprocessInOriginal}
 use Rattle.html_rules.specs.declared.insertion_mode.InsertionMode.{InsertionMode}
 use Rattle.html_rules.specs.declared.insertion_mode.InsertionMode.TheVariants as mode
 use Rattle.html_rules.specs.declared.tag_set.TagSet.TheVariants as set
-use Rattle.html_rules_laws.specs.Nesting.{Part, Root, Frames, Loose, Ground, IsNested, are_html, base, fits_parts, fits_table, ground_of, is_flow, is_foster, is_frames, is_loose, is_root, may_stand, nested, part_of, parts, top}
+use Rattle.html_rules_laws.specs.Nesting.{Part, Root, Frames, Loose, Ground, IsNested, are_html, base, fits_parts, fits_table}
+use Rattle.html_rules_laws.specs.Nesting.{ground_of, is_flow, is_foster, is_frames, is_loose, is_root, may_stand, nested}
+use Rattle.html_rules_laws.specs.Nesting.{part_of, parts, top}
 use Rattle.html_rules_laws.specs.Ready.{are_formatting}
 use Rattle.html_rules_laws.specs.Sound.{is_table_mode}
 use Rattle.html_rules_laws.specs.Soundness.{Standing}
@@ -62,18 +65,29 @@ frames-stand g p f h = no h
 
 -- a frameset is opened
 
-inner-nested : (tag : Tag) → is_among tag.name (names_of set.Frameset) ≡ true → (s : State) → s.mode ≡ mode.InFrameset → Standing s → IsNested s → IsNested (insert_element_for tag s)
+inner-nested : (tag : Tag) → is_among tag.name (names_of set.Frameset) ≡ true → (s : State)
+    → s.mode ≡ mode.InFrameset → Standing s → IsNested s → IsNested (insert_element_for tag s)
 unfolding insert_element
 inner-nested tag e s at standing h =
     let like = like-insert tag.name tag.attrs tag.had_duplicate_attributes s standing in
     let is = in-frames (ground_of s.context_elem) s.open_elems (rw at at h.fits) in
-    like-nested s (insert_element_for tag s) (record { context = like.context; modes = like.modes; framed = like.framed; form = like.form; names = like.names })
-    (rw (frames-template tag.name e (node_count s.forest)) refl) (rw (at, frames-part tag.name e (node_count s.forest), is.ground, frames-stand (ground_of s.context_elem) (top s.open_elems) is.ground is.frames, is.nested) refl) h
+    like-nested s (insert_element_for tag s)
+    (record { context = like.context; modes = like.modes; framed = like.framed; form = like.form; names = like.names })
+    (rw (frames-template tag.name e (node_count s.forest)) refl)
+    (rw (
+      at,
+      frames-part tag.name e (node_count s.forest),
+      is.ground,
+      frames-stand (ground_of s.context_elem)
+          (top s.open_elems) is.ground is.frames,
+      is.nested,
+    ) refl) h
 
 -- a frameset is closed
 
 under-frames : (g : Ground) (xs : List Open) → nested g xs ≡ true → is_frames (top xs) ≡ true
-    → ((nested g (without_current_but_root xs) ≡ true) × (is_frames (top (without_current_but_root xs)) ≡ true)) × (open_templates (without_current_but_root xs) ≡ open_templates xs)
+    → ((nested g (without_current_but_root xs) ≡ true) × (is_frames (top (without_current_but_root xs)) ≡ true))
+    × (open_templates (without_current_but_root xs) ≡ open_templates xs)
 unfolding names_of mathml_names_of svg_names_of
 under-frames g [] n h = no h
 under-frames g (x ∷ xs) n h = by (part_of x) refl h where
@@ -85,7 +99,9 @@ under-frames g (x ∷ xs) n h = by (part_of x) refl h where
   below Frames m = refl
   below q m = no m
 
-  by : (p : Part) → part_of x ≡ p → is_frames p ≡ true → ((nested g (without_current_but_root (x ∷ xs)) ≡ true) × (is_frames (top (without_current_but_root (x ∷ xs))) ≡ true)) × (open_templates (without_current_but_root (x ∷ xs)) ≡ open_templates (x ∷ xs))
+  by : (p : Part) → part_of x ≡ p → is_frames p ≡ true → ((nested g (without_current_but_root (x ∷ xs)) ≡ true)
+      × (is_frames (top (without_current_but_root (x ∷ xs))) ≡ true))
+      × (open_templates (without_current_but_root (x ∷ xs)) ≡ open_templates (x ∷ xs))
   by Root e f = let root : is_in set.Html x ≡ true = root-html x ∙ ap is_root e in rw root ((n, ap is_frames e), refl)
   by Frames e f =
       let bare : is_in set.Html x ≡ false = root-html x ∙ ap is_root e in
@@ -98,12 +114,19 @@ unfolding pop_but_root
 popped-nested s at h =
     let is = in-frames (ground_of s.context_elem) s.open_elems (rw at at h.fits) in
     let left = under-frames (ground_of s.context_elem) s.open_elems is.nested is.frames in
-    like-nested s (pop_but_root s) (record { context = refl; modes = refl; framed = λ e. e; form = refl; names = λ n name e. e }) left.1 (rw (at, is.ground, left.0.0, left.0.1) refl) h
+    like-nested s (pop_but_root s) (record {
+      context = refl;
+      modes = refl;
+      framed = λ e. e;
+      form = refl;
+      names = λ n name e. e;
+    }) left.1 (rw (at, is.ground, left.0.0, left.0.1) refl) h
 
 moved-nested : (s : State) → s.mode ≡ mode.InFrameset → IsNested s → IsNested (set_mode mode.AfterFrameset s)
 unfolding set_mode
 moved-nested s at h =
-    let was : (not (is_flow (ground_of s.context_elem)) && (nested (ground_of s.context_elem) s.open_elems && is_frames (top s.open_elems))) ≡ true = rw at at h.fits in
+    let was : (not (is_flow (ground_of s.context_elem))
+    && (nested (ground_of s.context_elem) s.open_elems && is_frames (top s.open_elems))) ≡ true = rw at at h.fits in
     record { fits = was; count = h.count; framed = h.framed; form = h.form }
 
 popped-mode : (s : State) → (pop_but_root s).mode ≡ s.mode
@@ -119,8 +142,11 @@ moves_frames kind InsertElement Done = starts_all set.Frameset kind
 moves_frames kind (Then Pop (When c (SwitchTo mode.AfterFrameset))) Done = true
 moves_frames kind a e = false
 
-pub in_frameset-nested : (using : InsertionMode → Token → State → Turn) (kind : Kind) (a : Action) (e : Conclusion) → moves_frames kind a e ≡ true → (t : Token) → is_of kind t ≡ true → (script : ℕ) (s : State) → s.mode ≡ mode.InFrameset → Standing s → IsNested s → IsNested (concluded using e t script (act a t s)).state
-in_frameset-nested using kind InsertElement Done h t k script s at standing n = started set.Frameset kind h t k (λ t. IsNested (act InsertElement t s)) (λ tag e. inner-nested tag e s at standing n)
+pub in_frameset-nested : (using : InsertionMode → Token → State → Turn) (kind : Kind) (a : Action) (e : Conclusion)
+    → moves_frames kind a e ≡ true → (t : Token) → is_of kind t ≡ true → (script : ℕ) (s : State)
+    → s.mode ≡ mode.InFrameset → Standing s → IsNested s → IsNested (concluded using e t script (act a t s)).state
+in_frameset-nested using kind InsertElement Done h t k script s at standing n = started set.Frameset kind h t k
+    (λ t. IsNested (act InsertElement t s)) (λ tag e. inner-nested tag e s at standing n)
 in_frameset-nested using kind (Then Pop (When c (SwitchTo mode.AfterFrameset))) Done h t k script s at standing n =
     let q : State = pop_but_root s in
     let popped = popped-nested s at n in
@@ -131,41 +157,51 @@ in_frameset-nested using kind a e h t k script s at standing n = no h
 
 frames-html : (g : Ground) (xs : List Open) → nested g xs ≡ true → is_frames (top xs) ≡ true → are_html xs ≡ true
 frames-html g [] n h = no h
-frames-html g (x ∷ xs) n h = both _ _ (solid-html x (frames-solid (part_of x) h)) (below (part_of x) h tests.0 (frames-html g xs tests.1)) where
-  tests : (may_stand g (part_of x) (top xs) ≡ true) × (nested g xs ≡ true)
-  tests = and_parts (may_stand g (part_of x) (top xs)) _ n
+frames-html g (x ∷ xs) n h = both _ _ (solid-html x (frames-solid (part_of x) h))
+    (below (part_of x) h tests.0 (frames-html g xs tests.1)) where
+      tests : (may_stand g (part_of x) (top xs) ≡ true) × (nested g xs ≡ true)
+      tests = and_parts (may_stand g (part_of x) (top xs)) _ n
 
-  frames-solid : (p : Part) → is_frames p ≡ true → is_loose p ≡ false
-  frames-solid Root h = refl
-  frames-solid Frames h = refl
-  frames-solid p h = no h
+      frames-solid : (p : Part) → is_frames p ≡ true → is_loose p ≡ false
+      frames-solid Root h = refl
+      frames-solid Frames h = refl
+      frames-solid p h = no h
 
-  empty : (xs : List Open) → nested g xs ≡ true → may_stand g Root (top xs) ≡ true → are_html xs ≡ true
-  empty [] n m = refl
-  empty (y ∷ ys) n m = absurd (true≢false (sym (only-nothing g (part_of y) m) ∙ some-part y))
+      empty : (xs : List Open) → nested g xs ≡ true → may_stand g Root (top xs) ≡ true → are_html xs ≡ true
+      empty [] n m = refl
+      empty (y ∷ ys) n m = absurd (true≢false (sym (only-nothing g (part_of y) m) ∙ some-part y))
 
-  over : (q : Part) → may_stand g Frames q ≡ true → is_frames q ≡ true
-  over Root m = refl
-  over Frames m = refl
-  over q m = no m
+      over : (q : Part) → may_stand g Frames q ≡ true → is_frames q ≡ true
+      over Root m = refl
+      over Frames m = refl
+      over q m = no m
 
-  below : (p : Part) → is_frames p ≡ true → may_stand g p (top xs) ≡ true → (is_frames (top xs) ≡ true → are_html xs ≡ true) → are_html xs ≡ true
-  below Root h m rest = empty xs tests.1 m
-  below Frames h m rest = rest (over (top xs) m)
-  below p h m rest = no h
+      below : (p : Part) → is_frames p ≡ true → may_stand g p (top xs) ≡ true
+          → (is_frames (top xs) ≡ true → are_html xs ≡ true) → are_html xs ≡ true
+      below Root h m rest = empty xs tests.1 m
+      below Frames h m rest = rest (over (top xs) m)
+      below p h m rest = no h
 
 ended-nested : (s : State) → s.mode ≡ mode.AfterFrameset → IsNested s → IsNested (set_mode mode.AfterAfterFrameset s)
 unfolding set_mode
 ended-nested s at h =
     let g : Ground = ground_of s.context_elem in
     let is = in-frames g s.open_elems (rw at at h.fits) in
-    record { fits = rw (is.ground, frames-html g s.open_elems is.nested is.frames) (frames-root g s.open_elems (both _ _ is.nested is.frames)); count = h.count; framed = h.framed; form = h.form }
+    record {
+      fits = rw (is.ground, frames-html g s.open_elems is.nested is.frames)
+          (frames-root g s.open_elems (both _ _ is.nested is.frames));
+      count = h.count;
+      framed = h.framed;
+      form = h.form;
+    }
 
 abbrev pub ends_frames : Action → Conclusion → Bool
 ends_frames (SwitchTo mode.AfterAfterFrameset) Done = true
 ends_frames a e = false
 
-pub after_frameset-nested : (using : InsertionMode → Token → State → Turn) (a : Action) (e : Conclusion) → ends_frames a e ≡ true → (t : Token) (script : ℕ) (s : State) → s.mode ≡ mode.AfterFrameset → IsNested s → IsNested (concluded using e t script (act a t s)).state
+pub after_frameset-nested : (using : InsertionMode → Token → State → Turn) (a : Action) (e : Conclusion)
+    → ends_frames a e ≡ true → (t : Token) (script : ℕ) (s : State) → s.mode ≡ mode.AfterFrameset → IsNested s
+    → IsNested (concluded using e t script (act a t s)).state
 after_frameset-nested using (SwitchTo mode.AfterAfterFrameset) Done h t script s at n = ended-nested s at n
 after_frameset-nested using a e h t script s at n = no h
 
@@ -179,13 +215,19 @@ record IsOver (xs ys : List Open) : Type 0 where
 over-same : (xs : List Open) → IsOver xs xs
 over-same xs = record { html = λ h. h; root = λ h. h; templates = refl }
 
-over-push : (name : List ℕ) → is_loose_name name parts ≡ true → (n : ℕ) (xs ys : List Open) → IsOver xs ys → IsOver xs (record { number = n; namespace = Html; name = name } ∷ ys)
+over-push : (name : List ℕ) → is_loose_name name parts ≡ true → (n : ℕ) (xs ys : List Open) → IsOver xs ys
+    → IsOver xs (record { number = n; namespace = Html; name = name } ∷ ys)
 over-push name l n xs ys o =
     let x : Open = record { number = n; namespace = Html; name = name } in
     let loose = name-loose name l n in
-    record { html = o.html; root = λ h. rw (root-html x ∙ ap is_root loose) (o.root h); templates = pushed-templates x ys loose ∙ o.templates }
+    record {
+      html = o.html;
+      root = λ h. rw (root-html x ∙ ap is_root loose) (o.root h);
+      templates = pushed-templates x ys loose ∙ o.templates;
+    }
 
-over-either : (xs : List Open) (b : Bool) (x y : State) → IsOver xs x.open_elems → IsOver xs y.open_elems → IsOver xs (choose b (λ _. x) (λ _. y)).open_elems
+over-either : (xs : List Open) (b : Bool) (x y : State) → IsOver xs x.open_elems → IsOver xs y.open_elems
+    → IsOver xs (choose b (λ _. x) (λ _. y)).open_elems
 over-either xs true x y h k = h
 over-either xs false x y h k = k
 
@@ -196,9 +238,11 @@ reopen-over (Marker ∷ entries) h s = over-same s.open_elems
 reopen-over (Element n tag ∷ entries) h s =
     let tests = and_parts (is_among tag.name (names_of set.FormattingEnd)) (are_formatting entries) h in
     over-either s.open_elems (is_open n s.open_elems) _ _ (over-same s.open_elems)
-    (over-push tag.name (formatting-loose tag tests.0) (node_count (reopen entries s).forest) s.open_elems (reopen entries s).open_elems (reopen-over entries tests.1 s))
+    (over-push tag.name (formatting-loose tag tests.0) (node_count (reopen entries s).forest) s.open_elems
+    (reopen entries s).open_elems (reopen-over entries tests.1 s))
 
-reconstruct-over : (s : State) → are_formatting s.active_formatting ≡ true → IsOver s.open_elems (reconstruct_active_formatting_elements s).open_elems
+reconstruct-over : (s : State) → are_formatting s.active_formatting ≡ true → IsOver s.open_elems
+    (reconstruct_active_formatting_elements s).open_elems
 unfolding reconstruct_active_formatting_elements
 reconstruct-over s h = reopen-over s.active_formatting h s
 
@@ -206,22 +250,29 @@ abbrev pub is_white_text : Action → Conclusion → Bool
 is_white_text (Then Reconstruct (Then FramesetNotOkUnlessWhite AppendText)) Done = true
 is_white_text a e = false
 
-white-nested : (kind : Kind) (t : Token) → is_of kind t ≡ true → (s : State) → s.mode ≡ mode.AfterAfterFrameset → are_formatting s.active_formatting ≡ true → Standing s → IsNested s → IsNested (act (Then Reconstruct (Then FramesetNotOkUnlessWhite AppendText)) t s)
+white-nested : (kind : Kind) (t : Token) → is_of kind t ≡ true → (s : State) → s.mode ≡ mode.AfterAfterFrameset
+    → are_formatting s.active_formatting ≡ true → Standing s → IsNested s
+    → IsNested (act (Then Reconstruct (Then FramesetNotOkUnlessWhite AppendText)) t s)
 white-nested kind t k s at listed standing n =
     let a : Action = Then Reconstruct (Then FramesetNotOkUnlessWhite AppendText) in
     let q : State = reconstruct_active_formatting_elements s in
     let aside = act-aside kind a refl t s in
     let over = reconstruct-over s listed in
     let same = quiet-same (Then FramesetNotOkUnlessWhite AppendText) refl t q in
-    let kept = framed.after s q _ ((reconstruct-keeps framed.framed_kept) s) (quiet-framed (Then FramesetNotOkUnlessWhite AppendText) refl t q) in
+    let kept = framed.after s q _ ((reconstruct-keeps framed.framed_kept) s)
+    (quiet-framed (Then FramesetNotOkUnlessWhite AppendText) refl t q) in
     let was : (not (is_flow (ground_of s.context_elem)) && (are_html s.open_elems && has_root s.open_elems)) ≡ true = rw at at n.fits in
     let one = and_parts (not (is_flow (ground_of s.context_elem))) _ was in
     let two = and_parts (are_html s.open_elems) _ one.1 in
-    like-nested s (act a t s) (like-act kind a refl refl t k s listed standing kept) (ap open_templates same ∙ over.templates) (rw (aside.mode ∙ at, same, one.0, over.html two.0) (over.root two.1)) n
+    like-nested s (act a t s) (like-act kind a refl refl t k s listed standing kept)
+    (ap open_templates same ∙ over.templates) (rw (aside.mode ∙ at, same, one.0, over.html two.0) (over.root two.1)) n
 
-pub after_after-nested : (using : InsertionMode → Token → State → Turn) (kind : Kind) (a : Action) (e : Conclusion) → is_white_text a e ≡ true → (t : Token) → is_of kind t ≡ true → (script : ℕ) (s : State) → s.mode ≡ mode.AfterAfterFrameset → are_formatting s.active_formatting ≡ true → Standing s → IsNested s
+pub after_after-nested : (using : InsertionMode → Token → State → Turn) (kind : Kind) (a : Action) (e : Conclusion)
+    → is_white_text a e ≡ true → (t : Token) → is_of kind t ≡ true → (script : ℕ) (s : State)
+    → s.mode ≡ mode.AfterAfterFrameset → are_formatting s.active_formatting ≡ true → Standing s → IsNested s
     → IsNested (concluded using e t script (act a t s)).state
-after_after-nested using kind (Then Reconstruct (Then FramesetNotOkUnlessWhite AppendText)) Done h t k script s at listed standing n = white-nested kind t k s at listed standing n
+after_after-nested using kind (Then Reconstruct (Then FramesetNotOkUnlessWhite AppendText)) Done h t k script s at
+    listed standing n = white-nested kind t k s at listed standing n
 after_after-nested using kind a e h t k script s at listed standing n = no h
 
 -- text of a table is over
@@ -232,17 +283,23 @@ table-bodily mode.InTableBody h = refl
 table-bodily mode.InRow h = refl
 table-bodily m h = no h
 
-table-back : (g : Ground) (template : Bool) (o : Option InsertionMode) (m : InsertionMode) (xs ys : List Open) → fits_table g template o xs ≡ true → IsFlow g xs ys → (fits_parts g template (or_mode o m) None ys ≡ true) × (open_templates ys ≡ open_templates xs)
+table-back : (g : Ground) (template : Bool) (o : Option InsertionMode) (m : InsertionMode) (xs ys : List Open)
+    → fits_table g template o xs ≡ true → IsFlow g xs ys → (fits_parts g template (or_mode o m) None ys ≡ true)
+    × (open_templates ys ≡ open_templates xs)
 table-back g template None m xs ys h f = no h
 table-back g template (Some original) m xs ys h f =
     let one = and_parts (is_foster (top xs)) _ h in
     let two = and_parts (is_table_mode original) _ one.1 in
     let bodily = table-bodily original two.0 in
     let direct = flow-direct g template original None xs bodily (flow-parts g template original None xs bodily two.1) in
-    let after = f.flow direct.0 (base-takes g template original (base xs) direct.1.0 direct.1.1) in
-    (flow-parts g template original None ys bodily (flow-fits g template original (base xs) ys bodily direct.1.0 after.0 after.1.0 direct.1.1), after.1.1)
+    let after = f.flow direct.0 (base-takes g template original (base xs) direct.1.0 direct.1.1) in (
+      flow-parts g template original None ys bodily
+          (flow-fits g template original (base xs) ys bodily direct.1.0 after.0 after.1.0 direct.1.1),
+      after.1.1,
+    )
 
-told-nested : (kind : Kind) (t : Token) → is_of kind t ≡ true → (s : State) → s.mode ≡ mode.InTableText → are_formatting s.active_formatting ≡ true → Standing s → IsNested s → IsNested (restore_mode (insert_pending_text s))
+told-nested : (kind : Kind) (t : Token) → is_of kind t ≡ true → (s : State) → s.mode ≡ mode.InTableText
+    → are_formatting s.active_formatting ≡ true → Standing s → IsNested s → IsNested (restore_mode (insert_pending_text s))
 unfolding restore_mode
 told-nested kind t k s at listed standing n =
     let g : Ground = ground_of s.context_elem in
@@ -250,12 +307,22 @@ told-nested kind t k s at listed standing n =
     let r : State = insert_pending_text s in
     let aside = act-aside kind InsertPendingText refl t s in
     let like = like-act kind InsertPendingText refl refl t k s listed standing (act-framed kind NoGuard Loose InsertPendingText refl t s) in
-    let flow = act-flow g kind NoGuard (base s.open_elems) InsertPendingText refl (base-solid s.open_elems) t k s refl tt n.form listed standing in
+    let flow = act-flow g kind NoGuard (base s.open_elems) InsertPendingText refl (base-solid s.open_elems) t k s
+    refl tt n.form listed standing in
     let was : fits_table g template s.orig_mode s.open_elems ≡ true = rw at at n.fits in
     let back = table-back g template s.orig_mode r.mode s.open_elems r.open_elems was flow in
-    like-nested s (restore_mode r) (record { context = like.context; modes = like.modes; framed = like.framed; form = like.form; names = like.names }) back.1 (rw aside.original back.0) n
+    like-nested s (restore_mode r) (record {
+      context = like.context;
+      modes = like.modes;
+      framed = like.framed;
+      form = like.form;
+      names = like.names;
+    }) back.1 (rw aside.original back.0) n
 
-pub table_text-nested : (using : InsertionMode → Token → State → Turn) (kind : Kind) (a : Action) (e : Conclusion) → table_text_ok a e ≡ true → (t : Token) → is_of kind t ≡ true → (script : ℕ) (s : State) → s.mode ≡ mode.InTableText → are_formatting s.active_formatting ≡ true → Standing s → IsNested s
+pub table_text-nested : (using : InsertionMode → Token → State → Turn) (kind : Kind) (a : Action) (e : Conclusion)
+    → table_text_ok a e ≡ true → (t : Token) → is_of kind t ≡ true → (script : ℕ) (s : State)
+    → s.mode ≡ mode.InTableText → are_formatting s.active_formatting ≡ true → Standing s → IsNested s
     → IsNested (concluded using e t script (act a t s)).state
-table_text-nested using kind InsertPendingText ReprocessInOriginal h t k script s at listed standing n = told-nested kind t k s at listed standing n
+table_text-nested using kind InsertPendingText ReprocessInOriginal h t k script s at listed standing n =
+    told-nested kind t k s at listed standing n
 table_text-nested using kind a e h t k script s at listed standing n = no h

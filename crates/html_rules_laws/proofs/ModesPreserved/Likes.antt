@@ -15,11 +15,15 @@ use Rattle.html_rules.specs.Places.{insert_element, insert_element_for}
 use Rattle.html_rules.specs.Shape.{one_if}
 use Rattle.html_rules.specs.Stack.{open_templates, pop_but_root, without_current_but_root}
 use Rattle.html_rules.specs.State.{Open, State, is_in}
-use Rattle.html_rules.specs.Table.{Action, Nothing, Then, When, ParseError, InsertElement, InsertVoid, AppendText, AppendReplacement, AppendComment, AppendCommentToDocument, AppendCommentToRoot, AddAttributesToRoot, SetQuirks, FramesetNotOk, FramesetNotOkUnlessWhite, IgnoreLineFeed, DisableFosterParenting, KeepText, SaveMode, SwitchTo}
+use Rattle.html_rules.specs.Table.{Action, Nothing, Then, When, ParseError, InsertElement, InsertVoid, AppendText}
+use Rattle.html_rules.specs.Table.{AppendReplacement, AppendComment, AppendCommentToDocument, AppendCommentToRoot}
+use Rattle.html_rules.specs.Table.{AddAttributesToRoot, SetQuirks, FramesetNotOk, FramesetNotOkUnlessWhite, IgnoreLineFeed}
+use Rattle.html_rules.specs.Table.{DisableFosterParenting, KeepText, SaveMode, SwitchTo}
 use Rattle.html_rules.specs.declared.insertion_mode.InsertionMode.{InsertionMode}
 use Rattle.html_rules.specs.declared.insertion_mode.InsertionMode.TheVariants as mode
 use Rattle.html_rules.specs.declared.tag_set.TagSet.TheVariants as set
-use Rattle.html_rules_laws.specs.Nesting.{Loose, Ground, IsNested, fits_nested, fits_parts, fits_under, ground_of, is_document, is_flow, is_loose, part_of, parts}
+use Rattle.html_rules_laws.specs.Nesting.{Loose, Ground, IsNested, fits_nested, fits_parts, fits_under, ground_of, is_document}
+use Rattle.html_rules_laws.specs.Nesting.{is_flow, is_loose, part_of, parts}
 use Rattle.html_rules_laws.specs.Ready.{are_formatting}
 use Rattle.html_rules_laws.specs.Soundness.{Standing, is_plain_action}
 use Rattle.html_rules_laws.specs.Upright.{is_first}
@@ -62,20 +66,31 @@ like-after s r q h k = record {
 abbrev pub fits_at : State → InsertionMode → Option InsertionMode → List Open → Bool
 fits_at s m o xs = fits_parts (ground_of s.context_elem) (context_is set.Template s.context_elem) m o xs
 
-pub like-nested : (s r : State) → IsLike s r → open_templates r.open_elems ≡ open_templates s.open_elems → fits_at s r.mode r.orig_mode r.open_elems ≡ true → IsNested s → IsNested r
+pub like-nested : (s r : State) → IsLike s r → open_templates r.open_elems ≡ open_templates s.open_elems
+    → fits_at s r.mode r.orig_mode r.open_elems ≡ true → IsNested s → IsNested r
 like-nested s r like same fits h = record {
   fits = rw like.context fits;
-  count = ap (λ n. n + one_if (context_is set.Template r.context_elem)) same ∙ ap (λ c. open_templates s.open_elems + one_if (context_is set.Template c)) like.context ∙ h.count ∙ ap length (sym like.modes);
+  count = ap (λ n. n + one_if (context_is set.Template r.context_elem)) same
+      ∙ ap (λ c. open_templates s.open_elems + one_if (context_is set.Template c)) like.context ∙ h.count ∙ ap length (sym like.modes);
   framed = λ e. same ∙ h.framed (like.framed e);
   form = rw like.form (form-kept s.form_elem s.forest r.forest like.names h.form);
 }
 
-pub like-act : (kind : Kind) (a : Action) → tame_in kind a ≡ true → is_plain_action a ≡ true → (t : Token) → is_of kind t ≡ true → (s : State) → are_formatting s.active_formatting ≡ true → Standing s → IsFramed s (act a t s) → IsLike s (act a t s)
+pub like-act : (kind : Kind) (a : Action) → tame_in kind a ≡ true → is_plain_action a ≡ true → (t : Token)
+    → is_of kind t ≡ true → (s : State) → are_formatting s.active_formatting ≡ true → Standing s
+    → IsFramed s (act a t s) → IsLike s (act a t s)
 like-act kind a tame plain t k s listed standing kept =
     let aside = act-aside kind a tame t s in
-    record { context = aside.context; modes = aside.modes; framed = kept.framed; form = kept.form; names = (act-eased kind a tame plain t k s listed standing).names }
+    record {
+      context = aside.context;
+      modes = aside.modes;
+      framed = kept.framed;
+      form = kept.form;
+      names = (act-eased kind a tame plain t k s listed standing).names;
+    }
 
-pub like-insert : (name : List ℕ) (attributes : List Attribute) (dup : Bool) (s : State) → Standing s → IsLike s (insert_element Html name attributes dup s)
+pub like-insert : (name : List ℕ) (attributes : List Attribute) (dup : Bool) (s : State) → Standing s
+    → IsLike s (insert_element Html name attributes dup s)
 unfolding insert_element
 like-insert name attributes dup s standing =
     let made = inserted-Made s.foster_parenting s.forest Html name attributes dup s.open_elems standing.tree tt standing.opened in
@@ -88,7 +103,8 @@ like-pop s = record { context = refl; modes = refl; framed = λ e. e; form = ref
 -- actions that leave the stack as it is
 
 pub quiet-framed : (a : Action) → quiet a ≡ true → (t : Token) (s : State) → IsFramed s (act a t s)
-quiet-framed (Then a b) h t s = let tests = and_parts (quiet a) (quiet b) h in framed.after s (act a t s) _ (quiet-framed a tests.0 t s) (quiet-framed b tests.1 t (act a t s))
+quiet-framed (Then a b) h t s = let tests = and_parts (quiet a) (quiet b) h in framed.after s (act a t s) _
+    (quiet-framed a tests.0 t s) (quiet-framed b tests.1 t (act a t s))
 quiet-framed (When c a) h t s = either-keeps framed.framed_kept (holds c t s) s (act a t s) s (quiet-framed a h t s) (framed.same s)
 quiet-framed Nothing h t s = framed.same s
 quiet-framed ParseError h t s = act-framed (Starts []) NoGuard Loose ParseError refl t s
@@ -110,29 +126,35 @@ quiet-framed a h t s = no h
 abbrev pub calm : Action → Bool
 calm a = quiet a && is_plain_action a
 
-pub calm-like : (a : Action) → calm a ≡ true → (kind : Kind) (t : Token) → is_of kind t ≡ true → (s : State) → are_formatting s.active_formatting ≡ true → Standing s → IsLike s (act a t s)
-calm-like a h kind t k s listed standing = let tests = and_parts (quiet a) (is_plain_action a) h in like-act kind a (quiet-tame kind a tests.0) tests.1 t k s listed standing (quiet-framed a tests.0 t s)
+pub calm-like : (a : Action) → calm a ≡ true → (kind : Kind) (t : Token) → is_of kind t ≡ true → (s : State)
+    → are_formatting s.active_formatting ≡ true → Standing s → IsLike s (act a t s)
+calm-like a h kind t k s listed standing = let tests = and_parts (quiet a) (is_plain_action a) h in
+    like-act kind a (quiet-tame kind a tests.0) tests.1 t k s listed standing (quiet-framed a tests.0 t s)
 
-pub calm-nested : (a : Action) → calm a ≡ true → (kind : Kind) (t : Token) → is_of kind t ≡ true → (s : State) → are_formatting s.active_formatting ≡ true → Standing s → IsNested s → IsNested (act a t s)
+pub calm-nested : (a : Action) → calm a ≡ true → (kind : Kind) (t : Token) → is_of kind t ≡ true → (s : State)
+    → are_formatting s.active_formatting ≡ true → Standing s → IsNested s → IsNested (act a t s)
 calm-nested a h kind t k s listed standing n =
     let tests = and_parts (quiet a) (is_plain_action a) h in
     let aside = act-aside kind a (quiet-tame kind a tests.0) t s in
     let same = quiet-same a tests.0 t s in
-    like-nested s (act a t s) (calm-like a h kind t k s listed standing) (ap open_templates same) (rw (aside.mode, aside.original, same) n.fits) n
+    like-nested s (act a t s) (calm-like a h kind t k s listed standing) (ap open_templates same)
+    (rw (aside.mode, aside.original, same) n.fits) n
 
 pub calm-mode : (kind : Kind) (a : Action) → calm a ≡ true → (t : Token) (s : State) → (act a t s).mode ≡ s.mode
 calm-mode kind a h t s = (act-aside kind a (quiet-tame kind a (and_parts (quiet a) _ h).0) t s).mode
 
 -- modes that are none of text
 
-pub parts-direct : (m : InsertionMode) → is_text_mode m ≡ false → (g : Ground) (template : Bool) (o : Option InsertionMode) (xs : List Open) → fits_parts g template m o xs ≡ true → fits_nested g template m xs ≡ true
+pub parts-direct : (m : InsertionMode) → is_text_mode m ≡ false → (g : Ground) (template : Bool)
+    (o : Option InsertionMode) (xs : List Open) → fits_parts g template m o xs ≡ true → fits_nested g template m xs ≡ true
 parts-direct mode.Text e g template o xs h = no (sym e)
 parts-direct mode.InTableText e g template o xs h = no (sym e)
 parts-direct m e g template o xs h = h
 
 -- something is open after the root
 
-pub direct-nonempty : (m : InsertionMode) → is_first m ≡ false → (g : Ground) (template : Bool) (xs : List Open) → fits_nested g template m xs ≡ true → is_nonempty xs ≡ true
+pub direct-nonempty : (m : InsertionMode) → is_first m ≡ false → (g : Ground) (template : Bool) (xs : List Open)
+    → fits_nested g template m xs ≡ true → is_nonempty xs ≡ true
 direct-nonempty m e g template (x ∷ xs) h = refl
 direct-nonempty m e g template [] h = by m e h where
   by : (m : InsertionMode) → is_first m ≡ false → fits_nested g template m [] ≡ true → false ≡ true
@@ -147,7 +169,8 @@ direct-nonempty m e g template [] h = by m e h where
 
 -- text of an element comes
 
-pub text-nested : (tag : Tag) → is_loose_name tag.name parts ≡ true → (s : State) → is_first s.mode ≡ false → is_text_mode s.mode ≡ false → Standing s → IsNested s → IsNested (set_mode mode.Text (save_mode (insert_element_for tag s)))
+pub text-nested : (tag : Tag) → is_loose_name tag.name parts ≡ true → (s : State) → is_first s.mode ≡ false
+    → is_text_mode s.mode ≡ false → Standing s → IsNested s → IsNested (set_mode mode.Text (save_mode (insert_element_for tag s)))
 unfolding set_mode save_mode insert_element
 text-nested tag l s f e standing h =
     let x : Open = record { number = node_count s.forest; namespace = Html; name = tag.name } in
@@ -155,20 +178,24 @@ text-nested tag l s f e standing h =
     let like = like-insert tag.name tag.attrs tag.had_duplicate_attributes s standing in
     let fits = parts-direct s.mode e (ground_of s.context_elem) (context_is set.Template s.context_elem) s.orig_mode s.open_elems h.fits in
     let some = direct-nonempty s.mode f (ground_of s.context_elem) (context_is set.Template s.context_elem) s.open_elems fits in
-    like-nested s (set_mode mode.Text (save_mode (insert_element_for tag s))) (record { context = like.context; modes = like.modes; framed = like.framed; form = like.form; names = like.names })
+    like-nested s (set_mode mode.Text (save_mode (insert_element_for tag s)))
+    (record { context = like.context; modes = like.modes; framed = like.framed; form = like.form; names = like.names })
     (pushed-templates x s.open_elems loose) (rw (loose, some) fits) h
 
 abbrev pub raw_row : Kind → Action → Bool
 raw_row kind a = raw_text_only a && (is_tag_kind kind && loose_kind kind)
 
-pub raw-nested : (kind : Kind) (a : Action) → raw_row kind a ≡ true → (t : Token) → is_of kind t ≡ true → (s : State) → is_first s.mode ≡ false → is_text_mode s.mode ≡ false → Standing s → IsNested s → IsNested (act a t s)
+pub raw-nested : (kind : Kind) (a : Action) → raw_row kind a ≡ true → (t : Token) → is_of kind t ≡ true
+    → (s : State) → is_first s.mode ≡ false → is_text_mode s.mode ≡ false → Standing s → IsNested s → IsNested (act a t s)
 raw-nested kind a h t k s f e standing n =
     let one = and_parts (raw_text_only a) _ h in
     let two = and_parts (is_tag_kind kind) (loose_kind kind) one.1 in
     by a kind t one.0 two.0 two.1 k
   where
-    by : (a : Action) (kind : Kind) (t : Token) → raw_text_only a ≡ true → is_tag_kind kind ≡ true → loose_kind kind ≡ true → is_of kind t ≡ true → IsNested (act a t s)
-    by (Then InsertElement (Then SaveMode (SwitchTo mode.Text))) kind (TagToken tag) r g l k = text-nested tag (kind-loose kind tag l k) s f e standing n
+    by : (a : Action) (kind : Kind) (t : Token) → raw_text_only a ≡ true → is_tag_kind kind ≡ true
+        → loose_kind kind ≡ true → is_of kind t ≡ true → IsNested (act a t s)
+    by (Then InsertElement (Then SaveMode (SwitchTo mode.Text))) kind (TagToken tag) r g l k =
+        text-nested tag (kind-loose kind tag l k) s f e standing n
     by (Then InsertElement (Then SaveMode (SwitchTo mode.Text))) (Starts names) t r g l k = no k
     by (Then InsertElement (Then SaveMode (SwitchTo mode.Text))) (Ends names) t r g l k = no k
     by (Then InsertElement (Then SaveMode (SwitchTo mode.Text))) (StartsBut names) t r g l k = no k
@@ -182,8 +209,10 @@ raw-nested kind a h t k s f e standing n =
 not-root : (x : Open) → is_loose (part_of x) ≡ true → is_in set.Html x ≡ false
 not-root x l = root-html x ∙ loose-not_root (part_of x) l
 
-under-fits : (g : Ground) (template : Bool) (o : Option InsertionMode) (m : InsertionMode) (xs : List Open) → fits_under g template o xs ≡ true
-    → (fits_parts g template (or_mode o m) None (without_current_but_root xs) ≡ true) × (open_templates (without_current_but_root xs) ≡ open_templates xs)
+under-fits : (g : Ground) (template : Bool) (o : Option InsertionMode) (m : InsertionMode) (xs : List Open)
+    → fits_under g template o xs ≡ true
+    → (fits_parts g template (or_mode o m) None (without_current_but_root xs) ≡ true)
+    × (open_templates (without_current_but_root xs) ≡ open_templates xs)
 under-fits g template None m xs h = no h
 under-fits g template (Some original) m [] h = no h
 under-fits g template (Some original) m (x ∷ xs) h =
@@ -194,6 +223,13 @@ under-fits g template (Some original) m (x ∷ xs) h =
 pub over-nested : (s : State) → s.mode ≡ mode.Text → IsNested s → IsNested (restore_mode (pop_but_root s))
 unfolding restore_mode pop_but_root
 over-nested s at h =
-    let was : fits_under (ground_of s.context_elem) (context_is set.Template s.context_elem) s.orig_mode s.open_elems ≡ true = rw at at h.fits in
+    let was : fits_under (ground_of s.context_elem) (context_is set.Template s.context_elem) s.orig_mode
+    s.open_elems ≡ true = rw at at h.fits in
     let left = under-fits (ground_of s.context_elem) (context_is set.Template s.context_elem) s.orig_mode s.mode s.open_elems was in
-    like-nested s (restore_mode (pop_but_root s)) (record { context = refl; modes = refl; framed = λ e. e; form = refl; names = λ n name e. e }) left.1 left.0 h
+    like-nested s (restore_mode (pop_but_root s)) (record {
+      context = refl;
+      modes = refl;
+      framed = λ e. e;
+      form = refl;
+      names = λ n name e. e;
+    }) left.1 left.0 h

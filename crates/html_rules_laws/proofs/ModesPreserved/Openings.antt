@@ -15,9 +15,12 @@ use Rattle.html_rules.specs.Names.{Html, element_name_of}
 use Rattle.html_rules.specs.Reset.{reset_insertion_mode}
 use Rattle.html_rules.specs.Sets.{is_among, names_of}
 use Rattle.html_rules.specs.Shape.{one_if}
-use Rattle.html_rules.specs.Stack.{expect_to_close, generate_implied_end_tags, has_open, in_scope, left_below, left_from, open_templates, parse_error, pop_until}
+use Rattle.html_rules.specs.Stack.{expect_to_close, generate_implied_end_tags, has_open, in_scope, left_below, left_from}
+use Rattle.html_rules.specs.Stack.{open_templates, parse_error, pop_until}
 use Rattle.html_rules.specs.State.{Open, State, is_in}
-use Rattle.html_rules.specs.Table.{Condition, TemplateOpen, InScope, Action, Then, ParseError, PopUntil, Close, ImpliedEndTagsThoroughly, InsertMarker, ClearToMarker, FramesetNotOk, SwitchTo, PushTemplateMode, PopTemplateMode, InsertTemplate, ResetMode}
+use Rattle.html_rules.specs.Table.{Condition, TemplateOpen, InScope, Action, Then, ParseError, PopUntil, Close}
+use Rattle.html_rules.specs.Table.{ImpliedEndTagsThoroughly, InsertMarker, ClearToMarker, FramesetNotOk, SwitchTo}
+use Rattle.html_rules.specs.Table.{PushTemplateMode, PopTemplateMode, InsertTemplate, ResetMode}
 use Rattle.html_rules.specs.Templates.{insert_template}
 use Rattle.html_rules.specs.declared.insertion_mode.InsertionMode.TheVariants as mode
 use Rattle.html_rules.specs.declared.insertion_mode.InsertionMode.{InsertionMode}
@@ -52,7 +55,8 @@ pub record Ready (s : State) : Type 0 where
 
 -- a template is opened
 
-opened-nested : (tag : Tag) → is_among tag.name (names_of set.Template) ≡ true → (s : State) → Ready s → may_stand (ground_of s.context_elem) Contents (top s.open_elems) ≡ true
+opened-nested : (tag : Tag) → is_among tag.name (names_of set.Template) ≡ true → (s : State) → Ready s
+    → may_stand (ground_of s.context_elem) Contents (top s.open_elems) ≡ true
     → IsNested (insert_template tag (push_template_mode mode.InTemplate (set_mode mode.InTemplate (frameset_not_ok (push_marker s)))))
 unfolding push_marker frameset_not_ok set_mode push_template_mode
 opened-nested tag name s h stands =
@@ -66,7 +70,13 @@ opened-nested tag name s h stands =
     let template : is_in set.Template x ≡ true = name in
     let all : r.open_elems ≡ x ∷ s.open_elems = above.elements in
     let nest : nested (ground_of s.context_elem) (x ∷ s.open_elems) ≡ true = rw part (both _ _ stands h.nested) in
-    let standing : Standing q = record { tree = h.standing.tree; opened = h.standing.opened; apart = h.standing.apart; listed = h.standing.listed; top = h.standing.top } in
+    let standing : Standing q = record {
+      tree = h.standing.tree;
+      opened = h.standing.opened;
+      apart = h.standing.apart;
+      listed = h.standing.listed;
+      top = h.standing.top;
+    } in
     record {
       fits = rw (aside.mode, aside.context, all) (rw (nest, part) refl);
       count = counted q r x all template aside.context aside.modes h.count;
@@ -74,19 +84,30 @@ opened-nested tag name s h stands =
       form = rw kept.form (form-kept s.form_elem s.forest r.forest (template-eased tag name q standing).names h.form);
     }
   where
-    counted : (q r : State) (x : Open) → r.open_elems ≡ x ∷ s.open_elems → is_in set.Template x ≡ true → r.context_elem ≡ s.context_elem → r.template_modes ≡ mode.InTemplate ∷ s.template_modes → wanted s ≡ length s.template_modes → wanted r ≡ length r.template_modes
+    counted : (q r : State) (x : Open) → r.open_elems ≡ x ∷ s.open_elems → is_in set.Template x ≡ true
+        → r.context_elem ≡ s.context_elem → r.template_modes ≡ mode.InTemplate ∷ s.template_modes
+        → wanted s ≡ length s.template_modes → wanted r ≡ length r.template_modes
     counted q r x all t c m count =
         let one : open_templates r.open_elems ≡ suc (open_templates s.open_elems) = ap open_templates all ∙ rw t refl in
-        let two : one_if (context_is set.Template r.context_elem) ≡ one_if (context_is set.Template s.context_elem) = ap (λ c. one_if (context_is set.Template c)) c in
+        let two : one_if (context_is set.Template r.context_elem) ≡ one_if
+        (context_is set.Template s.context_elem) = ap (λ c. one_if (context_is set.Template c)) c in
         let three : length r.template_modes ≡ suc (length s.template_modes) = ap length m in
         let four = count in
         omega arith
 
-pub opens-nested : (kind : Kind) (a : Action) → opens a ≡ true → starts_template kind ≡ true → (t : Token) → is_of kind t ≡ true → (s : State) → Ready s → may_stand (ground_of s.context_elem) Contents (top s.open_elems) ≡ true → IsNested (act a t s)
-opens-nested (Starts names) (Then InsertMarker (Then FramesetNotOk (Then (SwitchTo mode.InTemplate) (Then (PushTemplateMode mode.InTemplate) InsertTemplate)))) o p (TagToken tag) f s h stands =
+pub opens-nested : (kind : Kind) (a : Action) → opens a ≡ true → starts_template kind ≡ true → (t : Token)
+    → is_of kind t ≡ true → (s : State) → Ready s → may_stand (ground_of s.context_elem) Contents
+    (top s.open_elems) ≡ true → IsNested (act a t s)
+opens-nested (Starts names)
+    (Then InsertMarker (Then FramesetNotOk
+    (Then (SwitchTo mode.InTemplate) (Then (PushTemplateMode mode.InTemplate) InsertTemplate)))) o p (TagToken tag) f s h stands =
     opened-nested tag (among-all tag.name names (names_of set.Template) p (and_parts (is_start_tag tag.kind) _ f).1) s h stands
-opens-nested (Starts names) (Then InsertMarker (Then FramesetNotOk (Then (SwitchTo mode.InTemplate) (Then (PushTemplateMode mode.InTemplate) InsertTemplate)))) o p t f s h stands = no f
-opens-nested kind (Then InsertMarker (Then FramesetNotOk (Then (SwitchTo mode.InTemplate) (Then (PushTemplateMode mode.InTemplate) InsertTemplate)))) o p t f s h stands = no p
+opens-nested (Starts names)
+    (Then InsertMarker (Then FramesetNotOk
+    (Then (SwitchTo mode.InTemplate) (Then (PushTemplateMode mode.InTemplate) InsertTemplate)))) o p t f s h stands = no f
+opens-nested kind (Then InsertMarker
+    (Then FramesetNotOk (Then (SwitchTo mode.InTemplate)
+    (Then (PushTemplateMode mode.InTemplate) InsertTemplate)))) o p t f s h stands = no p
 opens-nested kind a o p t f s h stands = no o
 
 -- a template is closed, with its mode
@@ -96,13 +117,18 @@ fewer-modes [] n e = absurd (omega arith)
 fewer-modes (m ∷ modes) n e = omega arith
 
 -- from elements zs, of which the topmost template was popped, with all above it
-closed-nested : (s q : State) (zs : List Open) → Ready s → nested (ground_of s.context_elem) zs ≡ true → has_open set.Template zs ≡ true → open_templates zs ≡ open_templates s.open_elems → q.open_elems ≡ left_below (is_in set.Template) zs → q.template_modes ≡ without_first s.template_modes
-    → q.context_elem ≡ s.context_elem → (q.frameset_ok ≡ true → s.frameset_ok ≡ true) → q.form_elem ≡ s.form_elem → ((n : ℕ) (name : QualName) → element_name (data_of s.forest n) ≡ Some name → element_name (data_of q.forest n) ≡ Some name)
+closed-nested : (s q : State) (zs : List Open) → Ready s → nested (ground_of s.context_elem) zs ≡ true
+    → has_open set.Template zs ≡ true → open_templates zs ≡ open_templates s.open_elems → q.open_elems ≡ left_below
+    (is_in set.Template) zs → q.template_modes ≡ without_first s.template_modes
+    → q.context_elem ≡ s.context_elem → (q.frameset_ok ≡ true → s.frameset_ok ≡ true) → q.form_elem ≡ s.form_elem
+    → ((n : ℕ) (name : QualName) → element_name (data_of s.forest n) ≡ Some name → element_name (data_of q.forest n) ≡ Some name)
     → IsNested (reset_insertion_mode q)
 closed-nested s q zs h nest there same elements modes context ok form names =
     let closed = template-closed (ground_of s.context_elem) zs nest there in
-    let fewer : suc (open_templates q.open_elems) ≡ open_templates s.open_elems = ap (λ xs. suc (open_templates xs)) elements ∙ closed.templates ∙ same in
-    let two : one_if (context_is set.Template q.context_elem) ≡ one_if (context_is set.Template s.context_elem) = ap (λ c. one_if (context_is set.Template c)) context in
+    let fewer : suc (open_templates q.open_elems) ≡ open_templates s.open_elems = ap (λ xs. suc (open_templates xs))
+    elements ∙ closed.templates ∙ same in
+    let two : one_if (context_is set.Template q.context_elem) ≡ one_if (context_is set.Template s.context_elem) =
+    ap (λ c. one_if (context_is set.Template c)) context in
     let count = h.count in
     reset-nested q (record {
       nested = rw (context, elements) closed.nested;
@@ -114,7 +140,9 @@ closed-nested s q zs h nest there same elements modes context ok form names =
     })
 
 thorough-nested : (s : State) → Ready s → has_open set.Template s.open_elems ≡ true
-    → IsNested (reset_insertion_mode (pop_template_mode (clear_active_formatting_to_marker (expect_to_close (is_in set.Template) (generate_implied_end_tags set.ThoroughImpliedEnd s)))))
+    → IsNested (reset_insertion_mode
+    (pop_template_mode (clear_active_formatting_to_marker
+    (expect_to_close (is_in set.Template) (generate_implied_end_tags set.ThoroughImpliedEnd s)))))
 unfolding generate_implied_end_tags clear_active_formatting_to_marker pop_template_mode
 thorough-nested s h there =
     let one : State = generate_implied_end_tags set.ThoroughImpliedEnd s in
@@ -123,24 +151,33 @@ thorough-nested s h there =
     let kept = expect_to_close-keeps framed.framed_kept (is_in set.Template) one in
     let zs : List Open = left_from kept_by_implied s.open_elems in
     let count = implied-count s.open_elems in
-    closed-nested s (pop_template_mode (clear_active_formatting_to_marker two)) zs h (from-nested (ground_of s.context_elem) kept_by_implied s.open_elems h.nested) (count.1 there) count.0
+    closed-nested s (pop_template_mode (clear_active_formatting_to_marker two)) zs h
+    (from-nested (ground_of s.context_elem) kept_by_implied s.open_elems h.nested) (count.1 there) count.0
     (close-elements (is_in set.Template) one) (ap (λ modes. without_first modes) aside.modes) aside.context kept.framed kept.form
     (λ n name e. (expect_to_close-eased (is_in set.Template) one (implied-Standing set.ThoroughImpliedEnd s h.standing)).names n name e)
 
 erred-nested : (s : State) → Ready s → has_open set.Template s.open_elems ≡ true
-    → IsNested (reset_insertion_mode (pop_template_mode (clear_active_formatting_to_marker (pop_until (is_in set.Template) (parse_error s)))))
+    → IsNested (reset_insertion_mode
+    (pop_template_mode (clear_active_formatting_to_marker (pop_until (is_in set.Template) (parse_error s)))))
 unfolding parse_error pop_until clear_active_formatting_to_marker pop_template_mode
 erred-nested s h there =
-    closed-nested s (pop_template_mode (clear_active_formatting_to_marker (pop_until (is_in set.Template) (parse_error s)))) s.open_elems h h.nested there refl refl refl refl (λ e. e) refl (λ n name e. e)
+    closed-nested s (pop_template_mode
+    (clear_active_formatting_to_marker (pop_until (is_in set.Template) (parse_error s)))) s.open_elems h
+    h.nested there refl refl refl refl (λ e. e) refl (λ n name e. e)
 
-pub closes-nested : (condition : Condition) (a : Action) → closes condition a ≡ true → (t : Token) (s : State) → holds condition t s ≡ true → Ready s → IsNested (act a t s)
-closes-nested TemplateOpen (Then ImpliedEndTagsThoroughly (Then (Close set.Template) (Then ClearToMarker (Then PopTemplateMode ResetMode)))) c t s o h = thorough-nested s h o
-closes-nested TemplateOpen (Then ParseError (Then (PopUntil set.Template) (Then ClearToMarker (Then PopTemplateMode ResetMode)))) c t s o h = erred-nested s h o
+pub closes-nested : (condition : Condition) (a : Action) → closes condition a ≡ true → (t : Token) (s : State)
+    → holds condition t s ≡ true → Ready s → IsNested (act a t s)
+closes-nested TemplateOpen
+    (Then ImpliedEndTagsThoroughly
+    (Then (Close set.Template) (Then ClearToMarker (Then PopTemplateMode ResetMode)))) c t s o h = thorough-nested s h o
+closes-nested TemplateOpen
+    (Then ParseError (Then (PopUntil set.Template) (Then ClearToMarker (Then PopTemplateMode ResetMode)))) c t s o h = erred-nested s h o
 closes-nested condition a c t s o h = no c
 
 -- a table is closed
 
-until-nested : (s : State) → Ready s → in_scope set.TableScope (is_in set.Table) s.open_elems ≡ true → IsNested (reset_insertion_mode (pop_until (is_in set.Table) s))
+until-nested : (s : State) → Ready s → in_scope set.TableScope (is_in set.Table) s.open_elems ≡ true
+    → IsNested (reset_insertion_mode (pop_until (is_in set.Table) s))
 unfolding pop_until
 until-nested s h i =
     let closed = table-closed (ground_of s.context_elem) s.open_elems h.nested i in
@@ -155,7 +192,14 @@ until-nested s h i =
 
 error-ready : (s : State) → Ready s → Ready (parse_error s)
 unfolding parse_error
-error-ready s h = record { standing = parse_error-Standing s h.standing; nested = h.nested; modes = h.modes; count = h.count; framed = h.framed; form = h.form }
+error-ready s h = record {
+  standing = parse_error-Standing s h.standing;
+  nested = h.nested;
+  modes = h.modes;
+  count = h.count;
+  framed = h.framed;
+  form = h.form;
+}
 
 error-same : (s : State) → (parse_error s).open_elems ≡ s.open_elems
 unfolding parse_error
@@ -166,7 +210,9 @@ resets_table (InScope set.TableScope set.Table) (Then ParseError (Then (PopUntil
 resets_table (InScope set.TableScope set.Table) (Then (PopUntil set.Table) ResetMode) = true
 resets_table c a = false
 
-pub table-nested : (c : Condition) (a : Action) → resets_table c a ≡ true → (t : Token) (s : State) → holds c t s ≡ true → Ready s → IsNested (act a t s)
-table-nested (InScope set.TableScope set.Table) (Then ParseError (Then (PopUntil set.Table) ResetMode)) r t s i h = until-nested (parse_error s) (error-ready s h) (rw (error-same s) i)
+pub table-nested : (c : Condition) (a : Action) → resets_table c a ≡ true → (t : Token) (s : State)
+    → holds c t s ≡ true → Ready s → IsNested (act a t s)
+table-nested (InScope set.TableScope set.Table) (Then ParseError (Then (PopUntil set.Table) ResetMode)) r t s i h =
+    until-nested (parse_error s) (error-ready s h) (rw (error-same s) i)
 table-nested (InScope set.TableScope set.Table) (Then (PopUntil set.Table) ResetMode) r t s i h = until-nested s h i
 table-nested c a r t s i h = no r

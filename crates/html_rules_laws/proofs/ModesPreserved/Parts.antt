@@ -7,7 +7,8 @@ use Rattle.html_rules.specs.Names.{Namespace, Html, MathMl, Svg, Other, is_html}
 use Rattle.html_rules.specs.Sets.{is_among, mathml_names_of, names_of, svg_names_of}
 use Rattle.html_rules.specs.State.{Open, is_in}
 use Rattle.html_rules.specs.declared.tag_set.TagSet.{TagSet}
-use Rattle.html_rules_laws.specs.Nesting.{Part, Root, HeadPart, BodyPart, Frames, Contents, TablePart, Section, RowPart, Cell, CaptionPart, Columns, Loose, is_loose, part_among, part_of, parts, set_of}
+use Rattle.html_rules_laws.specs.Nesting.{Part, Root, HeadPart, BodyPart, Frames, Contents, TablePart, Section, RowPart, Cell}
+use Rattle.html_rules_laws.specs.Nesting.{CaptionPart, Columns, Loose, is_loose, part_among, part_of, parts, set_of}
 use Rattle.html_rules_laws.proofs.Names.{disjoint, shares_name}
 use Rattle.html_rules_laws.proofs.SetFacts.{apart, in-apart, in-within, within}
 use Rattle.html_rules_laws.proofs.Bools.{both, no, not_true}
@@ -16,7 +17,8 @@ use Rattle.html_rules_laws.proofs.Bools.{both, no, not_true}
 among-set : (ps : List Part) (x : Open) (p : Part) → part_among ps x ≡ p → is_loose p ≡ false → is_in (set_of p) x ≡ true
 among-set [] x p e l = absurd (true≢false (ap is_loose e ∙ l))
 among-set (q ∷ ps) x p e l = by (is_in (set_of q) x) refl e (among-set ps x p) where
-  by : (b : Bool) → is_in (set_of q) x ≡ b → choose b (λ _. q) (λ _. part_among ps x) ≡ p → (part_among ps x ≡ p → is_loose p ≡ false → is_in (set_of p) x ≡ true) → is_in (set_of p) x ≡ true
+  by : (b : Bool) → is_in (set_of q) x ≡ b → choose b (λ _. q) (λ _. part_among ps x) ≡ p
+      → (part_among ps x ≡ p → is_loose p ≡ false → is_in (set_of p) x ≡ true) → is_in (set_of p) x ≡ true
   by true is e rest = rw (← e) is
   by false is e rest = rest e l
 
@@ -57,10 +59,13 @@ abbrev is_first_of : TagSet → Part → List Part → Bool
 is_first_of names p [] = false
 is_first_of names p (q ∷ ps) = choose (same_part p q) (λ _. within names (set_of p)) (λ _. apart names (set_of q) && is_first_of names p ps)
 
-among-part : (names : TagSet) (p : Part) (ps : List Part) → is_first_of names p ps ≡ true → (x : Open) → is_in names x ≡ true → part_among ps x ≡ p
+among-part : (names : TagSet) (p : Part) (ps : List Part) → is_first_of names p ps ≡ true → (x : Open)
+    → is_in names x ≡ true → part_among ps x ≡ p
 among-part names p [] h x is = no h
 among-part names p (q ∷ ps) h x is = by (same_part p q) refl h (λ h. among-part names p ps h x is) where
-  by : (b : Bool) → same_part p q ≡ b → choose b (λ _. within names (set_of p)) (λ _. apart names (set_of q) && is_first_of names p ps) ≡ true → (is_first_of names p ps ≡ true → part_among ps x ≡ p) → choose (is_in (set_of q) x) (λ _. q) (λ _. part_among ps x) ≡ p
+  by : (b : Bool) → same_part p q ≡ b → choose b (λ _. within names (set_of p))
+      (λ _. apart names (set_of q) && is_first_of names p ps) ≡ true
+      → (is_first_of names p ps ≡ true → part_among ps x ≡ p) → choose (is_in (set_of q) x) (λ _. q) (λ _. part_among ps x) ≡ p
   by true e h rest = let same = same-is p q e in rw (same, in-within names (set_of p) h x is) refl
   by false e h rest = let parts = and_parts (apart names (set_of q)) _ h in rw (in-apart names (set_of q) parts.0 x is) (rest parts.1)
 
@@ -82,7 +87,8 @@ are_loose names = apart_all names parts
 
 among-loose : (names : TagSet) (ps : List Part) → apart_all names ps ≡ true → (x : Open) → is_in names x ≡ true → part_among ps x ≡ Loose
 among-loose names [] h x is = refl
-among-loose names (p ∷ ps) h x is = let parts = and_parts (apart names (set_of p)) _ h in rw (in-apart names (set_of p) parts.0 x is) (among-loose names ps parts.1 x is)
+among-loose names (p ∷ ps) h x is = let parts = and_parts (apart names (set_of p)) _ h in
+    rw (in-apart names (set_of p) parts.0 x is) (among-loose names ps parts.1 x is)
 
 pub set-loose : (names : TagSet) → are_loose names ≡ true → (x : Open) → is_in names x ≡ true → part_of x ≡ Loose
 unfolding part_of
@@ -93,11 +99,14 @@ abbrev pub is_loose_name : List ℕ → List Part → Bool
 is_loose_name name [] = true
 is_loose_name name (p ∷ ps) = not (is_among name (names_of (set_of p))) && is_loose_name name ps
 
-among-named : (name : List ℕ) (ps : List Part) → is_loose_name name ps ≡ true → (n : ℕ) → part_among ps (record { number = n; namespace = Html; name = name }) ≡ Loose
+among-named : (name : List ℕ) (ps : List Part) → is_loose_name name ps ≡ true → (n : ℕ)
+    → part_among ps (record { number = n; namespace = Html; name = name }) ≡ Loose
 among-named name [] h n = refl
-among-named name (p ∷ ps) h n = let parts = and_parts (not (is_among name (names_of (set_of p)))) _ h in rw (not_true _ parts.0) (among-named name ps parts.1 n)
+among-named name (p ∷ ps) h n = let parts = and_parts (not (is_among name (names_of (set_of p)))) _ h in
+    rw (not_true _ parts.0) (among-named name ps parts.1 n)
 
-pub name-loose : (name : List ℕ) → is_loose_name name parts ≡ true → (n : ℕ) → part_of (record { number = n; namespace = Html; name = name }) ≡ Loose
+pub name-loose : (name : List ℕ) → is_loose_name name parts ≡ true → (n : ℕ)
+    → part_of (record { number = n; namespace = Html; name = name }) ≡ Loose
 unfolding part_of
 name-loose name h n = among-named name parts h n
 
@@ -106,7 +115,8 @@ abbrev pub share_none : List (List ℕ) → List Part → Bool
 share_none names [] = true
 share_none names (p ∷ ps) = not (shares_name names (names_of (set_of p))) && share_none names ps
 
-pub among-loose_name : (names : List (List ℕ)) (ps : List Part) → share_none names ps ≡ true → (name : List ℕ) → is_among name names ≡ true → is_loose_name name ps ≡ true
+pub among-loose_name : (names : List (List ℕ)) (ps : List Part) → share_none names ps ≡ true → (name : List ℕ)
+    → is_among name names ≡ true → is_loose_name name ps ≡ true
 among-loose_name names [] h name is = refl
 among-loose_name names (p ∷ ps) h name is =
     let parts = and_parts (not (shares_name names (names_of (set_of p)))) _ h in
@@ -116,7 +126,8 @@ among-loose_name names (p ∷ ps) h name is =
 pub foreign-loose : (x : Open) → is_html x.namespace ≡ false → part_of x ≡ Loose
 unfolding part_of mathml_names_of svg_names_of
 foreign-loose x h = by x.number x.namespace x.name h where
-  by : (n : ℕ) (namespace : Namespace) (name : List ℕ) → is_html namespace ≡ false → part_among parts (record { number = n; namespace = namespace; name = name }) ≡ Loose
+  by : (n : ℕ) (namespace : Namespace) (name : List ℕ) → is_html namespace ≡ false
+      → part_among parts (record { number = n; namespace = namespace; name = name }) ≡ Loose
   by n Html name h = absurd (true≢false h)
   by n MathMl name h = refl
   by n Svg name h = refl
@@ -129,8 +140,10 @@ solid-html x h = by (is_html x.namespace) refl where
   by false e = absurd (true≢false (sym (ap is_loose (foreign-loose x e)) ∙ h))
 
 -- what holds of all that is in a set of a part
-pub part-within : (x : Open) (p : Part) (names : TagSet) → is_loose p ≡ false → within (set_of p) names ≡ true → part_of x ≡ p → is_in names x ≡ true
+pub part-within : (x : Open) (p : Part) (names : TagSet) → is_loose p ≡ false → within (set_of p) names ≡ true
+    → part_of x ≡ p → is_in names x ≡ true
 part-within x p names l w e = in-within (set_of p) names w x (part-set x p e l)
 
-pub part-apart : (x : Open) (p : Part) (names : TagSet) → is_loose p ≡ false → apart (set_of p) names ≡ true → part_of x ≡ p → is_in names x ≡ false
+pub part-apart : (x : Open) (p : Part) (names : TagSet) → is_loose p ≡ false → apart (set_of p) names ≡ true
+    → part_of x ≡ p → is_in names x ≡ false
 part-apart x p names l w e = in-apart (set_of p) names w x (part-set x p e l)

@@ -1,5 +1,6 @@
 -- Turns in the modes of bodies, tables and templates leave the parts nested.
-use Rattle.std.proofs.Common.{◌≡◌, ◌∙◌, ◌++◌, reverse, ℕ, zero, suc, ◌+◌, Bool, true, false, List, [], ◌∷◌, length, Option, Some, None, refl, sym, ap, subst, true≢false, codes}
+use Rattle.std.proofs.Common.{◌≡◌, ◌∙◌, ◌++◌, reverse, ℕ, zero, suc, ◌+◌, Bool, true, false, List, [], ◌∷◌, length, Option}
+use Rattle.std.proofs.Common.{Some, None, refl, sym, ap, subst, true≢false, codes}
 use Rattle.std.specs.Prelude.{◌||◌, ◌&&◌, not, is_some}
 use Rattle.std.proofs.lemmas.Bool.{and_parts}
 use Rattle.std.proofs.lemmas.Grind.{reverse_onto}
@@ -8,7 +9,8 @@ use Rattle.html_tokens.specs.declared.tags.Tag.{Tag}
 use Rattle.html_tokens.specs.declared.token.Token.{Token}
 use Rattle.html_tokens.specs.declared.tags.TagKind.{TagKind}
 use Rattle.html_tokens.specs.declared.tags.TagKind.TheVariants.{StartTag, EndTag}
-use Rattle.html_tokens.specs.declared.token.Token.TheVariants.{DoctypeToken, TagToken, CommentToken, CharacterTokens, NullCharacterToken, EOFToken, ParseError as ErrorToken}
+use Rattle.html_tokens.specs.declared.token.Token.TheVariants.{DoctypeToken, TagToken, CommentToken, CharacterTokens}
+use Rattle.html_tokens.specs.declared.token.Token.TheVariants.{NullCharacterToken, EOFToken, ParseError as ErrorToken}
 use Rattle.html_rules.specs.Actions.{act, save_mode, set_foster_parenting, set_mode}
 use Rattle.html_rules.specs.Choice.{choose}
 use Rattle.html_rules.specs.Conditions.{context_is, holds, is_nonempty}
@@ -18,13 +20,20 @@ use Rattle.html_rules.specs.Places.{insert_element}
 use Rattle.html_rules.specs.Rules.{Turn, concluded, rows, turn_by_row, using_rules_for}
 use Rattle.html_rules.specs.Sets.{is_among, mathml_names_of, names_of, svg_names_of}
 use Rattle.html_rules.specs.Shape.{one_if}
-use Rattle.html_rules.specs.Stack.{body_elem, if_body, left_from, open_templates, parse_error, pop_until_current, remove_body, remove_if, second_of}
+use Rattle.html_rules.specs.Stack.{body_elem, if_body, left_from, open_templates, parse_error, pop_until_current, remove_body}
+use Rattle.html_rules.specs.Stack.{remove_if, second_of}
 use Rattle.html_rules.specs.State.{Open, State, current_is, current_number, is_in}
-use Rattle.html_rules.specs.Table.{Row, Condition, Both, CurrentIs, FramesetOk, SecondIsBody, Action, Then, ParseError, RemoveBody, InsertElement, SwitchTo, Nothing as NoAction, EnableFosterParenting, SaveMode, Conclusion, Done, Acknowledged, Reprocess, ReprocessInOriginal, ReprocessInMode, Using, UsingThen, UsingCurrentMode, RawText, PlainText, RunScript, ReportEncoding}
+use Rattle.html_rules.specs.Table.{Row, Condition, Both, CurrentIs, FramesetOk, SecondIsBody, Action, Then, ParseError}
+use Rattle.html_rules.specs.Table.{RemoveBody, InsertElement, SwitchTo, Nothing as NoAction, EnableFosterParenting, SaveMode}
+use Rattle.html_rules.specs.Table.{Conclusion, Done, Acknowledged, Reprocess, ReprocessInOriginal, ReprocessInMode, Using}
+use Rattle.html_rules.specs.Table.{UsingThen, UsingCurrentMode, RawText, PlainText, RunScript, ReportEncoding}
 use Rattle.html_rules.specs.declared.insertion_mode.InsertionMode.{InsertionMode}
 use Rattle.html_rules.specs.declared.insertion_mode.InsertionMode.TheVariants as mode
 use Rattle.html_rules.specs.declared.tag_set.TagSet.TheVariants as set
-use Rattle.html_rules_laws.specs.Nesting.{Document, InFrames, Flow, Part, Root, HeadPart, BodyPart, Frames, Contents, TablePart, Section, RowPart, Cell, CaptionPart, Columns, Loose, Nothing, Ground, IsNested, base, fits_nested, fits_parts, fits_root, ground_of, has_base, is_document, is_flow, is_foster, is_in_template, may_stand, nested, part_of, takes, top}
+use Rattle.html_rules_laws.specs.Nesting.{Document, InFrames, Flow, Part, Root, HeadPart, BodyPart, Frames, Contents, TablePart}
+use Rattle.html_rules_laws.specs.Nesting.{Section, RowPart, Cell, CaptionPart, Columns, Loose, Nothing, Ground, IsNested, base}
+use Rattle.html_rules_laws.specs.Nesting.{fits_nested, fits_parts, fits_root, ground_of, has_base, is_document, is_flow}
+use Rattle.html_rules_laws.specs.Nesting.{is_foster, is_in_template, may_stand, nested, part_of, takes, top}
 use Rattle.html_rules_laws.specs.Settled.{are_template_modes}
 use Rattle.html_rules_laws.specs.Sound.{is_table_mode}
 use Rattle.html_rules_laws.specs.Upright.{MayCome, is_first}
@@ -38,7 +47,9 @@ use Rattle.html_rules_laws.proofs.TreePreserved.Poised.{Poised}
 use Rattle.html_rules_laws.proofs.TreePreserved.Turns.{poised-of}
 use Rattle.html_rules_laws.proofs.Frames.Framed as framed
 use Rattle.html_rules_laws.proofs.Frames.Framed.{IsFramed}
-use Rattle.html_rules_laws.proofs.ModesPreserved.Bodies.{contents-stands, flow-direct, fluid-nested, is_bodily, moved-nested, raw, raw-nested, stays, stays-fluid, unfostered-nested, unfosters, vacuous, vacuous-none}
+use Rattle.html_rules_laws.proofs.ModesPreserved.Bodies.{contents-stands, flow-direct, fluid-nested, is_bodily, moved-nested}
+use Rattle.html_rules_laws.proofs.ModesPreserved.Bodies.{raw, raw-nested, stays, stays-fluid, unfostered-nested, unfosters}
+use Rattle.html_rules_laws.proofs.ModesPreserved.Bodies.{vacuous, vacuous-none}
 use Rattle.html_rules_laws.proofs.ModesPreserved.Fits.{base-nonempty, based-some, not-nothing, only-nothing, root-html, some-part}
 use Rattle.html_rules_laws.proofs.ModesPreserved.Fluid.{At, Fluid, form-kept, is_nothing, parts-out}
 use Rattle.html_rules_laws.proofs.ModesPreserved.Parts.{part-apart, set-part}
@@ -79,12 +90,16 @@ frames_kind kind = false
 
 -- a frameset takes the place of the body
 abbrev frames : Kind → Condition → Action → Bool
-frames kind (Both FramesetOk SecondIsBody) (Then ParseError (Then RemoveBody (Then InsertElement (SwitchTo mode.InFrameset)))) = frames_kind kind
+frames kind (Both FramesetOk SecondIsBody)
+    (Then ParseError (Then RemoveBody (Then InsertElement (SwitchTo mode.InFrameset)))) = frames_kind kind
 frames kind c a = false
 
 abbrev ends_nested : (Kind → InsertionMode → Bool) → Kind → InsertionMode → Part → Condition → Action → Conclusion → Bool
-ends_nested uses kind m b c a Done = runs kind (guard_of kind b c) a (loose_at m b) fits_at || (closes c a || ((opens a && starts_template kind) || (resets_table c a || frames kind c a)))
-ends_nested uses kind m b c a (Reprocess to) = ((is_bodily to && (not (is_in_template to) && not (is_first to))) && runs kind (guard_of kind b c) a (loose_at m b) (fits_to to)) || (is_keep a && (is_over_table c && (is_table_mode m && is_table_text to)))
+ends_nested uses kind m b c a Done = runs kind (guard_of kind b c) a (loose_at m b) fits_at
+    || (closes c a || ((opens a && starts_template kind) || (resets_table c a || frames kind c a)))
+ends_nested uses kind m b c a (Reprocess to) =
+    ((is_bodily to && (not (is_in_template to) && not (is_first to))) && runs kind (guard_of kind b c) a
+    (loose_at m b) (fits_to to)) || (is_keep a && (is_over_table c && (is_table_mode m && is_table_text to)))
 ends_nested uses kind m b c a ReprocessInOriginal = false
 ends_nested uses kind m b c a ReprocessInMode = closes c a || resets_table c a
 ends_nested uses kind m b c a (Using to) = stays a && uses kind to
@@ -101,14 +116,24 @@ uses_nested zero m b kind to = true
 uses_nested (suc n) m b kind to = scan (row_nested (uses_nested n m b) m b) kind (rows to)
 
 abbrev part_names : List (List ℕ)
-part_names = codes "html" ∷ codes "head" ∷ codes "body" ∷ codes "frameset" ∷ codes "template" ∷ codes "table" ∷ codes "tbody" ∷ codes "tfoot" ∷ codes "thead" ∷ codes "tr" ∷ codes "td" ∷ codes "th" ∷ codes "caption" ∷ codes "colgroup" ∷ codes "col" ∷ []
+part_names = codes "html" ∷ codes "head" ∷ codes "body" ∷ codes "frameset" ∷ codes "template" ∷ codes "table" ∷
+    codes "tbody" ∷ codes "tfoot" ∷ codes "thead" ∷ codes "tr" ∷ codes "td" ∷ codes "th" ∷ codes "caption" ∷
+    codes "colgroup" ∷ codes "col" ∷ []
 
 abbrev pub each_kind : (Kind → Bool) → Bool
-each_kind p = p (Starts part_names) && (p (StartsBut part_names) && (p (Ends part_names) && (p (EndsBut part_names) && (p Texts && (p Nulls && (p TheEnd && p Others))))))
+each_kind p = p (Starts part_names)
+    && (p (StartsBut part_names) && (p (Ends part_names) && (p (EndsBut part_names) && (p Texts && (p Nulls && (p TheEnd && p Others))))))
 
 -- all parts that may have been opened last
 abbrev pub each_part : InsertionMode → (Part → Bool) → Bool
-each_part m p = (not (has_base m Root) || p Root) && ((not (has_base m BodyPart) || p BodyPart) && ((not (has_base m Contents) || p Contents) && ((not (has_base m TablePart) || p TablePart) && ((not (has_base m Section) || p Section) && ((not (has_base m RowPart) || p RowPart) && ((not (has_base m Cell) || p Cell) && ((not (has_base m CaptionPart) || p CaptionPart) && (not (has_base m Columns) || p Columns))))))))
+each_part m p = (not (has_base m Root) || p Root)
+    && ((not (has_base m BodyPart) || p BodyPart)
+    && ((not (has_base m Contents) || p Contents)
+    && ((not (has_base m TablePart) || p TablePart)
+    && ((not (has_base m Section) || p Section)
+    && ((not (has_base m RowPart) || p RowPart)
+    && ((not (has_base m Cell) || p Cell)
+    && ((not (has_base m CaptionPart) || p CaptionPart) && (not (has_base m Columns) || p Columns))))))))
 
 mode_nested : InsertionMode → Part → Kind → Bool
 mode_nested m b kind = uses_nested 4 m b kind m
@@ -132,11 +157,19 @@ pub record Extra (s : State) : Type 0 where
   pub modes : are_template_modes s.template_modes ≡ true
 
 ready-of : (g : Ground) (template : Bool) (v : At) (s : State) → Fluid g template v s → Extra s → Ready s
-ready-of g template v s h e = record { standing = h.poised.upright.standing; nested = rw h.ground h.nested; modes = e.modes; count = h.count; framed = h.framed; form = h.form }
+ready-of g template v s h e = record {
+  standing = h.poised.upright.standing;
+  nested = rw h.ground h.nested;
+  modes = e.modes;
+  count = h.count;
+  framed = h.framed;
+  form = h.form;
+}
 
 stays-extra : (a : Action) → stays a ≡ true → (t : Token) (s : State) → Extra s → Extra (act a t s)
 unfolding parse_error set_foster_parenting
-stays-extra (Then a b) h t s e = let tests = and_parts (stays a) (stays b) h in stays-extra b tests.1 t (act a t s) (stays-extra a tests.0 t s e)
+stays-extra (Then a b) h t s e = let tests = and_parts (stays a) (stays b) h in stays-extra b tests.1 t (act a t s)
+    (stays-extra a tests.0 t s e)
 stays-extra NoAction h t s e = e
 stays-extra ParseError h t s e = record { modes = e.modes }
 stays-extra EnableFosterParenting h t s e = record { modes = e.modes }
@@ -169,14 +202,24 @@ over-table (CurrentIs set.FosterTarget) h t s o = by s.open_elems o where
   by (x ∷ xs) o = foster-part x o
 over-table c h t s o = no h
 
-kept-nested : (a : Action) (to : InsertionMode) → is_keep a ≡ true → is_table_text to ≡ true → (t : Token) (s : State) → is_foster (top s.open_elems) ≡ true → is_table_mode s.mode ≡ true → IsNested s → IsNested (set_mode to (act a t s))
+kept-nested : (a : Action) (to : InsertionMode) → is_keep a ≡ true → is_table_text to ≡ true
+    → (t : Token) (s : State) → is_foster (top s.open_elems) ≡ true → is_table_mode s.mode ≡ true → IsNested s
+    → IsNested (set_mode to (act a t s))
 unfolding set_mode save_mode
-kept-nested SaveMode mode.InTableText k l t s foster table n = record { fits = both _ _ foster (both _ _ table (table-direct s.mode table n.fits)); count = n.count; framed = n.framed; form = n.form } where
-  table-direct : (m : InsertionMode) → is_table_mode m ≡ true → fits_parts (ground_of s.context_elem) (context_is set.Template s.context_elem) m s.orig_mode s.open_elems ≡ true → fits_nested (ground_of s.context_elem) (context_is set.Template s.context_elem) m s.open_elems ≡ true
-  table-direct mode.InTable h f = f
-  table-direct mode.InTableBody h f = f
-  table-direct mode.InRow h f = f
-  table-direct m h f = no h
+kept-nested SaveMode mode.InTableText k l t s foster table n =
+    record {
+      fits = both _ _ foster (both _ _ table (table-direct s.mode table n.fits));
+      count = n.count;
+      framed = n.framed;
+      form = n.form;
+    } where
+      table-direct : (m : InsertionMode) → is_table_mode m ≡ true → fits_parts (ground_of s.context_elem)
+          (context_is set.Template s.context_elem) m s.orig_mode s.open_elems ≡ true
+          → fits_nested (ground_of s.context_elem) (context_is set.Template s.context_elem) m s.open_elems ≡ true
+      table-direct mode.InTable h f = f
+      table-direct mode.InTableBody h f = f
+      table-direct mode.InRow h f = f
+      table-direct m h f = no h
 kept-nested SaveMode to k l t s foster table n = no l
 kept-nested a to k l t s foster table n = no k
 
@@ -195,17 +238,25 @@ alone : (g : Ground) (x : Open) (xs : List Open) → is_in set.Html x ≡ true �
 alone g x [] h m = rw (root-template x h) refl
 alone g x (y ∷ ys) h m = absurd (true≢false (sym (only-nothing g (part_of y) m) ∙ some-part y))
 
-over-some : (g : Ground) (x : Open) (xs : List Open) → is_in set.Html x ≡ false → may_stand g (part_of x) (top xs) ≡ true → is_nonempty xs ≡ true
+over-some : (g : Ground) (x : Open) (xs : List Open) → is_in set.Html x ≡ false → may_stand g (part_of x)
+    (top xs) ≡ true → is_nonempty xs ≡ true
 over-some g x [] h m = absurd (true≢false (not-nothing g (part_of x) Nothing (sym (root-html x) ∙ h) m))
 over-some g x (y ∷ ys) h m = refl
 
-html-left : (g : Ground) (xs : List Open) → nested g xs ≡ true → is_nonempty xs ≡ true → (top (left_from (is_in set.Html) xs) ≡ Root) × ((nested g (left_from (is_in set.Html) xs) ≡ true) × (open_templates (left_from (is_in set.Html) xs) ≡ 0))
+html-left : (g : Ground) (xs : List Open) → nested g xs ≡ true → is_nonempty xs ≡ true
+    → (top (left_from (is_in set.Html) xs) ≡ Root)
+    × ((nested g (left_from (is_in set.Html) xs) ≡ true) × (open_templates (left_from (is_in set.Html) xs) ≡ 0))
 html-left g [] n s = no s
-html-left g (x ∷ xs) n s = by (is_in set.Html x) refl (and_parts (may_stand g (part_of x) (top xs)) _ n).0 (html-left g xs (and_parts (may_stand g (part_of x) (top xs)) _ n).1) where
-  by : (b : Bool) → is_in set.Html x ≡ b → may_stand g (part_of x) (top xs) ≡ true → (is_nonempty xs ≡ true → (top (left_from (is_in set.Html) xs) ≡ Root) × ((nested g (left_from (is_in set.Html) xs) ≡ true) × (open_templates (left_from (is_in set.Html) xs) ≡ 0)))
-      → (top (choose b (λ _. x ∷ xs) (λ _. left_from (is_in set.Html) xs)) ≡ Root) × ((nested g (choose b (λ _. x ∷ xs) (λ _. left_from (is_in set.Html) xs)) ≡ true) × (open_templates (choose b (λ _. x ∷ xs) (λ _. left_from (is_in set.Html) xs)) ≡ 0))
-  by true e m rest = (html-root-part x e, (n, alone g x xs e (rw (html-root-part x e) at m)))
-  by false e m rest = rest (over-some g x xs e m)
+html-left g (x ∷ xs) n s = by (is_in set.Html x) refl (and_parts (may_stand g (part_of x) (top xs)) _ n).0
+    (html-left g xs (and_parts (may_stand g (part_of x) (top xs)) _ n).1) where
+      by : (b : Bool) → is_in set.Html x ≡ b → may_stand g (part_of x) (top xs) ≡ true
+          → (is_nonempty xs ≡ true → (top (left_from (is_in set.Html) xs) ≡ Root)
+          × ((nested g (left_from (is_in set.Html) xs) ≡ true) × (open_templates (left_from (is_in set.Html) xs) ≡ 0)))
+          → (top (choose b (λ _. x ∷ xs) (λ _. left_from (is_in set.Html) xs)) ≡ Root)
+          × ((nested g (choose b (λ _. x ∷ xs) (λ _. left_from (is_in set.Html) xs)) ≡ true)
+          × (open_templates (choose b (λ _. x ∷ xs) (λ _. left_from (is_in set.Html) xs)) ≡ 0))
+      by true e m rest = (html-root-part x e, (n, alone g x xs e (rw (html-root-part x e) at m)))
+      by false e m rest = rest (over-some g x xs e m)
 
 -- a body is open in documents alone
 
@@ -224,10 +275,11 @@ body-stands g q d = refl
 no-body : (g : Ground) (xs : List Open) → is_document g ≡ false → nested g xs ≡ true → AreBare xs
 unfolding AreBare
 no-body g [] d n = tt
-no-body g (x ∷ xs) d n = let tests = and_parts (may_stand g (part_of x) (top xs)) _ n in (by (is_in set.Body x) refl tests.0, no-body g xs d tests.1) where
-  by : (b : Bool) → is_in set.Body x ≡ b → may_stand g (part_of x) (top xs) ≡ true → is_in set.Body x ≡ false
-  by true e m = absurd (true≢false (sym (rw (body-part x e) at m) ∙ body-stands g (top xs) d))
-  by false e m = e
+no-body g (x ∷ xs) d n = let tests = and_parts (may_stand g (part_of x) (top xs)) _ n in
+    (by (is_in set.Body x) refl tests.0, no-body g xs d tests.1) where
+      by : (b : Bool) → is_in set.Body x ≡ b → may_stand g (part_of x) (top xs) ≡ true → is_in set.Body x ≡ false
+      by true e m = absurd (true≢false (sym (rw (body-part x e) at m) ∙ body-stands g (top xs) d))
+      by false e m = e
 
 bare-append : (xs ys : List Open) → AreBare xs → AreBare ys → AreBare (xs ++ ys)
 unfolding AreBare
@@ -259,11 +311,13 @@ document-frames Flow d = no d
 abbrev framed_action : Action
 framed_action = Then ParseError (Then RemoveBody InsertElement)
 
-pub frames-part : (name : List ℕ) → is_among name (names_of set.Frameset) ≡ true → (n : ℕ) → part_of (record { number = n; namespace = Html; name = name }) ≡ Frames
+pub frames-part : (name : List ℕ) → is_among name (names_of set.Frameset) ≡ true → (n : ℕ)
+    → part_of (record { number = n; namespace = Html; name = name }) ≡ Frames
 unfolding names_of mathml_names_of svg_names_of
 frames-part name h n = set-part set.Frameset Frames refl (record { number = n; namespace = Html; name = name }) h
 
-pub frames-template : (name : List ℕ) → is_among name (names_of set.Frameset) ≡ true → (n : ℕ) → is_in set.Template (record { number = n; namespace = Html; name = name }) ≡ false
+pub frames-template : (name : List ℕ) → is_among name (names_of set.Frameset) ≡ true → (n : ℕ) → is_in set.Template
+    (record { number = n; namespace = Html; name = name }) ≡ false
 unfolding names_of mathml_names_of svg_names_of
 frames-template name h n = in-apart set.Frameset set.Template refl (record { number = n; namespace = Html; name = name }) h
 
@@ -271,7 +325,8 @@ frames-tame : tame_in (Starts (codes "frameset" ∷ [])) framed_action ≡ true
 unfolding names_of
 frames-tame = refl
 
-frames-of : (tag : Tag) → is_start_tag tag.kind ≡ true → is_among tag.name (names_of set.Frameset) ≡ true → is_of (Starts (codes "frameset" ∷ [])) (TagToken tag) ≡ true
+frames-of : (tag : Tag) → is_start_tag tag.kind ≡ true → is_among tag.name (names_of set.Frameset) ≡ true
+    → is_of (Starts (codes "frameset" ∷ [])) (TagToken tag) ≡ true
 unfolding names_of
 frames-of tag s h = both _ _ s h
 
@@ -279,18 +334,32 @@ removed-same : (o : Option ℕ) (s : State) → (remove_if o s).open_elems ≡ s
 removed-same None s = refl
 removed-same (Some n) s = refl
 
-framed-elements : (tag : Tag) (s : State) → (n : ℕ) × ((act framed_action (TagToken tag) s).open_elems ≡ record { number = n; namespace = Html; name = tag.name } ∷ left_from (is_in set.Html) s.open_elems)
+framed-elements : (tag : Tag) (s : State) → (n : ℕ)
+    × ((act framed_action (TagToken tag) s).open_elems ≡ record { number = n; namespace = Html; name = tag.name } ∷
+    left_from (is_in set.Html) s.open_elems)
 unfolding parse_error remove_body pop_until_current insert_element
-framed-elements tag s =
-    (node_count (remove_if (body_elem s.open_elems) (parse_error s)).forest, ap (λ xs. record { number = node_count (remove_if (body_elem s.open_elems) (parse_error s)).forest; namespace = Html; name = tag.name } ∷ left_from (is_in set.Html) xs) (removed-same (body_elem s.open_elems) (parse_error s)))
+framed-elements tag s = (
+  node_count (remove_if (body_elem s.open_elems) (parse_error s)).forest,
+  ap (λ xs. record {
+    number = node_count (remove_if (body_elem s.open_elems) (parse_error s)).forest;
+    namespace = Html;
+    name = tag.name;
+  } ∷ left_from (is_in set.Html) xs) (removed-same (body_elem s.open_elems) (parse_error s)),
+)
 
 framed-framed : (tag : Tag) (s : State) → IsFramed s (act framed_action (TagToken tag) s)
 unfolding remove_body
 framed-framed tag s =
     framed.after s (parse_error s) _ (framed.framed_kept.errs s)
-    (framed.after (parse_error s) _ _ (framed.after (parse_error s) (remove_if (body_elem (parse_error s).open_elems) (parse_error s)) _ (framed.framed_kept.removes (body_elem (parse_error s).open_elems) (parse_error s)) ((pop_until_current-keeps framed.framed_kept) (is_in set.Html) _)) ((insert-keeps framed.framed_kept) tag _))
+    (framed.after (parse_error s) _ _
+    (framed.after (parse_error s) (remove_if (body_elem (parse_error s).open_elems) (parse_error s)) _
+    (framed.framed_kept.removes (body_elem (parse_error s).open_elems) (parse_error s))
+    ((pop_until_current-keeps framed.framed_kept) (is_in set.Html) _)) ((insert-keeps framed.framed_kept) tag _))
 
-frameset-nested : (tag : Tag) (s : State) → is_start_tag tag.kind ≡ true → is_among tag.name (names_of set.Frameset) ≡ true → Poised s → Ready s → is_nonempty s.open_elems ≡ true → s.frameset_ok ≡ true → is_some (body_elem s.open_elems) ≡ true → IsNested (set_mode mode.InFrameset (act framed_action (TagToken tag) s))
+frameset-nested : (tag : Tag) (s : State) → is_start_tag tag.kind ≡ true
+    → is_among tag.name (names_of set.Frameset) ≡ true → Poised s → Ready s → is_nonempty s.open_elems ≡ true
+    → s.frameset_ok ≡ true → is_some (body_elem s.open_elems) ≡ true
+    → IsNested (set_mode mode.InFrameset (act framed_action (TagToken tag) s))
 unfolding set_mode
 frameset-nested tag s start name poised h some ok body =
     let kind : Kind = Starts (codes "frameset" ∷ []) in
@@ -307,30 +376,39 @@ frameset-nested tag s start name poised h some ok body =
     let kept = framed-framed tag s in
     record {
       fits = rw (aside.context, elements.1) (rw (part, left.0, stands, left.1.0) refl);
-      count = ap (λ n. n + one_if (context_is set.Template r.context_elem)) (none ∙ sym (h.framed ok)) ∙ ap (λ c. open_templates s.open_elems + one_if (context_is set.Template c)) aside.context ∙ h.count ∙ ap length (sym aside.modes);
+      count = ap (λ n. n + one_if (context_is set.Template r.context_elem)) (none ∙ sym (h.framed ok))
+          ∙ ap (λ c. open_templates s.open_elems + one_if (context_is set.Template c)) aside.context ∙ h.count
+          ∙ ap length (sym aside.modes);
       framed = λ e. none;
       form = rw kept.form (form-kept s.form_elem s.forest r.forest eased.names h.form);
     }
 
-frames-nested : (kind : Kind) (c : Condition) (a : Action) → frames kind c a ≡ true → (t : Token) → is_of kind t ≡ true → (s : State) → holds c t s ≡ true → Poised s → Ready s → is_nonempty s.open_elems ≡ true → IsNested (act a t s)
-frames-nested (Starts names) (Both FramesetOk SecondIsBody) (Then ParseError (Then RemoveBody (Then InsertElement (SwitchTo mode.InFrameset)))) h (TagToken tag) k s o poised ready some =
+frames-nested : (kind : Kind) (c : Condition) (a : Action) → frames kind c a ≡ true → (t : Token)
+    → is_of kind t ≡ true → (s : State) → holds c t s ≡ true → Poised s → Ready s → is_nonempty s.open_elems ≡ true → IsNested (act a t s)
+frames-nested (Starts names) (Both FramesetOk SecondIsBody)
+    (Then ParseError (Then RemoveBody (Then InsertElement (SwitchTo mode.InFrameset)))) h (TagToken tag) k s o poised ready some =
     let tests = and_parts s.frameset_ok (is_some (body_elem s.open_elems)) o in
     let own = and_parts (is_start_tag tag.kind) _ k in
     frameset-nested tag s own.0 (among-all tag.name names (names_of set.Frameset) h own.1) poised ready some tests.0 tests.1
-frames-nested (Starts names) (Both FramesetOk SecondIsBody) (Then ParseError (Then RemoveBody (Then InsertElement (SwitchTo mode.InFrameset)))) h t k s o poised ready some = no k
-frames-nested kind (Both FramesetOk SecondIsBody) (Then ParseError (Then RemoveBody (Then InsertElement (SwitchTo mode.InFrameset)))) h t k s o poised ready some = no h
+frames-nested (Starts names) (Both FramesetOk SecondIsBody)
+    (Then ParseError (Then RemoveBody (Then InsertElement (SwitchTo mode.InFrameset)))) h t k s o poised ready some = no k
+frames-nested kind (Both FramesetOk SecondIsBody)
+    (Then ParseError (Then RemoveBody (Then InsertElement (SwitchTo mode.InFrameset)))) h t k s o poised ready some = no h
 frames-nested kind c a h t k s o poised ready some = no h
 
 -- what a row leaves
 
-module _ (g : Ground) (template : Bool) (t : Token) (m : InsertionMode) (b : Part) (bodily : is_bodily m ≡ true) (base-is : has_base m b ≡ true) where
+module _ (g : Ground) (template : Bool) (t : Token) (m : InsertionMode) (b : Part) (bodily : is_bodily m ≡ true)
+    (base-is : has_base m b ≡ true) where
   Nester : (Kind → InsertionMode → Bool) → (InsertionMode → Token → State → Turn) → Type 0
-  Nester uses using = (kind : Kind) (to : InsertionMode) → uses kind to ≡ true → is_of kind t ≡ true → (s : State) → Fluid g template (loose_at m b) s → Extra s → IsNested (using to t s).state
+  Nester uses using = (kind : Kind) (to : InsertionMode) → uses kind to ≡ true → is_of kind t ≡ true → (s : State)
+      → Fluid g template (loose_at m b) s → Extra s → IsNested (using to t s).state
 
   pub own-nested : (s : State) → Fluid g template (loose_at m b) s → IsNested s
   own-nested s fluid = fluid-nested g template (loose_at m b) s fluid bodily base-is
 
-  pub run-nested : (kind : Kind) (gd : Guard) (a : Action) → runs kind gd a (loose_at m b) fits_at ≡ true → is_of kind t ≡ true → (s : State) → Holds gd t s → Fluid g template (loose_at m b) s → IsNested (act a t s)
+  pub run-nested : (kind : Kind) (gd : Guard) (a : Action) → runs kind gd a (loose_at m b) fits_at ≡ true
+      → is_of kind t ≡ true → (s : State) → Holds gd t s → Fluid g template (loose_at m b) s → IsNested (act a t s)
   run-nested kind gd a h k s known fluid =
       let one = runs-sound g template t kind gd a (loose_at m b) fits_at h k s known fluid in
       let tests = and_parts (is_bodily one.0.mode) _ one.1.0 in
@@ -345,43 +423,65 @@ module _ (g : Ground) (template : Bool) (t : Token) (m : InsertionMode) (b : Par
   stands : (s : State) → Fluid g template (loose_at m b) s → may_stand (ground_of s.context_elem) Contents (top s.open_elems) ≡ true
   stands s fluid = rw fluid.ground (contents-stands g (top s.open_elems) (takes-top g s.open_elems (rw fluid.base fluid.takes)))
 
-  ends-sound : (uses : Kind → InsertionMode → Bool) (using : InsertionMode → Token → State → Turn) → Nester uses using → (kind : Kind) (c : Condition) (a : Action) (e : Conclusion) → ends_nested uses kind m b c a e ≡ true → is_of kind t ≡ true → (s : State) → holds c t s ≡ true → Fluid g template (loose_at m b) s → Extra s → (script : ℕ)
+  ends-sound : (uses : Kind → InsertionMode → Bool) (using : InsertionMode → Token → State → Turn)
+      → Nester uses using → (kind : Kind) (c : Condition) (a : Action) (e : Conclusion)
+      → ends_nested uses kind m b c a e ≡ true → is_of kind t ≡ true → (s : State) → holds c t s ≡ true
+      → Fluid g template (loose_at m b) s → Extra s → (script : ℕ)
       → IsNested (concluded using e t script (act a t s)).state
   unfolding Nester
   ends-sound uses using go kind c a Done h k s o fluid extra script =
-      or_by (runs kind (guard_of kind b c) a (loose_at m b) fits_at) _ h (λ h. run-nested kind (guard_of kind b c) a h k s (guard-holds g kind b c t s fluid.nested fluid.base k o) fluid)
+      or_by (runs kind (guard_of kind b c) a (loose_at m b) fits_at) _ h
+      (λ h. run-nested kind (guard_of kind b c) a h k s (guard-holds g kind b c t s fluid.nested fluid.base k o) fluid)
       (λ h. or_by (closes c a) _ h (λ h. closes-nested c a h t s o (ready-of g template (loose_at m b) s fluid extra))
-      (λ h. or_by (opens a && starts_template kind) _ h (λ h. let tests = and_parts (opens a) (starts_template kind) h in opens-nested kind a tests.0 tests.1 t k s (ready-of g template (loose_at m b) s fluid extra) (stands s fluid))
+      (λ h. or_by (opens a && starts_template kind) _ h
+      (λ h. let tests = and_parts (opens a) (starts_template kind) h in opens-nested kind a tests.0 tests.1 t
+      k s (ready-of g template (loose_at m b) s fluid extra) (stands s fluid))
       (λ h. or_by (resets_table c a) _ h (λ h. table-nested c a h t s o (ready-of g template (loose_at m b) s fluid extra))
       (λ h. frames-nested kind c a h t k s o fluid.poised (ready-of g template (loose_at m b) s fluid extra) (nonempty s fluid)))))
   ends-sound uses using go kind c a (Reprocess to) h k s o fluid extra script =
-      or_by ((is_bodily to && (not (is_in_template to) && not (is_first to))) && runs kind (guard_of kind b c) a (loose_at m b) (fits_to to)) _ h
-      (λ h. let one = and_parts (is_bodily to && (not (is_in_template to) && not (is_first to))) _ h in let two = and_parts (is_bodily to) _ one.0 in let three = and_parts (not (is_in_template to)) _ two.1 in
-      let made = runs-sound g template t kind (guard_of kind b c) a (loose_at m b) (fits_to to) one.1 k s (guard-holds g kind b c t s fluid.nested fluid.base k o) fluid in
+      or_by ((is_bodily to && (not (is_in_template to) && not (is_first to))) && runs kind (guard_of kind b c) a
+      (loose_at m b) (fits_to to)) _ h
+      (λ h. let one = and_parts (is_bodily to && (not (is_in_template to) && not (is_first to))) _ h in let two =
+      and_parts (is_bodily to) _ one.0 in let three = and_parts (not (is_in_template to)) _ two.1 in
+      let made = runs-sound g template t kind (guard_of kind b c) a (loose_at m b) (fits_to to) one.1 k s
+      (guard-holds g kind b c t s fluid.nested fluid.base k o) fluid in
       moved-nested g template made.0 to (act a t s) made.1.1 two.0 (not_true _ three.0) (not_true _ three.1) made.1.0)
-      (λ h. let one = and_parts (is_keep a) _ h in let two = and_parts (is_over_table c) _ one.1 in let three = and_parts (is_table_mode m) (is_table_text to) two.1 in kept-nested a to one.0 three.1 t s (over-table c two.0 t s o) (table-mode s fluid three.0) (own-nested s fluid))
+      (λ h. let one = and_parts (is_keep a) _ h in let two = and_parts (is_over_table c) _ one.1 in let three =
+      and_parts (is_table_mode m) (is_table_text to) two.1 in kept-nested a to one.0 three.1 t s
+      (over-table c two.0 t s o) (table-mode s fluid three.0) (own-nested s fluid))
   ends-sound uses using go kind c a ReprocessInOriginal h k s o fluid extra script = no h
   ends-sound uses using go kind c a ReprocessInMode h k s o fluid extra script =
-      or_by (closes c a) _ h (λ h. closes-nested c a h t s o (ready-of g template (loose_at m b) s fluid extra)) (λ h. table-nested c a h t s o (ready-of g template (loose_at m b) s fluid extra))
+      or_by (closes c a) _ h (λ h. closes-nested c a h t s o (ready-of g template (loose_at m b) s fluid extra))
+      (λ h. table-nested c a h t s o (ready-of g template (loose_at m b) s fluid extra))
   ends-sound uses using go kind c a (Using to) h k s o fluid extra script =
       let tests = and_parts (stays a) _ h in
       go kind to tests.1 k (act a t s) (stays-fluid g template b m kind a tests.0 t k s fluid) (stays-extra a tests.0 t s extra)
   ends-sound uses using go kind c a (UsingThen to after) h k s o fluid extra script =
       let tests = and_parts (stays a) _ h in
       let more = and_parts (unfosters after) _ tests.1 in
-      unfostered-nested after more.0 t _ (go kind to more.1 k (act a t s) (stays-fluid g template b m kind a tests.0 t k s fluid) (stays-extra a tests.0 t s extra))
+      unfostered-nested after more.0 t _
+      (go kind to more.1 k (act a t s) (stays-fluid g template b m kind a tests.0 t k s fluid) (stays-extra a tests.0 t s extra))
   ends-sound uses using go kind c a UsingCurrentMode h k s o fluid extra script = no h
-  ends-sound uses using go kind c a (RawText kind') h k s o fluid extra script = raw-nested g template t kind (guard_of kind b c) a (loose_at m b) h k s (guard-holds g kind b c t s fluid.nested fluid.base k o) fluid
-  ends-sound uses using go kind c a Acknowledged h k s o fluid extra script = run-nested kind (guard_of kind b c) a h k s (guard-holds g kind b c t s fluid.nested fluid.base k o) fluid
-  ends-sound uses using go kind c a PlainText h k s o fluid extra script = run-nested kind (guard_of kind b c) a h k s (guard-holds g kind b c t s fluid.nested fluid.base k o) fluid
-  ends-sound uses using go kind c a RunScript h k s o fluid extra script = run-nested kind (guard_of kind b c) a h k s (guard-holds g kind b c t s fluid.nested fluid.base k o) fluid
-  ends-sound uses using go kind c a ReportEncoding h k s o fluid extra script = run-nested kind (guard_of kind b c) a h k s (guard-holds g kind b c t s fluid.nested fluid.base k o) fluid
+  ends-sound uses using go kind c a (RawText kind') h k s o fluid extra script = raw-nested g template t kind
+      (guard_of kind b c) a (loose_at m b) h k s (guard-holds g kind b c t s fluid.nested fluid.base k o) fluid
+  ends-sound uses using go kind c a Acknowledged h k s o fluid extra script = run-nested kind (guard_of kind b c) a
+      h k s (guard-holds g kind b c t s fluid.nested fluid.base k o) fluid
+  ends-sound uses using go kind c a PlainText h k s o fluid extra script = run-nested kind (guard_of kind b c) a h k
+      s (guard-holds g kind b c t s fluid.nested fluid.base k o) fluid
+  ends-sound uses using go kind c a RunScript h k s o fluid extra script = run-nested kind (guard_of kind b c) a h k
+      s (guard-holds g kind b c t s fluid.nested fluid.base k o) fluid
+  ends-sound uses using go kind c a ReportEncoding h k s o fluid extra script = run-nested kind (guard_of kind b c)
+      a h k s (guard-holds g kind b c t s fluid.nested fluid.base k o) fluid
 
-  row-sound : (uses : Kind → InsertionMode → Bool) (using : InsertionMode → Token → State → Turn) → Nester uses using → (kind : Kind) (r : Row) → row_nested uses m b kind r ≡ true → is_of kind t ≡ true → (s : State) → holds r.when t s ≡ true → Fluid g template (loose_at m b) s → Extra s → IsNested (turn_by_row using r t s).state
+  row-sound : (uses : Kind → InsertionMode → Bool) (using : InsertionMode → Token → State → Turn)
+      → Nester uses using → (kind : Kind) (r : Row) → row_nested uses m b kind r ≡ true → is_of kind t ≡ true
+      → (s : State) → holds r.when t s ≡ true → Fluid g template (loose_at m b) s → Extra s → IsNested (turn_by_row using r t s).state
   row-sound uses using go kind r h k s o fluid extra =
-      or_by (vacuous kind b r.when) _ h (λ h. absurd (vacuous-none kind b r.when h t k s fluid.base o)) (λ h. ends-sound uses using go kind r.when r.does r.ends h k s o fluid extra (current_number s.open_elems))
+      or_by (vacuous kind b r.when) _ h (λ h. absurd (vacuous-none kind b r.when h t k s fluid.base o))
+      (λ h. ends-sound uses using go kind r.when r.does r.ends h k s o fluid extra (current_number s.open_elems))
 
-  pub uses-sound : (n : ℕ) (kind : Kind) (to : InsertionMode) → uses_nested n m b kind to ≡ true → is_of kind t ≡ true → (s : State) → Fluid g template (loose_at m b) s → Extra s → IsNested (using_rules_for n to t s).state
+  pub uses-sound : (n : ℕ) (kind : Kind) (to : InsertionMode) → uses_nested n m b kind to ≡ true
+      → is_of kind t ≡ true → (s : State) → Fluid g template (loose_at m b) s → Extra s → IsNested (using_rules_for n to t s).state
   unfolding uses_nested using_rules_for Nester
   uses-sound zero kind to h k s fluid extra = own-nested s fluid
   uses-sound (suc n) kind to h k s fluid extra =
@@ -487,25 +587,53 @@ others m p i h = no i
 
 pub each-part : (m : InsertionMode) (p : Part → Bool) → each_part m p ≡ true → (b : Part) → has_base m b ≡ true → p b ≡ true
 each-part m p h b base = by b base one.0 two.0 three.0 four.0 five.0 six.0 seven.0 eight.0 eight.1 where
-  one : ((not (has_base m Root) || p Root) ≡ true) × (((not (has_base m BodyPart) || p BodyPart) && ((not (has_base m Contents) || p Contents) && ((not (has_base m TablePart) || p TablePart) && ((not (has_base m Section) || p Section) && ((not (has_base m RowPart) || p RowPart) && ((not (has_base m Cell) || p Cell) && ((not (has_base m CaptionPart) || p CaptionPart) && (not (has_base m Columns) || p Columns)))))))) ≡ true)
+  one : ((not (has_base m Root) || p Root) ≡ true)
+      × (((not (has_base m BodyPart) || p BodyPart)
+      && ((not (has_base m Contents) || p Contents)
+      && ((not (has_base m TablePart) || p TablePart)
+      && ((not (has_base m Section) || p Section)
+      && ((not (has_base m RowPart) || p RowPart)
+      && ((not (has_base m Cell) || p Cell)
+      && ((not (has_base m CaptionPart) || p CaptionPart) && (not (has_base m Columns) || p Columns)))))))) ≡ true)
   one = and_parts (not (has_base m Root) || p Root) _ h
 
-  two : ((not (has_base m BodyPart) || p BodyPart) ≡ true) × (((not (has_base m Contents) || p Contents) && ((not (has_base m TablePart) || p TablePart) && ((not (has_base m Section) || p Section) && ((not (has_base m RowPart) || p RowPart) && ((not (has_base m Cell) || p Cell) && ((not (has_base m CaptionPart) || p CaptionPart) && (not (has_base m Columns) || p Columns))))))) ≡ true)
+  two : ((not (has_base m BodyPart) || p BodyPart) ≡ true)
+      × (((not (has_base m Contents) || p Contents)
+      && ((not (has_base m TablePart) || p TablePart)
+      && ((not (has_base m Section) || p Section)
+      && ((not (has_base m RowPart) || p RowPart)
+      && ((not (has_base m Cell) || p Cell)
+      && ((not (has_base m CaptionPart) || p CaptionPart) && (not (has_base m Columns) || p Columns))))))) ≡ true)
   two = and_parts (not (has_base m BodyPart) || p BodyPart) _ one.1
 
-  three : ((not (has_base m Contents) || p Contents) ≡ true) × (((not (has_base m TablePart) || p TablePart) && ((not (has_base m Section) || p Section) && ((not (has_base m RowPart) || p RowPart) && ((not (has_base m Cell) || p Cell) && ((not (has_base m CaptionPart) || p CaptionPart) && (not (has_base m Columns) || p Columns)))))) ≡ true)
+  three : ((not (has_base m Contents) || p Contents) ≡ true)
+      × (((not (has_base m TablePart) || p TablePart)
+      && ((not (has_base m Section) || p Section)
+      && ((not (has_base m RowPart) || p RowPart)
+      && ((not (has_base m Cell) || p Cell)
+      && ((not (has_base m CaptionPart) || p CaptionPart) && (not (has_base m Columns) || p Columns)))))) ≡ true)
   three = and_parts (not (has_base m Contents) || p Contents) _ two.1
 
-  four : ((not (has_base m TablePart) || p TablePart) ≡ true) × (((not (has_base m Section) || p Section) && ((not (has_base m RowPart) || p RowPart) && ((not (has_base m Cell) || p Cell) && ((not (has_base m CaptionPart) || p CaptionPart) && (not (has_base m Columns) || p Columns))))) ≡ true)
+  four : ((not (has_base m TablePart) || p TablePart) ≡ true)
+      × (((not (has_base m Section) || p Section)
+      && ((not (has_base m RowPart) || p RowPart)
+      && ((not (has_base m Cell) || p Cell)
+      && ((not (has_base m CaptionPart) || p CaptionPart) && (not (has_base m Columns) || p Columns))))) ≡ true)
   four = and_parts (not (has_base m TablePart) || p TablePart) _ three.1
 
-  five : ((not (has_base m Section) || p Section) ≡ true) × (((not (has_base m RowPart) || p RowPart) && ((not (has_base m Cell) || p Cell) && ((not (has_base m CaptionPart) || p CaptionPart) && (not (has_base m Columns) || p Columns)))) ≡ true)
+  five : ((not (has_base m Section) || p Section) ≡ true)
+      × (((not (has_base m RowPart) || p RowPart)
+      && ((not (has_base m Cell) || p Cell)
+      && ((not (has_base m CaptionPart) || p CaptionPart) && (not (has_base m Columns) || p Columns)))) ≡ true)
   five = and_parts (not (has_base m Section) || p Section) _ four.1
 
-  six : ((not (has_base m RowPart) || p RowPart) ≡ true) × (((not (has_base m Cell) || p Cell) && ((not (has_base m CaptionPart) || p CaptionPart) && (not (has_base m Columns) || p Columns))) ≡ true)
+  six : ((not (has_base m RowPart) || p RowPart) ≡ true)
+      × (((not (has_base m Cell) || p Cell)
+      && ((not (has_base m CaptionPart) || p CaptionPart) && (not (has_base m Columns) || p Columns))) ≡ true)
   six = and_parts (not (has_base m RowPart) || p RowPart) _ five.1
 
-  seven : ((not (has_base m Cell) || p Cell) ≡ true) × (((not (has_base m CaptionPart) || p CaptionPart) && (not (has_base m Columns) || p Columns)) ≡ true)
+  seven : ((not (has_base m Cell) || p Cell) ≡ true)
+      × (((not (has_base m CaptionPart) || p CaptionPart) && (not (has_base m Columns) || p Columns)) ≡ true)
   seven = and_parts (not (has_base m Cell) || p Cell) _ six.1
 
   eight : ((not (has_base m CaptionPart) || p CaptionPart) ≡ true) × ((not (has_base m Columns) || p Columns) ≡ true)
@@ -515,8 +643,11 @@ each-part m p h b base = by b base one.0 two.0 three.0 four.0 five.0 six.0 seven
   then true c h e = h
   then false c h e = no e
 
-  by : (b : Part) → has_base m b ≡ true → (not (has_base m Root) || p Root) ≡ true → (not (has_base m BodyPart) || p BodyPart) ≡ true → (not (has_base m Contents) || p Contents) ≡ true → (not (has_base m TablePart) || p TablePart) ≡ true → (not (has_base m Section) || p Section) ≡ true
-      → (not (has_base m RowPart) || p RowPart) ≡ true → (not (has_base m Cell) || p Cell) ≡ true → (not (has_base m CaptionPart) || p CaptionPart) ≡ true → (not (has_base m Columns) || p Columns) ≡ true → p b ≡ true
+  by : (b : Part) → has_base m b ≡ true → (not (has_base m Root) || p Root) ≡ true
+      → (not (has_base m BodyPart) || p BodyPart) ≡ true → (not (has_base m Contents) || p Contents) ≡ true
+      → (not (has_base m TablePart) || p TablePart) ≡ true → (not (has_base m Section) || p Section) ≡ true
+      → (not (has_base m RowPart) || p RowPart) ≡ true → (not (has_base m Cell) || p Cell) ≡ true
+      → (not (has_base m CaptionPart) || p CaptionPart) ≡ true → (not (has_base m Columns) || p Columns) ≡ true → p b ≡ true
   by Root e a b c d f g h i j = then _ _ a e
   by BodyPart e a b c d f g h i j = then _ _ b e
   by Contents e a b c d f g h i j = then _ _ c e
@@ -531,7 +662,8 @@ each-part m p h b base = by b base one.0 two.0 three.0 four.0 five.0 six.0 seven
   by Loose e a b c d f g h i j = absurd (others m Loose refl e)
   by Nothing e a b c d f g h i j = absurd (others m Nothing refl e)
 
-pub base-takes : (g : Ground) (template : Bool) (m : InsertionMode) (b : Part) → has_base m b ≡ true → fits_root g template m b ≡ true → takes g b ≡ true
+pub base-takes : (g : Ground) (template : Bool) (m : InsertionMode) (b : Part) → has_base m b ≡ true
+    → fits_root g template m b ≡ true → takes g b ≡ true
 base-takes g template m Root h r = (and_parts (is_flow g) _ r).0
 base-takes g template m HeadPart h r = absurd (others m HeadPart refl h)
 base-takes g template m Frames h r = absurd (others m Frames refl h)
@@ -543,14 +675,17 @@ bodily-first mode.Initial h = no h
 bodily-first mode.BeforeHtml h = no h
 bodily-first m h = refl
 
-in-template : (g : Ground) (template : Bool) (m : InsertionMode) (b : Part) → fits_root g template m b ≡ true → m ≡ mode.InTemplate → b ≡ Root → template ≡ true
+in-template : (g : Ground) (template : Bool) (m : InsertionMode) (b : Part) → fits_root g template m b ≡ true
+    → m ≡ mode.InTemplate → b ≡ Root → template ≡ true
 in-template g template m b r e root = or_false template (and_parts (is_flow g) _ (rw (e, root) at r)).1 where
   or_false : (a : Bool) → (a || false) ≡ true → a ≡ true
   or_false true h = refl
   or_false false h = h
 
 module _ (p : Kind → Bool) (all : each_kind p ≡ true) where
-  starts : (p (Starts part_names) ≡ true) × ((p (StartsBut part_names) ≡ true) × ((p (Ends part_names) ≡ true) × ((p (EndsBut part_names) ≡ true) × ((p Texts && (p Nulls && (p TheEnd && p Others))) ≡ true))))
+  starts : (p (Starts part_names) ≡ true)
+      × ((p (StartsBut part_names) ≡ true)
+      × ((p (Ends part_names) ≡ true) × ((p (EndsBut part_names) ≡ true) × ((p Texts && (p Nulls && (p TheEnd && p Others))) ≡ true))))
   starts =
       let one = and_parts (p (Starts part_names)) _ all in
       let two = and_parts (p (StartsBut part_names)) _ one.1 in
@@ -584,7 +719,9 @@ module _ (p : Kind → Bool) (all : each_kind p ≡ true) where
   kind-of (DoctypeToken d) = (Others, (rest.1.1.1, refl))
   kind-of (ErrorToken message) = (Others, (rest.1.1.1, refl))
 
-pub bodily-fluid : (t : Token) (s : State) → MayCome t s → IsNested s → is_bodily s.mode ≡ true → (has_base s.mode (base s.open_elems) ≡ true) × Fluid (ground_of s.context_elem) (context_is set.Template s.context_elem) (loose_at s.mode (base s.open_elems)) s
+pub bodily-fluid : (t : Token) (s : State) → MayCome t s → IsNested s → is_bodily s.mode ≡ true
+    → (has_base s.mode (base s.open_elems) ≡ true) × Fluid (ground_of s.context_elem)
+    (context_is set.Template s.context_elem) (loose_at s.mode (base s.open_elems)) s
 bodily-fluid t s may h bodily =
     let g : Ground = ground_of s.context_elem in
     let template : Bool = context_is set.Template s.context_elem in
@@ -607,11 +744,13 @@ bodily-fluid t s may h bodily =
       },
     )
 
-pub bodily-turn : (t : Token) (s : State) → MayCome t s → IsNested s → is_bodily s.mode ≡ true → IsNested (using_rules_for 4 s.mode t s).state
+pub bodily-turn : (t : Token) (s : State) → MayCome t s → IsNested s → is_bodily s.mode ≡ true
+    → IsNested (using_rules_for 4 s.mode t s).state
 unfolding mode_nested
 bodily-turn t s may h bodily =
     let b : Part = base s.open_elems in
     let fluid = bodily-fluid t s may h bodily in
     let tests = each-part s.mode (λ b. each_kind (mode_nested s.mode b)) (modes_nested s.mode bodily) b fluid.0 in
     let kind = kind-of (mode_nested s.mode b) tests t in
-    uses-sound (ground_of s.context_elem) (context_is set.Template s.context_elem) t s.mode b bodily fluid.0 4 kind.0 s.mode kind.1.0 kind.1.1 s fluid.1 (record { modes = may.held.modes })
+    uses-sound (ground_of s.context_elem) (context_is set.Template s.context_elem) t s.mode b bodily fluid.0 4
+    kind.0 s.mode kind.1.0 kind.1.1 s fluid.1 (record { modes = may.held.modes })

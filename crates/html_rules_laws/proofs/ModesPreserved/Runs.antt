@@ -1,5 +1,6 @@
 -- What actions of rows make of the parts: computed for each part, and true of the stack.
-use Rattle.std.proofs.Common.{◌≡◌, ◌∙◌, ℕ, suc, ◌≤◌, Bool, true, false, List, [], ◌∷◌, length, Option, Some, None, refl, sym, ap, subst, true≢false, codes, arith}
+use Rattle.std.proofs.Common.{◌≡◌, ◌∙◌, ℕ, suc, ◌≤◌, Bool, true, false, List, [], ◌∷◌, length, Option, Some, None, refl, sym}
+use Rattle.std.proofs.Common.{ap, subst, true≢false, codes, arith}
 use Rattle.std.specs.Prelude.{◌||◌, ◌&&◌, not, IfSome}
 use Rattle.std.specs.Str.{bytes_eq}
 use Rattle.std.proofs.lemmas.Bool.{and_parts}
@@ -19,13 +20,17 @@ use Rattle.html_rules.specs.Sets.{is_among, mathml_names_of, names_of, svg_names
 use Rattle.html_rules.specs.Shape.{one_if}
 use Rattle.html_rules.specs.Stack.{left_from, open_templates, parse_error, pop_but_root, pop_until_current, without_current_but_root}
 use Rattle.html_rules.specs.State.{Open, State, current_is, current_number, is_in, is_named}
-use Rattle.html_rules.specs.Table.{Condition, Action, Then, When, ParseError, InsertElement, InsertVoid, InsertNew, InsertFormVoid, Pop, Close, CloseToken, ClearBackTo, InsertMarker, SetFormElem, ForgetFormElem, SwitchTo, SetTemplateMode}
+use Rattle.html_rules.specs.Table.{Condition, Action, Then, When, ParseError, InsertElement, InsertVoid, InsertNew}
+use Rattle.html_rules.specs.Table.{InsertFormVoid, Pop, Close, CloseToken, ClearBackTo, InsertMarker, SetFormElem}
+use Rattle.html_rules.specs.Table.{ForgetFormElem, SwitchTo, SetTemplateMode}
 use Rattle.html_rules.specs.Tokens.{name_of}
 use Rattle.html_rules.specs.declared.insertion_mode.InsertionMode.{InsertionMode}
 use Rattle.html_rules.specs.declared.insertion_mode.InsertionMode.TheVariants as mode
 use Rattle.html_rules.specs.declared.tag_set.TagSet.{TagSet}
 use Rattle.html_rules.specs.declared.tag_set.TagSet.TheVariants as set
-use Rattle.html_rules_laws.specs.Nesting.{Part, Root, HeadPart, BodyPart, Frames, Contents, TablePart, Section, RowPart, Cell, CaptionPart, Columns, Loose, Nothing, Ground, Flow, base, is_loose, is_in_template, may_stand, nested, part_of, parts, set_of, takes, top}
+use Rattle.html_rules_laws.specs.Nesting.{Part, Root, HeadPart, BodyPart, Frames, Contents, TablePart, Section, RowPart, Cell}
+use Rattle.html_rules_laws.specs.Nesting.{CaptionPart, Columns, Loose, Nothing, Ground, Flow, base, is_loose, is_in_template}
+use Rattle.html_rules_laws.specs.Nesting.{may_stand, nested, part_of, parts, set_of, takes, top}
 use Rattle.html_rules_laws.specs.Soundness.{Standing, is_plain_action}
 use Rattle.html_rules_laws.specs.Upright.{is_first}
 use Rattle.html_rules_laws.proofs.SetFacts.{all_among, among-all, within}
@@ -37,11 +42,14 @@ use Rattle.html_rules_laws.proofs.TreePreserved.StandingTrees.{inserted-Made}
 use Rattle.html_rules_laws.proofs.TreePreserved.Acts.{act-eased}
 use Rattle.html_rules_laws.proofs.TreePreserved.Poised.{act-poised, tame-poised}
 use Rattle.html_rules_laws.proofs.ModesPreserved.Flows.{flows}
-use Rattle.html_rules_laws.proofs.ModesPreserved.Fluid.{At, Fluid, are_parts, base-based, base-solid, based-below, below-is, below_base, fluid-changed, fluid-flow, fluid-moved, from-base, from-top, is_inner, is_nothing, loosened, parts-out}
+use Rattle.html_rules_laws.proofs.ModesPreserved.Fluid.{At, Fluid, are_parts, base-based, base-solid, based-below, below-is}
+use Rattle.html_rules_laws.proofs.ModesPreserved.Fluid.{below_base, fluid-changed, fluid-flow, fluid-moved, from-base, from-top}
+use Rattle.html_rules_laws.proofs.ModesPreserved.Fluid.{is_inner, is_nothing, loosened, parts-out}
 use Rattle.html_rules_laws.proofs.Frames.Framed as framed
 use Rattle.html_rules_laws.proofs.Frames.Framed.{IsFramed}
 use Rattle.html_rules_laws.proofs.ModesPreserved.Parts.{part-set, set-part}
-use Rattle.html_rules_laws.proofs.ModesPreserved.Smooth.{Guard, NoGuard, Current, TokenBased, Holds, cell-part, guard-holds, guard_of, is_cell_kind, keeps, keeps-holds}
+use Rattle.html_rules_laws.proofs.ModesPreserved.Smooth.{Guard, NoGuard, Current, TokenBased, Holds, cell-part, guard-holds}
+use Rattle.html_rules_laws.proofs.ModesPreserved.Smooth.{guard_of, is_cell_kind, keeps, keeps-holds}
 use Rattle.html_rules_laws.proofs.ModesPreserved.Stacks.{IsLoose, freed-base, freed-nested, freed-templates, takes-top}
 use Rattle.html_rules_laws.proofs.Bools.{both, no, not_true, or_by}
 use Rattle.html_rules_laws.proofs.Frames.KeptBySteps.{expect_to_close-keeps, insert-keeps, pop_until_current-keeps}
@@ -54,7 +62,10 @@ may_insert p v = is_inner p && (v.exact && may_stand Flow p v.base)
 abbrev pub pops_to : Part → (Part → Bool) → Bool
 pops_to p ok =
     is_inner p
-    && ((not (may_stand Flow p TablePart) || ok TablePart) && ((not (may_stand Flow p Section) || ok Section) && ((not (may_stand Flow p RowPart) || ok RowPart) && ((not (may_stand Flow p Contents) || ok Contents) && (not (may_stand Flow p Root) || ok Root)))))
+    && ((not (may_stand Flow p TablePart) || ok TablePart)
+    && ((not (may_stand Flow p Section) || ok Section)
+    && ((not (may_stand Flow p RowPart) || ok RowPart)
+    && ((not (may_stand Flow p Contents) || ok Contents) && (not (may_stand Flow p Root) || ok Root)))))
 
 -- the part that all these names are of
 abbrev first_part : (Part → Bool) → List Part → Part
@@ -94,20 +105,26 @@ is_template_base Root = true
 is_template_base p = false
 
 abbrev pub runs : Kind → Guard → Action → At → (At → Bool) → Bool
-runs kind gd (Then InsertElement (When c SetFormElem)) v post = is_form_kind kind && (smooth kind gd v.base InsertElement && post (loosened v))
+runs kind gd (Then InsertElement (When c SetFormElem)) v post = is_form_kind kind
+    && (smooth kind gd v.base InsertElement && post (loosened v))
 runs kind gd (Then a b) v post = runs kind gd a v (λ w. runs kind (kept_guard kind gd a) b w post)
 runs kind gd (When c a) v post = runs kind (guard_of kind v.base c) a v post && post v
 runs kind gd InsertMarker v post = post v
 runs kind gd ParseError v post = post v
-runs kind gd (ClearBackTo names) v post = (within (set_of v.base) names && are_parts names) && (not (is_nothing v.base) && post (record v { exact = true }))
+runs kind gd (ClearBackTo names) v post = (within (set_of v.base) names && are_parts names)
+    && (not (is_nothing v.base) && post (record v { exact = true }))
 runs kind gd (SwitchTo m) v post = (not (is_first m) && not (is_in_template m)) && post (record v { mode = m })
 runs kind gd (SetTemplateMode m) v post = (not (is_first m) && (is_in_template v.mode && is_template_base v.base)) && post v
 runs kind gd InsertFormVoid v post = is_form_kind kind && post v
 runs kind gd ForgetFormElem v post = post v
-runs kind gd InsertElement v post = (smooth kind gd v.base InsertElement && post (loosened v)) || (may_insert (part_in kind) v && (tame_in kind InsertElement && post (at_exact (part_in kind) v)))
-runs kind gd (InsertNew name) v post = (smooth kind gd v.base (InsertNew name) && post (loosened v)) || (may_insert (part_named name) v && (tame_in kind (InsertNew name) && post (at_exact (part_named name) v)))
-runs kind gd Pop v post = (smooth kind gd v.base Pop && post (loosened v)) || (pops gd v && (not (is_in_template v.mode) && pops_to v.base (λ q. post (at_exact q v))))
-runs kind gd (Close names) v post = (within (set_of v.base) names && are_parts names) && (not (is_in_template v.mode) && pops_to v.base (λ q. post (at_exact q v)))
+runs kind gd InsertElement v post = (smooth kind gd v.base InsertElement && post (loosened v))
+    || (may_insert (part_in kind) v && (tame_in kind InsertElement && post (at_exact (part_in kind) v)))
+runs kind gd (InsertNew name) v post = (smooth kind gd v.base (InsertNew name) && post (loosened v))
+    || (may_insert (part_named name) v && (tame_in kind (InsertNew name) && post (at_exact (part_named name) v)))
+runs kind gd Pop v post = (smooth kind gd v.base Pop && post (loosened v))
+    || (pops gd v && (not (is_in_template v.mode) && pops_to v.base (λ q. post (at_exact q v))))
+runs kind gd (Close names) v post = (within (set_of v.base) names && are_parts names)
+    && (not (is_in_template v.mode) && pops_to v.base (λ q. post (at_exact q v)))
 runs kind TokenBased CloseToken v post = is_cell_kind kind && (not (is_in_template v.mode) && pops_to v.base (λ q. post (at_exact q v)))
 runs kind gd a v post = smooth kind gd v.base a && post (loosened v)
 
@@ -122,7 +139,10 @@ pops-under g p q ok h m = by p q inner each.0 each.1.0 each.1.1.0 each.1.1.1.0 e
   inner : is_inner p ≡ true
   inner = (and_parts (is_inner p) _ h).0
 
-  each : ((not (may_stand Flow p TablePart) || ok TablePart) ≡ true) × (((not (may_stand Flow p Section) || ok Section) ≡ true) × (((not (may_stand Flow p RowPart) || ok RowPart) ≡ true) × (((not (may_stand Flow p Contents) || ok Contents) ≡ true) × ((not (may_stand Flow p Root) || ok Root) ≡ true))))
+  each : ((not (may_stand Flow p TablePart) || ok TablePart) ≡ true)
+      × (((not (may_stand Flow p Section) || ok Section) ≡ true)
+      × (((not (may_stand Flow p RowPart) || ok RowPart) ≡ true)
+      × (((not (may_stand Flow p Contents) || ok Contents) ≡ true) × ((not (may_stand Flow p Root) || ok Root) ≡ true))))
   each =
       let one = and_parts (not (may_stand Flow p TablePart) || ok TablePart) _ (and_parts (is_inner p) _ h).1 in
       let two = and_parts (not (may_stand Flow p Section) || ok Section) _ one.1 in
@@ -130,7 +150,9 @@ pops-under g p q ok h m = by p q inner each.0 each.1.0 each.1.1.0 each.1.1.1.0 e
       let four = and_parts (not (may_stand Flow p Contents) || ok Contents) _ three.1 in
       (one.0, (two.0, (three.0, (four.0, four.1))))
 
-  by : (p q : Part) → is_inner p ≡ true → (not (may_stand Flow p TablePart) || ok TablePart) ≡ true → (not (may_stand Flow p Section) || ok Section) ≡ true → (not (may_stand Flow p RowPart) || ok RowPart) ≡ true → (not (may_stand Flow p Contents) || ok Contents) ≡ true
+  by : (p q : Part) → is_inner p ≡ true → (not (may_stand Flow p TablePart) || ok TablePart) ≡ true
+      → (not (may_stand Flow p Section) || ok Section) ≡ true → (not (may_stand Flow p RowPart) || ok RowPart) ≡
+      true → (not (may_stand Flow p Contents) || ok Contents) ≡ true
       → (not (may_stand Flow p Root) || ok Root) ≡ true → may_stand g p q ≡ true → IsUnder g q ok
   by Section TablePart i a b c d e m = record { takes = refl; fits = a; solid = refl }
   by Section Contents i a b c d e m = record { takes = refl; fits = d; solid = refl }
@@ -163,7 +185,8 @@ popped-below : (p : Part) (xs : List Open) → is_inner p ≡ true → top xs �
 unfolding names_of mathml_names_of svg_names_of
 popped-below p [] i e = refl
 popped-below p (x ∷ xs) i e = by (is_in set.Html x) (is_loose (part_of x)) refl refl where
-  by : (a b : Bool) → is_in set.Html x ≡ a → is_loose (part_of x) ≡ b → choose a (λ _. x ∷ xs) (λ _. xs) ≡ choose b (λ _. below_base xs) (λ _. xs)
+  by : (a b : Bool) → is_in set.Html x ≡ a → is_loose (part_of x) ≡ b → choose a (λ _. x ∷ xs) (λ _. xs) ≡ choose b
+      (λ _. below_base xs) (λ _. xs)
   by true b h l = absurd (true≢false (sym i ∙ ap is_inner (sym e ∙ set-part set.Html Root refl x h)))
   by false true h l = absurd (true≢false (not-inner p (ap is_loose (sym e) ∙ l) i)) where
     not-inner : (p : Part) → is_loose p ≡ true → is_inner p ≡ true → true ≡ false
@@ -185,7 +208,8 @@ columns-base (x ∷ xs) e = rw e refl
 first-is : (ok : Part → Bool) (ps : List Part) (p : Part) → first_part ok ps ≡ p → is_nothing p ≡ false → ok p ≡ true
 first-is ok [] p e n = absurd (true≢false (ap is_nothing e ∙ n))
 first-is ok (q ∷ ps) p e n = by (ok q) refl e (first-is ok ps p) where
-  by : (b : Bool) → ok q ≡ b → choose b (λ _. q) (λ _. first_part ok ps) ≡ p → (first_part ok ps ≡ p → is_nothing p ≡ false → ok p ≡ true) → ok p ≡ true
+  by : (b : Bool) → ok q ≡ b → choose b (λ _. q) (λ _. first_part ok ps) ≡ p
+      → (first_part ok ps ≡ p → is_nothing p ≡ false → ok p ≡ true) → ok p ≡ true
   by true o e rest = rw (← e) o
   by false o e rest = rest e n
 
@@ -193,7 +217,8 @@ abbrev is_table_part : Part → Bool
 is_table_part TablePart = true
 is_table_part p = is_inner p
 
-table-set : (p : Part) → is_table_part p ≡ true → (name : List ℕ) → is_among name (names_of (set_of p)) ≡ true → (n : ℕ) → part_of (record { number = n; namespace = Html; name = name }) ≡ p
+table-set : (p : Part) → is_table_part p ≡ true → (name : List ℕ) → is_among name (names_of (set_of p)) ≡ true
+    → (n : ℕ) → part_of (record { number = n; namespace = Html; name = name }) ≡ p
 unfolding names_of mathml_names_of svg_names_of
 table-set TablePart i name h n = set-part set.Table TablePart refl (record { number = n; namespace = Html; name = name }) h
 table-set Section i name h n = set-part set.TbodyTfootThead Section refl (record { number = n; namespace = Html; name = name }) h
@@ -251,7 +276,8 @@ stands-on g CaptionPart q i t m = m
 stands-on g Columns q i t m = m
 stands-on g p q i t m = no i
 
-insert-stands : (g : Ground) (p : Part) (v : At) (xs : List Open) → may_insert p v ≡ true → takes g v.base ≡ true → base xs ≡ v.base → (v.exact ≡ true → top xs ≡ v.base) → may_stand g p (top xs) ≡ true
+insert-stands : (g : Ground) (p : Part) (v : At) (xs : List Open) → may_insert p v ≡ true → takes g v.base ≡ true
+    → base xs ≡ v.base → (v.exact ≡ true → top xs ≡ v.base) → may_stand g p (top xs) ≡ true
 insert-stands g TablePart v xs h t b e = takes-top g xs (rw b t)
 insert-stands g Root v xs h t b e = no h
 insert-stands g HeadPart v xs h t b e = no h
@@ -263,7 +289,8 @@ insert-stands g Nothing v xs h t b e = no h
 insert-stands g Section v xs h t b e = let tests = and_parts v.exact _ h in rw (e tests.0) (stands-on g Section v.base refl t tests.1)
 insert-stands g RowPart v xs h t b e = let tests = and_parts v.exact _ h in rw (e tests.0) (stands-on g RowPart v.base refl t tests.1)
 insert-stands g Cell v xs h t b e = let tests = and_parts v.exact _ h in rw (e tests.0) (stands-on g Cell v.base refl t tests.1)
-insert-stands g CaptionPart v xs h t b e = let tests = and_parts v.exact _ h in rw (e tests.0) (stands-on g CaptionPart v.base refl t tests.1)
+insert-stands g CaptionPart v xs h t b e = let tests = and_parts v.exact _ h in
+    rw (e tests.0) (stands-on g CaptionPart v.base refl t tests.1)
 insert-stands g Columns v xs h t b e = let tests = and_parts v.exact _ h in rw (e tests.0) (stands-on g Columns v.base refl t tests.1)
 
 may-table : (p : Part) (v : At) → may_insert p v ≡ true → is_table_part p ≡ true
@@ -293,11 +320,16 @@ pop-same : (s : State) → (pop_but_root s).open_elems ≡ without_current_but_r
 unfolding pop_but_root
 pop-same s = refl
 
-new-same : (name : List ℕ) (s : State) → (insert_element Html name [] false s).open_elems ≡ record { number = node_count s.forest; namespace = Html; name = name } ∷ s.open_elems
+new-same : (name : List ℕ) (s : State) → (insert_element Html name [] false s).open_elems ≡
+    record { number = node_count s.forest; namespace = Html; name = name } ∷ s.open_elems
 unfolding insert_element
 new-same name s = refl
 
-tag-same : (tag : Tag) (s : State) → (insert_element_for tag s).open_elems ≡ record { number = node_count s.forest; namespace = Html; name = tag.name } ∷ s.open_elems
+tag-same : (tag : Tag) (s : State) → (insert_element_for tag s).open_elems ≡ record {
+  number = node_count s.forest;
+  namespace = Html;
+  name = tag.name;
+} ∷ s.open_elems
 unfolding insert_element
 tag-same tag s = refl
 
@@ -305,8 +337,18 @@ element-framed : (t : Token) (s : State) → IsFramed s (for_tag insert_element_
 element-framed (TagToken tag) s = insert-keeps framed.framed_kept tag s
 element-framed t s = framed.same s
 
-element-same : (t : Token) (tag : Tag) → t ≡ TagToken tag → (s : State) → (for_tag insert_element_for t s).open_elems ≡ record { number = node_count s.forest; namespace = Html; name = tag.name } ∷ s.open_elems
-element-same t tag e s = subst (λ t. (for_tag insert_element_for t s).open_elems ≡ record { number = node_count s.forest; namespace = Html; name = tag.name } ∷ s.open_elems) (sym e) (tag-same tag s)
+element-same : (t : Token) (tag : Tag) → t ≡ TagToken tag → (s : State)
+    → (for_tag insert_element_for t s).open_elems ≡ record {
+      number = node_count s.forest;
+      namespace = Html;
+      name = tag.name;
+    } ∷ s.open_elems
+element-same t tag e s = subst
+    (λ t. (for_tag insert_element_for t s).open_elems ≡ record {
+      number = node_count s.forest;
+      namespace = Html;
+      name = tag.name;
+    } ∷ s.open_elems) (sym e) (tag-same tag s)
 
 inner-some : (p : Part) → is_inner p ≡ true → is_nothing p ≡ false
 inner-some Nothing i = no i
@@ -321,7 +363,9 @@ pub contents-count : (xs : List Open) → base xs ≡ Contents → 1 ≤ open_te
 unfolding names_of mathml_names_of svg_names_of
 contents-count [] e = absurd (cc)
 contents-count (x ∷ xs) e = by (is_loose (part_of x)) (is_in set.Template x) refl refl e (contents-count xs) where
-  by : (b c : Bool) → is_loose (part_of x) ≡ b → is_in set.Template x ≡ c → choose b (λ _. base xs) (λ _. part_of x) ≡ Contents → (base xs ≡ Contents → 1 ≤ open_templates xs) → 1 ≤ choose c (λ _. suc (open_templates xs)) (λ _. open_templates xs)
+  by : (b c : Bool) → is_loose (part_of x) ≡ b → is_in set.Template x ≡ c → choose b (λ _. base xs)
+      (λ _. part_of x) ≡ Contents → (base xs ≡ Contents → 1 ≤ open_templates xs)
+      → 1 ≤ choose c (λ _. suc (open_templates xs)) (λ _. open_templates xs)
   by b true l i e rest = omega arith
   by true false l i e rest = rest e
   by false false l i e rest = absurd (true≢false (sym (part-set x Contents e refl) ∙ i))
@@ -335,7 +379,9 @@ abbrev pub Run : Ground → Bool → Token → Action → State → (At → Bool
 Run g template t a s post = (w : At) × ((post w ≡ true) × Fluid g template w (act a t s))
 
 module _ (g : Ground) (template : Bool) (t : Token) where
-  smooth-run : (kind : Kind) (gd : Guard) (a : Action) (v : At) (post : At → Bool) → (smooth kind gd v.base a && post (loosened v)) ≡ true → is_of kind t ≡ true → (s : State) → Holds gd t s → Fluid g template v s → Run g template t a s post
+  smooth-run : (kind : Kind) (gd : Guard) (a : Action) (v : At) (post : At → Bool)
+      → (smooth kind gd v.base a && post (loosened v)) ≡ true → is_of kind t ≡ true → (s : State) → Holds gd t s
+      → Fluid g template v s → Run g template t a s post
   smooth-run kind gd a v post h k s known fluid =
       let tests = and_parts (smooth kind gd v.base a) _ h in
       let more = and_parts (flows kind gd v.base a) _ tests.0 in
@@ -343,8 +389,10 @@ module _ (g : Ground) (template : Bool) (t : Token) where
       (loosened v, (tests.1, fluid-flow g template v kind gd a more.0 last.0 last.1 t k s known fluid))
 
   -- an inner part leaves with all above it
-  below-run : (kind : Kind) (a : Action) (v : At) (post : At → Bool) → tame_in kind a ≡ true → is_plain_action a ≡ true → (not (is_in_template v.mode) && pops_to v.base (λ q. post (at_exact q v))) ≡ true → is_of kind t ≡ true
-      → (s : State) → IsFramed s (act a t s) → (act a t s).open_elems ≡ below_base s.open_elems → Fluid g template v s → Run g template t a s post
+  below-run : (kind : Kind) (a : Action) (v : At) (post : At → Bool) → tame_in kind a ≡ true
+      → is_plain_action a ≡ true → (not (is_in_template v.mode) && pops_to v.base (λ q. post (at_exact q v))) ≡ true → is_of kind t ≡ true
+      → (s : State) → IsFramed s (act a t s) → (act a t s).open_elems ≡ below_base s.open_elems
+      → Fluid g template v s → Run g template t a s post
   below-run kind a v post tame plain h k s fr same fluid =
       let tests = and_parts (not (is_in_template v.mode)) _ h in
       let inner = (and_parts (is_inner v.base) _ tests.1).0 in
@@ -354,25 +402,33 @@ module _ (g : Ground) (template : Bool) (t : Token) where
         at_exact q v,
         (
           under.fits,
-          fluid-changed g template v (at_exact q v) s (act a t s) fluid (tame-poised kind a tame plain t k s fluid.poised) (act-aside kind a tame t s) fr
-              (act-eased kind a tame plain t k s fluid.poised.listed fluid.poised.upright.standing).names (rw same below.nested) (rw same (top-base (below_base s.open_elems) under.solid)) (λ _. rw same refl) under.takes refl
+          fluid-changed g template v (at_exact q v) s (act a t s) fluid
+              (tame-poised kind a tame plain t k s fluid.poised) (act-aside kind a tame t s) fr
+              (act-eased kind a tame plain t k s fluid.poised.listed fluid.poised.upright.standing).names
+              (rw same below.nested) (rw same (top-base (below_base s.open_elems) under.solid)) (λ _. rw same refl) under.takes refl
               (λ e b. absurd (true≢false (sym (ap is_in_template e) ∙ not_true _ tests.0))) (rw same below.templates),
         ),
       )
 
   -- a part comes on top
-  insert-run : (kind : Kind) (a : Action) (p : Part) (v : At) (post : At → Bool) → tame_in kind a ≡ true → is_plain_action a ≡ true → may_insert p v ≡ true → post (at_exact p v) ≡ true → is_of kind t ≡ true
-      → (s : State) → IsFramed s (act a t s) → (x : Open) → part_of x ≡ p → (act a t s).open_elems ≡ x ∷ s.open_elems → Fluid g template v s → Run g template t a s post
+  insert-run : (kind : Kind) (a : Action) (p : Part) (v : At) (post : At → Bool) → tame_in kind a ≡ true
+      → is_plain_action a ≡ true → may_insert p v ≡ true → post (at_exact p v) ≡ true → is_of kind t ≡ true
+      → (s : State) → IsFramed s (act a t s) → (x : Open) → part_of x ≡ p → (act a t s).open_elems ≡ x ∷
+      s.open_elems → Fluid g template v s → Run g template t a s post
   insert-run kind a p v post tame plain may ok k s fr x part same fluid =
       let table = may-table p v may in
-      let stands : may_stand g (part_of x) (top s.open_elems) ≡ true = rw part (insert-stands g p v s.open_elems may fluid.takes fluid.base fluid.exact) in
-      let nest : nested g (x ∷ s.open_elems) ≡ true = both (may_stand g (part_of x) (top s.open_elems)) (nested g s.open_elems) stands fluid.nested in (
+      let stands : may_stand g (part_of x) (top s.open_elems) ≡ true =
+      rw part (insert-stands g p v s.open_elems may fluid.takes fluid.base fluid.exact) in
+      let nest : nested g (x ∷ s.open_elems) ≡ true = both (may_stand g (part_of x) (top s.open_elems))
+      (nested g s.open_elems) stands fluid.nested in (
         at_exact p v,
         (
           ok,
-          fluid-changed g template v (at_exact p v) s (act a t s) fluid (tame-poised kind a tame plain t k s fluid.poised) (act-aside kind a tame t s) fr
+          fluid-changed g template v (at_exact p v) s (act a t s) fluid
+              (tame-poised kind a tame plain t k s fluid.poised) (act-aside kind a tame t s) fr
               (act-eased kind a tame plain t k s fluid.poised.listed fluid.poised.upright.standing).names
-              (rw same nest) (rw same (part-base x s.open_elems p part (table-solid p table))) (λ _. rw same part) (table-takes g p table) refl
+              (rw same nest) (rw same (part-base x s.open_elems p part (table-solid p table))) (λ _. rw same part)
+              (table-takes g p table) refl
               (λ e b. absurd (table-root p table b)) (rw same (part-templates x s.open_elems (table-template x p table part))),
         ),
       )
@@ -395,40 +451,56 @@ module _ (g : Ground) (template : Bool) (t : Token) where
 
   error-run : (kind : Kind) (v : At) → is_of kind t ≡ true → (s : State) → Fluid g template v s → Fluid g template v (act ParseError t s)
   unfolding parse_error
-  error-run kind v k s h = exacted v (act ParseError t s) (fluid-flow g template v kind NoGuard ParseError refl refl refl t k s tt h) h.exact
+  error-run kind v k s h = exacted v (act ParseError t s)
+      (fluid-flow g template v kind NoGuard ParseError refl refl refl t k s tt h) h.exact
 
   marker-run : (kind : Kind) (v : At) → is_of kind t ≡ true → (s : State) → Fluid g template v s → Fluid g template v (act InsertMarker t s)
   unfolding push_marker
-  marker-run kind v k s h = exacted v (act InsertMarker t s) (fluid-flow g template v kind NoGuard InsertMarker refl refl refl t k s tt h) h.exact
+  marker-run kind v k s h = exacted v (act InsertMarker t s)
+      (fluid-flow g template v kind NoGuard InsertMarker refl refl refl t k s tt h) h.exact
 
-  clear-run : (kind : Kind) (names : TagSet) (v : At) → within (set_of v.base) names ≡ true → are_parts names ≡ true → is_nothing v.base ≡ false → is_of kind t ≡ true → (s : State) → Fluid g template v s → Fluid g template (record v { exact = true }) (act (ClearBackTo names) t s)
+  clear-run : (kind : Kind) (names : TagSet) (v : At) → within (set_of v.base) names ≡ true → are_parts names ≡ true
+      → is_nothing v.base ≡ false → is_of kind t ≡ true → (s : State) → Fluid g template v s
+      → Fluid g template (record v { exact = true }) (act (ClearBackTo names) t s)
   clear-run kind names v w p n k s h =
       let solid = subst (λ b. is_loose b ≡ false) h.base (base-solid s.open_elems) in
       let based = base-based names v.base solid w s.open_elems h.base n in
       let f = from-base (is_in names) s.open_elems based in
       let same = clear-same names s in
-      fluid-changed g template v (record v { exact = true }) s (act (ClearBackTo names) t s) h (tame-poised kind (ClearBackTo names) refl refl t k s h.poised) (act-aside kind (ClearBackTo names) refl t s) ((pop_until_current-keeps framed.framed_kept) (is_in names) s)
+      fluid-changed g template v (record v { exact = true }) s (act (ClearBackTo names) t s) h
+      (tame-poised kind (ClearBackTo names) refl refl t k s h.poised)
+      (act-aside kind (ClearBackTo names) refl t s) ((pop_until_current-keeps framed.framed_kept) (is_in names) s)
       (act-eased kind (ClearBackTo names) refl refl t k s h.poised.listed h.poised.upright.standing).names
-      (rw same (freed-nested g s.open_elems _ f h.nested)) (rw same (freed-base s.open_elems _ f ∙ h.base)) (λ _. rw same (from-top (is_in names) (parts-out names p) s.open_elems based ∙ h.base)) h.takes refl h.in_template (rw same (freed-templates s.open_elems _ f))
+      (rw same (freed-nested g s.open_elems _ f h.nested)) (rw same (freed-base s.open_elems _ f ∙ h.base))
+      (λ _. rw same (from-top (is_in names) (parts-out names p) s.open_elems based ∙ h.base)) h.takes refl
+      h.in_template (rw same (freed-templates s.open_elems _ f))
 
   at-top : (gd : Guard) (v : At) (s : State) → pops gd v ≡ true → Holds gd t s → Fluid g template v s → top s.open_elems ≡ v.base
-  at-top (Current set.Colgroup) v s p known fluid = let columns = columns-top s.open_elems known in columns ∙ sym (columns-base s.open_elems columns) ∙ fluid.base
+  at-top (Current set.Colgroup) v s p known fluid = let columns = columns-top s.open_elems known in columns
+      ∙ sym (columns-base s.open_elems columns) ∙ fluid.base
   at-top gd v s p known fluid = fluid.exact p
 
-  pop-run : (kind : Kind) (gd : Guard) (v : At) (post : At → Bool) → (pops gd v && (not (is_in_template v.mode) && pops_to v.base (λ q. post (at_exact q v)))) ≡ true → is_of kind t ≡ true → (s : State) → Holds gd t s → Fluid g template v s → Run g template t Pop s post
+  pop-run : (kind : Kind) (gd : Guard) (v : At) (post : At → Bool)
+      → (pops gd v && (not (is_in_template v.mode) && pops_to v.base (λ q. post (at_exact q v)))) ≡ true
+      → is_of kind t ≡ true → (s : State) → Holds gd t s → Fluid g template v s → Run g template t Pop s post
   pop-run kind gd v post h k s known fluid =
       let tests = and_parts (pops gd v) _ h in
       let inner = (and_parts (is_inner v.base) _ (and_parts (not (is_in_template v.mode)) _ tests.1).1).0 in
-      below-run kind Pop v post refl refl tests.1 k s (pop-framed s) (pop-same s ∙ popped-below v.base s.open_elems inner (at-top gd v s tests.0 known fluid)) fluid
+      below-run kind Pop v post refl refl tests.1 k s (pop-framed s)
+      (pop-same s ∙ popped-below v.base s.open_elems inner (at-top gd v s tests.0 known fluid)) fluid
 
-  close-run : (kind : Kind) (names : TagSet) (v : At) (post : At → Bool) → ((within (set_of v.base) names && are_parts names) && (not (is_in_template v.mode) && pops_to v.base (λ q. post (at_exact q v)))) ≡ true → is_of kind t ≡ true → (s : State) → Fluid g template v s → Run g template t (Close names) s post
+  close-run : (kind : Kind) (names : TagSet) (v : At) (post : At → Bool)
+      → ((within (set_of v.base) names && are_parts names)
+      && (not (is_in_template v.mode) && pops_to v.base (λ q. post (at_exact q v)))) ≡ true → is_of kind t ≡ true
+      → (s : State) → Fluid g template v s → Run g template t (Close names) s post
   close-run kind names v post h k s fluid =
       let tests = and_parts (within (set_of v.base) names && are_parts names) _ h in
       let sets = and_parts (within (set_of v.base) names) (are_parts names) tests.0 in
       let inner = (and_parts (is_inner v.base) _ (and_parts (not (is_in_template v.mode)) _ tests.1).1).0 in
       let solid = subst (λ b. is_loose b ≡ false) fluid.base (base-solid s.open_elems) in
       below-run kind (Close names) v post refl refl tests.1 k s ((expect_to_close-keeps framed.framed_kept) (is_in names) s)
-      (close-elements (is_in names) s ∙ based-below (is_in names) (parts-out names sets.1) s.open_elems (base-based names v.base solid sets.0 s.open_elems fluid.base (inner-some v.base inner))) fluid
+      (close-elements (is_in names) s ∙ based-below (is_in names) (parts-out names sets.1) s.open_elems
+      (base-based names v.base solid sets.0 s.open_elems fluid.base (inner-some v.base inner))) fluid
 
   cell-out : (kind : Kind) → is_cell_kind kind ≡ true → is_of kind t ≡ true → (x : Open) → IsLoose x → is_named (name_of t) x ≡ false
   cell-out kind c k x l = by (is_named (name_of t) x) refl where
@@ -436,13 +508,19 @@ module _ (g : Ground) (template : Bool) (t : Token) where
     by true e = absurd (let other = cell-part kind c t k x e in cc)
     by false e = e
 
-  token-run : (kind : Kind) (v : At) (post : At → Bool) → (is_cell_kind kind && (not (is_in_template v.mode) && pops_to v.base (λ q. post (at_exact q v)))) ≡ true → is_of kind t ≡ true → (s : State) → Holds TokenBased t s → Fluid g template v s → Run g template t CloseToken s post
+  token-run : (kind : Kind) (v : At) (post : At → Bool)
+      → (is_cell_kind kind && (not (is_in_template v.mode) && pops_to v.base (λ q. post (at_exact q v)))) ≡ true
+      → is_of kind t ≡ true → (s : State) → Holds TokenBased t s → Fluid g template v s → Run g template t CloseToken s post
   token-run kind v post h k s known fluid =
       let tests = and_parts (is_cell_kind kind) _ h in
       below-run kind CloseToken v post refl refl tests.1 k s ((expect_to_close-keeps framed.framed_kept) (is_named (name_of t)) s)
-      (close-elements (is_named (name_of t)) s ∙ based-below (is_named (name_of t)) (λ x l. cell-out kind tests.0 k x l) s.open_elems known) fluid
+      (close-elements (is_named (name_of t)) s ∙ based-below (is_named (name_of t))
+      (λ x l. cell-out kind tests.0 k x l) s.open_elems known) fluid
 
-  tagged : (tag : Tag) → t ≡ TagToken tag → (names : List (List ℕ)) (v : At) (post : At → Bool) → (may_insert (part_in (Starts names)) v && (tame_in (Starts names) InsertElement && post (at_exact (part_in (Starts names)) v))) ≡ true → is_of (Starts names) (TagToken tag) ≡ true
+  tagged : (tag : Tag) → t ≡ TagToken tag → (names : List (List ℕ)) (v : At) (post : At → Bool)
+      → (may_insert (part_in (Starts names)) v
+      && (tame_in (Starts names) InsertElement && post (at_exact (part_in (Starts names)) v))) ≡ true
+      → is_of (Starts names) (TagToken tag) ≡ true
       → (s : State) → Fluid g template v s → Run g template t InsertElement s post
   tagged tag same names v post h k s fluid =
       let tests = and_parts (may_insert (part_in (Starts names)) v) _ h in
@@ -450,34 +528,61 @@ module _ (g : Ground) (template : Bool) (t : Token) where
       let p : Part = part_in (Starts names) in
       let table = may-table p v tests.0 in
       let all = first-is (λ p. inserted p names) parts p refl (table-some p table) in
-      insert-run (Starts names) InsertElement p v post more.0 refl tests.0 more.1 (subst (λ t. is_of (Starts names) t ≡ true) (sym same) k) s (element-framed t s) (record { number = node_count s.forest; namespace = Html; name = tag.name })
-      (table-set p table tag.name (among-all tag.name names (names_of (set_of p)) all (and_parts (is_start_tag tag.kind) _ k).1) (node_count s.forest)) (element-same t tag same s) fluid
+      insert-run (Starts names) InsertElement p v post more.0 refl tests.0 more.1
+      (subst (λ t. is_of (Starts names) t ≡ true) (sym same) k) s (element-framed t s)
+      (record { number = node_count s.forest; namespace = Html; name = tag.name })
+      (table-set p table tag.name
+      (among-all tag.name names (names_of (set_of p)) all (and_parts (is_start_tag tag.kind) _ k).1)
+      (node_count s.forest)) (element-same t tag same s) fluid
 
-  element-run : (kind : Kind) (v : At) (post : At → Bool) → (may_insert (part_in kind) v && (tame_in kind InsertElement && post (at_exact (part_in kind) v))) ≡ true → is_of kind t ≡ true → (s : State) → Fluid g template v s → Run g template t InsertElement s post
+  element-run : (kind : Kind) (v : At) (post : At → Bool)
+      → (may_insert (part_in kind) v && (tame_in kind InsertElement && post (at_exact (part_in kind) v))) ≡ true
+      → is_of kind t ≡ true → (s : State) → Fluid g template v s → Run g template t InsertElement s post
   element-run kind v post h k s fluid = by kind t refl h k where
-    by : (kind : Kind) (u : Token) → t ≡ u → (may_insert (part_in kind) v && (tame_in kind InsertElement && post (at_exact (part_in kind) v))) ≡ true → is_of kind u ≡ true → Run g template t InsertElement s post
+    by : (kind : Kind) (u : Token) → t ≡ u
+        → (may_insert (part_in kind) v && (tame_in kind InsertElement && post (at_exact (part_in kind) v))) ≡ true
+        → is_of kind u ≡ true → Run g template t InsertElement s post
     by (Starts names) (TagToken tag) e h k = tagged tag e names v post h k s fluid
     by (Starts names) u e h k = no k
     by kind u e h k = no h
 
-  new-run : (kind : Kind) (name : List ℕ) (v : At) (post : At → Bool) → (may_insert (part_named name) v && (tame_in kind (InsertNew name) && post (at_exact (part_named name) v))) ≡ true → is_of kind t ≡ true → (s : State) → Fluid g template v s → Run g template t (InsertNew name) s post
+  new-run : (kind : Kind) (name : List ℕ) (v : At) (post : At → Bool)
+      → (may_insert (part_named name) v && (tame_in kind (InsertNew name) && post (at_exact (part_named name) v))) ≡
+      true → is_of kind t ≡ true → (s : State) → Fluid g template v s → Run g template t (InsertNew name) s post
   new-run kind name v post h k s fluid =
       let tests = and_parts (may_insert (part_named name) v) _ h in
       let more = and_parts (tame_in kind (InsertNew name)) _ tests.1 in
       let p : Part = part_named name in
       let table = may-table p v tests.0 in
-      insert-run kind (InsertNew name) p v post more.0 refl tests.0 more.1 k s (framed.framed_kept.inserts Html name [] false s) (record { number = node_count s.forest; namespace = Html; name = name })
-      (table-set p table name (first-is (λ p. is_among name (names_of (set_of p))) parts p refl (table-some p table)) (node_count s.forest)) (new-same name s) fluid
+      insert-run kind (InsertNew name) p v post more.0 refl tests.0 more.1 k s
+      (framed.framed_kept.inserts Html name [] false s) (record { number = node_count s.forest; namespace = Html; name = name })
+      (table-set p table name (first-is (λ p. is_among name (names_of (set_of p))) parts p refl
+      (table-some p table)) (node_count s.forest)) (new-same name s) fluid
 
-  switch-run : (m : InsertionMode) (v : At) (post : At → Bool) → ((not (is_first m) && not (is_in_template m)) && post (record v { mode = m })) ≡ true → (s : State) → Fluid g template v s → Run g template t (SwitchTo m) s post
+  switch-run : (m : InsertionMode) (v : At) (post : At → Bool)
+      → ((not (is_first m) && not (is_in_template m)) && post (record v { mode = m })) ≡ true → (s : State)
+      → Fluid g template v s → Run g template t (SwitchTo m) s post
   switch-run m v post h s fluid =
       let tests = and_parts (not (is_first m) && not (is_in_template m)) _ h in
       let modes = and_parts (not (is_first m)) _ tests.0 in
       (record v { mode = m }, (tests.1, fluid-moved g template v m s (not_true _ modes.0) (not_true _ modes.1) fluid))
 
-  other-pointer : (v : At) (s : State) (o : Option ℕ) → IfSome o (λ n. element_name (data_of s.forest n) ≡ Some (element_name_of Html (codes "form"))) → Fluid g template v s → Fluid g template v (record s { form_elem = o })
+  other-pointer : (v : At) (s : State) (o : Option ℕ)
+      → IfSome o (λ n. element_name (data_of s.forest n) ≡ Some (element_name_of Html (codes "form")))
+      → Fluid g template v s → Fluid g template v (record s { form_elem = o })
   other-pointer v s o e h = record {
-    poised = record { upright = record { standing = h.poised.upright.standing; rooted = h.poised.upright.rooted; head = h.poised.upright.head; context = h.poised.upright.context }; listed = h.poised.listed; mode = h.poised.mode; original = h.poised.original; modes = h.poised.modes };
+    poised = record {
+      upright = record {
+        standing = h.poised.upright.standing;
+        rooted = h.poised.upright.rooted;
+        head = h.poised.upright.head;
+        context = h.poised.upright.context;
+      };
+      listed = h.poised.listed;
+      mode = h.poised.mode;
+      original = h.poised.original;
+      modes = h.poised.modes;
+    };
     nested = h.nested;
     base = h.base;
     exact = h.exact;
@@ -502,24 +607,47 @@ module _ (g : Ground) (template : Bool) (t : Token) where
     or_false true h = refl
     or_false false h = h
 
-    by : (kind : Kind) (u : Token) → t ≡ u → is_form_kind kind ≡ true → is_of kind u ≡ true → (tag : Tag) × ((t ≡ TagToken tag) × (tag.name ≡ codes "form"))
-    by (Starts names) (TagToken tag) e h k = (tag, (e, (bytes_eq-Decides tag.name (codes "form")).0 (or_false (bytes_eq tag.name (codes "form")) (among-all tag.name names (names_of set.Form) h (and_parts (is_start_tag tag.kind) _ k).1))))
+    by : (kind : Kind) (u : Token) → t ≡ u → is_form_kind kind ≡ true → is_of kind u ≡ true → (tag : Tag)
+        × ((t ≡ TagToken tag) × (tag.name ≡ codes "form"))
+    by (Starts names) (TagToken tag) e h k = (
+      tag,
+      (
+        e,
+        (bytes_eq-Decides tag.name (codes "form")).0
+            (or_false (bytes_eq tag.name (codes "form"))
+            (among-all tag.name names (names_of set.Form) h (and_parts (is_start_tag tag.kind) _ k).1)),
+      ),
+    )
     by (Starts names) u e h k = no k
     by kind u e h k = no h
 
-  set-form : (v : At) (r : State) → element_name (data_of r.forest (current_number r.open_elems)) ≡ Some (element_name_of Html (codes "form")) → (c : Condition) → Fluid g template v r → Fluid g template v (act (When c SetFormElem) t r)
+  set-form : (v : At) (r : State) → element_name (data_of r.forest (current_number r.open_elems)) ≡ Some
+      (element_name_of Html (codes "form")) → (c : Condition) → Fluid g template v r → Fluid g template v (act (When c SetFormElem) t r)
   unfolding set_form_elem
   set-form v r e c h = by (holds c t r) where
     by : (b : Bool) → Fluid g template v (choose b (λ _. record r { form_elem = Some (current_number r.open_elems) }) (λ _. r))
     by true = other-pointer v r (Some (current_number r.open_elems)) e h
     by false = h
 
-  template-run : (kind : Kind) (m : InsertionMode) (v : At) → is_first m ≡ false → is_in_template v.mode ≡ true → is_template_base v.base ≡ true → is_of kind t ≡ true → (s : State) → Fluid g template v s → Fluid g template v (set_template_mode m s)
+  template-run : (kind : Kind) (m : InsertionMode) (v : At) → is_first m ≡ false → is_in_template v.mode ≡ true
+      → is_template_base v.base ≡ true → is_of kind t ≡ true → (s : State) → Fluid g template v s
+      → Fluid g template v (set_template_mode m s)
   unfolding set_template_mode
   template-run kind m v f in_mode in_base k s h =
       let poised = act-poised kind (SetTemplateMode m) (ap not f) t k s h.poised in
       record {
-        poised = record { upright = record { standing = poised.upright.standing; rooted = poised.upright.rooted; head = poised.upright.head; context = poised.upright.context }; listed = poised.listed; mode = poised.mode; original = poised.original; modes = poised.modes };
+        poised = record {
+          upright = record {
+            standing = poised.upright.standing;
+            rooted = poised.upright.rooted;
+            head = poised.upright.head;
+            context = poised.upright.context;
+          };
+          listed = poised.listed;
+          mode = poised.mode;
+          original = poised.original;
+          modes = poised.modes;
+        };
         nested = h.nested;
         base = h.base;
         exact = h.exact;
@@ -535,24 +663,34 @@ module _ (g : Ground) (template : Bool) (t : Token) where
     where
       some-modes : (b : Part) → is_template_base b ≡ true → v.base ≡ b → 1 ≤ length s.template_modes
       some-modes Contents i e = let many = contents-count s.open_elems (h.base ∙ e) in let count = h.count in omega arith
-      some-modes Root i e = let one : one_if (context_is set.Template s.context_elem) ≡ 1 = ap one_if (h.of_template ∙ h.in_template (template-is v.mode in_mode) e) in let count = h.count in omega arith
+      some-modes Root i e = let one : one_if (context_is set.Template s.context_elem) ≡ 1 =
+          ap one_if (h.of_template ∙ h.in_template (template-is v.mode in_mode) e) in let count = h.count in omega arith
       some-modes b i e = no i
 
 -- a form is the current node
-form-current : (tag : Tag) (s : State) → tag.name ≡ codes "form" → Standing s → element_name (data_of (insert_element_for tag s).forest (current_number (insert_element_for tag s).open_elems)) ≡ Some (element_name_of Html (codes "form"))
+form-current : (tag : Tag) (s : State) → tag.name ≡ codes "form" → Standing s
+    → element_name (data_of (insert_element_for tag s).forest
+    (current_number (insert_element_for tag s).open_elems)) ≡ Some (element_name_of Html (codes "form"))
 unfolding insert_element
 form-current tag s e is = (insert_element_for-Standing tag s is).opened.0.named ∙ ap (λ name. Some (element_name_of Html name)) e
 
 module _ (g : Ground) (template : Bool) (t : Token) where
-  form-run : (kind : Kind) (gd : Guard) (c : Condition) (v : At) (post : At → Bool) → (is_form_kind kind && (smooth kind gd v.base InsertElement && post (loosened v))) ≡ true → is_of kind t ≡ true → (s : State) → Holds gd t s → Fluid g template v s → Run g template t (Then InsertElement (When c SetFormElem)) s post
+  form-run : (kind : Kind) (gd : Guard) (c : Condition) (v : At) (post : At → Bool)
+      → (is_form_kind kind && (smooth kind gd v.base InsertElement && post (loosened v))) ≡ true
+      → is_of kind t ≡ true → (s : State) → Holds gd t s → Fluid g template v s
+      → Run g template t (Then InsertElement (When c SetFormElem)) s post
   form-run kind gd c v post h k s known fluid =
       let tests = and_parts (is_form_kind kind) _ h in
       let made = smooth-run g template t kind gd InsertElement v post tests.1 k s known fluid in
       let tag = form-tag g template t kind tests.0 k in
-      let named = subst (λ u. element_name (data_of (for_tag insert_element_for u s).forest (current_number (for_tag insert_element_for u s).open_elems)) ≡ Some (element_name_of Html (codes "form"))) (sym tag.1.0) (form-current tag.0 s tag.1.1 fluid.poised.upright.standing) in
+      let named = subst (λ u. element_name
+      (data_of (for_tag insert_element_for u s).forest
+      (current_number (for_tag insert_element_for u s).open_elems)) ≡ Some
+      (element_name_of Html (codes "form"))) (sym tag.1.0) (form-current tag.0 s tag.1.1 fluid.poised.upright.standing) in
       (made.0, (made.1.0, set-form g template t made.0 (act InsertElement t s) named c made.1.1))
 
-  form_void : (kind : Kind) (v : At) (post : At → Bool) → (is_form_kind kind && post v) ≡ true → is_of kind t ≡ true → (s : State) → Fluid g template v s → Run g template t InsertFormVoid s post
+  form_void : (kind : Kind) (v : At) (post : At → Bool) → (is_form_kind kind && post v) ≡ true → is_of kind t ≡ true
+      → (s : State) → Fluid g template v s → Run g template t InsertFormVoid s post
   unfolding put_element
   form_void kind v post h k s fluid =
       let tests = and_parts (is_form_kind kind) (post v) h in
@@ -562,23 +700,32 @@ module _ (g : Ground) (template : Bool) (t : Token) where
       voided : (tag : Tag) → t ≡ TagToken tag → tag.name ≡ codes "form" → Fluid g template v (insert_form_void tag s)
       voided tag same e =
           let made = fluid-flow g template v kind NoGuard InsertVoid refl refl refl t k s tt fluid in
-          let named = (inserted-Made s.foster_parenting s.forest Html tag.name tag.attrs tag.had_duplicate_attributes s.open_elems fluid.poised.upright.standing.tree tt fluid.poised.upright.standing.opened).opened.named in
-          let made' : Fluid g template (loosened v) (for_tag insert_and_pop_element_for (TagToken tag) s) = subst (λ u. Fluid g template (loosened v) (for_tag insert_and_pop_element_for u s)) same made in
-          other-pointer g template t v (insert_and_pop_element_for tag s) (Some (node_count s.forest)) (named ∙ ap (λ name. Some (element_name_of Html name)) e) (exacted g template t v (insert_and_pop_element_for tag s) made' fluid.exact)
+          let named = (inserted-Made s.foster_parenting s.forest Html tag.name tag.attrs
+          tag.had_duplicate_attributes s.open_elems fluid.poised.upright.standing.tree tt
+          fluid.poised.upright.standing.opened).opened.named in
+          let made' : Fluid g template (loosened v) (for_tag insert_and_pop_element_for (TagToken tag) s) =
+          subst (λ u. Fluid g template (loosened v) (for_tag insert_and_pop_element_for u s)) same made in
+          other-pointer g template t v (insert_and_pop_element_for tag s) (Some (node_count s.forest))
+          (named ∙ ap (λ name. Some (element_name_of Html name)) e)
+          (exacted g template t v (insert_and_pop_element_for tag s) made' fluid.exact)
 
-  kept-holds : (kind : Kind) (gd : Guard) (a : Action) → is_of kind t ≡ true → (s : State) → Holds gd t s → Holds (kept_guard kind gd a) t (act a t s)
+  kept-holds : (kind : Kind) (gd : Guard) (a : Action) → is_of kind t ≡ true → (s : State) → Holds gd t s
+      → Holds (kept_guard kind gd a) t (act a t s)
   kept-holds kind gd a k s h = by (keeps kind gd a) refl where
     by : (b : Bool) → keeps kind gd a ≡ b → Holds (choose b (λ _. gd) (λ _. NoGuard)) t (act a t s)
     by true e = keeps-holds kind gd a e t k s h
     by false e = tt
 
-  when-run : (kind : Kind) (c : Condition) (a : Action) (v : At) (post : At → Bool) → post v ≡ true → is_of kind t ≡ true → (s : State) → Fluid g template v s → (Holds (guard_of kind v.base c) t s → Run g template t a s post) → Run g template t (When c a) s post
+  when-run : (kind : Kind) (c : Condition) (a : Action) (v : At) (post : At → Bool) → post v ≡ true
+      → is_of kind t ≡ true → (s : State) → Fluid g template v s
+      → (Holds (guard_of kind v.base c) t s → Run g template t a s post) → Run g template t (When c a) s post
   when-run kind c a v post ok k s fluid go = by (holds c t s) refl where
     by : (b : Bool) → holds c t s ≡ b → (w : At) × ((post w ≡ true) × Fluid g template w (choose b (λ _. act a t s) (λ _. s)))
     by true e = go (guard-holds g kind v.base c t s fluid.nested fluid.base k e)
     by false e = (v, (ok, fluid))
 
-  pub runs-sound : (kind : Kind) (gd : Guard) (a : Action) (v : At) (post : At → Bool) → runs kind gd a v post ≡ true → is_of kind t ≡ true → (s : State) → Holds gd t s → Fluid g template v s → Run g template t a s post
+  pub runs-sound : (kind : Kind) (gd : Guard) (a : Action) (v : At) (post : At → Bool)
+      → runs kind gd a v post ≡ true → is_of kind t ≡ true → (s : State) → Holds gd t s → Fluid g template v s → Run g template t a s post
   unfolding forget_form_elem
   runs-sound kind gd (Then InsertElement (When c SetFormElem)) v post h k s known fluid = form-run kind gd c v post h k s known fluid
   runs-sound kind gd (Then a b) v post h k s known fluid =
@@ -603,11 +750,16 @@ module _ (g : Ground) (template : Bool) (t : Token) where
   runs-sound kind gd InsertFormVoid v post h k s known fluid = form_void kind v post h k s fluid
   runs-sound kind gd ForgetFormElem v post h k s known fluid = (v, (h, forget-run g template t v s fluid))
   runs-sound kind gd InsertElement v post h k s known fluid =
-      or_by (smooth kind gd v.base InsertElement && post (loosened v)) _ h (λ h. smooth-run g template t kind gd InsertElement v post h k s known fluid) (λ h. element-run g template t kind v post h k s fluid)
+      or_by (smooth kind gd v.base InsertElement && post (loosened v)) _ h
+      (λ h. smooth-run g template t kind gd InsertElement v post h k s known fluid)
+      (λ h. element-run g template t kind v post h k s fluid)
   runs-sound kind gd (InsertNew name) v post h k s known fluid =
-      or_by (smooth kind gd v.base (InsertNew name) && post (loosened v)) _ h (λ h. smooth-run g template t kind gd (InsertNew name) v post h k s known fluid) (λ h. new-run g template t kind name v post h k s fluid)
+      or_by (smooth kind gd v.base (InsertNew name) && post (loosened v)) _ h
+      (λ h. smooth-run g template t kind gd (InsertNew name) v post h k s known fluid)
+      (λ h. new-run g template t kind name v post h k s fluid)
   runs-sound kind gd Pop v post h k s known fluid =
-      or_by (smooth kind gd v.base Pop && post (loosened v)) _ h (λ h. smooth-run g template t kind gd Pop v post h k s known fluid) (λ h. pop-run g template t kind gd v post h k s known fluid)
+      or_by (smooth kind gd v.base Pop && post (loosened v)) _ h
+      (λ h. smooth-run g template t kind gd Pop v post h k s known fluid) (λ h. pop-run g template t kind gd v post h k s known fluid)
   runs-sound kind gd (Close names) v post h k s known fluid = close-run g template t kind names v post h k s fluid
   runs-sound kind TokenBased CloseToken v post h k s known fluid = token-run g template t kind v post h k s known fluid
   runs-sound kind gd a v post h k s known fluid = smooth-run g template t kind gd a v post h k s known fluid

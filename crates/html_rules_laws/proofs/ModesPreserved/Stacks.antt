@@ -1,5 +1,6 @@
 -- Changes of the stack under which its parts nest as before.
-use Rattle.std.proofs.Common.{◌≡◌, ◌∙◌, ℕ, suc, Bool, true, false, List, [], ◌∷◌, Option, Some, None, refl, sym, ap, true≢false, inl, inr, ◌⊎◌}
+use Rattle.std.proofs.Common.{◌≡◌, ◌∙◌, ℕ, suc, Bool, true, false, List, [], ◌∷◌, Option, Some, None, refl, sym, ap, true≢false}
+use Rattle.std.proofs.Common.{inl, inr, ◌⊎◌}
 use Rattle.std.specs.Prelude.{◌||◌, ◌&&◌, nat_eq}
 use Rattle.std.proofs.lemmas.Bool.{and_parts, eq-eqb}
 use Rattle.html_rules.specs.Adoption.{furthest_block, is_number, opened_after, or_first}
@@ -9,7 +10,9 @@ use Rattle.html_rules.specs.Stack.{finds_generic, in_scope, left_below, left_fro
 use Rattle.html_rules.specs.State.{Open, is_in}
 use Rattle.html_rules.specs.declared.tag_set.TagSet.{TagSet}
 use Rattle.html_rules.specs.declared.tag_set.TagSet.TheVariants as set
-use Rattle.html_rules_laws.specs.Nesting.{Part, Root, HeadPart, BodyPart, Frames, Contents, TablePart, Section, RowPart, Cell, CaptionPart, Columns, Loose, Nothing, Ground, base, is_loose, may_stand, nested, part_of, set_of, takes, top}
+use Rattle.html_rules_laws.specs.Nesting.{Part, Root, HeadPart, BodyPart, Frames, Contents, TablePart, Section, RowPart, Cell}
+use Rattle.html_rules_laws.specs.Nesting.{CaptionPart, Columns, Loose, Nothing, Ground, base, is_loose, may_stand, nested}
+use Rattle.html_rules_laws.specs.Nesting.{part_of, set_of, takes, top}
 use Rattle.html_rules_laws.proofs.TreePreserved.AdoptionPlace.{none-some, special-is}
 use Rattle.html_rules_laws.proofs.SetFacts.{within}
 use Rattle.html_rules_laws.proofs.ModesPreserved.Parts.{part-within, set-part}
@@ -81,7 +84,8 @@ loose-takes g Columns q e h = absurd (cc)
 loose-takes g Nothing q e h = absurd (cc)
 
 -- what is on top then
-freed-top : (g : Ground) (xs ys : List Open) → Frees xs ys → nested g xs ≡ true → (top ys ≡ top xs) ⊎ ((top xs ≡ Loose) × (takes g (top ys) ≡ true))
+freed-top : (g : Ground) (xs ys : List Open) → Frees xs ys → nested g xs ≡ true → (top ys ≡ top xs)
+    ⊎ ((top xs ≡ Loose) × (takes g (top ys) ≡ true))
 freed-top g xs ys nil h = inl refl
 freed-top g xs ys (keep x xs' ys' f) h = inl refl
 freed-top g xs ys (drop x xs' ys' l f) h =
@@ -95,7 +99,11 @@ pub freed-nested : (g : Ground) (xs ys : List Open) → Frees xs ys → nested g
 freed-nested g xs ys nil h = h
 freed-nested g xs ys (keep x xs' ys' f) h =
     let parts = and_parts (may_stand g (part_of x) (top xs')) _ h in
-    both _ _ (elim (freed-top g xs' ys' f parts.1) [ inl same ↦ rw same parts.0 | inr under ↦ over-takes g (part_of x) (top ys') (rw under.0 at parts.0) under.1 ]) (freed-nested g xs' ys' f parts.1)
+    both _ _ (elim (freed-top g xs' ys' f parts.1) [
+      | inl same ↦ rw same parts.0
+      | inr under ↦ over-takes g (part_of x) (top ys') (rw under.0 at parts.0)
+          under.1
+    ]) (freed-nested g xs' ys' f parts.1)
 freed-nested g xs ys (drop x xs' ys' l f) h = freed-nested g xs' ys' f (and_parts (may_stand g (part_of x) (top xs')) _ h).1
 
 pub freed-base : (xs ys : List Open) → Frees xs ys → base ys ≡ base xs
@@ -124,7 +132,8 @@ takes-top g (x ∷ xs) h = by (is_loose (part_of x)) refl h where
   by true e h = rw (loose-is (part_of x) e) refl
   by false e h = h
 
-pub pushed-nested : (g : Ground) (x : Open) (xs : List Open) → IsLoose x → takes g (base xs) ≡ true → nested g xs ≡ true → nested g (x ∷ xs) ≡ true
+pub pushed-nested : (g : Ground) (x : Open) (xs : List Open) → IsLoose x → takes g (base xs) ≡ true
+    → nested g xs ≡ true → nested g (x ∷ xs) ≡ true
 pushed-nested g x xs l t h = both _ _ (rw l (takes-top g xs t)) h
 
 pub pushed-base : (x : Open) (xs : List Open) → IsLoose x → base (x ∷ xs) ≡ base xs
@@ -145,7 +154,8 @@ reach-frees p (x ∷ xs) h =
     let l = loose-is (part_of x) parts.0 in
     by l (p x) parts.1 (reach-frees p xs)
   where
-    by : IsLoose x → (b : Bool) → (b || reach p xs) ≡ true → (reach p xs ≡ true → Frees xs (left_below p xs)) → Frees (x ∷ xs) (choose b (λ _. xs) (λ _. left_below p xs))
+    by : IsLoose x → (b : Bool) → (b || reach p xs) ≡ true → (reach p xs ≡ true → Frees xs (left_below p xs))
+        → Frees (x ∷ xs) (choose b (λ _. xs) (λ _. left_below p xs))
     by l true h rest = drop x xs xs l (frees-same xs)
     by l false h rest = drop x xs (left_below p xs) l (rest h)
 
@@ -158,10 +168,12 @@ from-frees stop h (x ∷ xs) = by (stop x) refl (from-frees stop h xs) where
   by false e rest = drop x xs (left_from stop xs) (h x e) rest
 
 -- and one that passes is still reached
-pub from-reach : (p stop : Open → Bool) → ((x : Open) → p x ≡ true → stop x ≡ true) → (xs : List Open) → reach p xs ≡ true → reach p (left_from stop xs) ≡ true
+pub from-reach : (p stop : Open → Bool) → ((x : Open) → p x ≡ true → stop x ≡ true) → (xs : List Open)
+    → reach p xs ≡ true → reach p (left_from stop xs) ≡ true
 from-reach p stop h [] r = r
 from-reach p stop h (x ∷ xs) r = by (stop x) (p x) refl refl r (from-reach p stop h xs) where
-  by : (a b : Bool) → stop x ≡ a → p x ≡ b → (is_loose (part_of x) && (b || reach p xs)) ≡ true → (reach p xs ≡ true → reach p (left_from stop xs) ≡ true) → reach p (choose a (λ _. x ∷ xs) (λ _. left_from stop xs)) ≡ true
+  by : (a b : Bool) → stop x ≡ a → p x ≡ b → (is_loose (part_of x) && (b || reach p xs)) ≡ true
+      → (reach p xs ≡ true → reach p (left_from stop xs) ≡ true) → reach p (choose a (λ _. x ∷ xs) (λ _. left_from stop xs)) ≡ true
   by true b ea eb r rest = rw eb r
   by false true ea eb r rest = absurd (true≢false (sym (h x eb) ∙ ea))
   by false false ea eb r rest = rest (and_parts (is_loose (part_of x)) _ r).1
@@ -227,24 +239,32 @@ bounding scope h x b = by (part_of x) refl b where
   by p e b = no b
 
 -- nothing loose is in scope after a part
-pub blocked : (g : Ground) (scope : TagSet) → is_bounded scope ≡ true → (p : Open → Bool) (xs : List Open) → nested g xs ≡ true → AllOpen (λ x. p x ≡ true → IsLoose x) xs → is_loose (top xs) ≡ false → in_scope scope p xs ≡ false
+pub blocked : (g : Ground) (scope : TagSet) → is_bounded scope ≡ true → (p : Open → Bool) (xs : List Open)
+    → nested g xs ≡ true → AllOpen (λ x. p x ≡ true → IsLoose x) xs → is_loose (top xs) ≡ false → in_scope scope p xs ≡ false
 blocked g scope s p [] h all l = refl
 blocked g scope s p (x ∷ xs) h all l =
     let parts = and_parts (may_stand g (part_of x) (top xs)) _ h in
-    by (p x) (is_in scope x) (bounds (part_of x)) refl refl refl (λ b. blocked g scope s p xs parts.1 all.1 (solid g (part_of x) (top xs) l b parts.0))
+    by (p x) (is_in scope x) (bounds (part_of x)) refl refl refl
+    (λ b. blocked g scope s p xs parts.1 all.1 (solid g (part_of x) (top xs) l b parts.0))
   where
-    by : (a b c : Bool) → p x ≡ a → is_in scope x ≡ b → bounds (part_of x) ≡ c → (bounds (part_of x) ≡ false → in_scope scope p xs ≡ false) → choose a (λ _. true) (λ _. choose b (λ _. false) (λ _. in_scope scope p xs)) ≡ false
+    by : (a b c : Bool) → p x ≡ a → is_in scope x ≡ b → bounds (part_of x) ≡ c
+        → (bounds (part_of x) ≡ false → in_scope scope p xs ≡ false) → choose a (λ _. true)
+        (λ _. choose b (λ _. false) (λ _. in_scope scope p xs)) ≡ false
     by true b c ea eb ec rest = absurd (true≢false (sym (ap is_loose (all.0 ea)) ∙ l))
     by false true c ea eb ec rest = refl
     by false false true ea eb ec rest = absurd (true≢false (sym (bounding scope s x ec) ∙ eb))
     by false false false ea eb ec rest = rest ec
 
-pub scope-reach : (g : Ground) (scope : TagSet) → is_bounded scope ≡ true → (p : Open → Bool) (xs : List Open) → nested g xs ≡ true → AllOpen (λ x. p x ≡ true → IsLoose x) xs → in_scope scope p xs ≡ true → reach p xs ≡ true
+pub scope-reach : (g : Ground) (scope : TagSet) → is_bounded scope ≡ true → (p : Open → Bool) (xs : List Open)
+    → nested g xs ≡ true → AllOpen (λ x. p x ≡ true → IsLoose x) xs → in_scope scope p xs ≡ true → reach p xs ≡ true
 scope-reach g scope s p [] h all i = i
 scope-reach g scope s p (x ∷ xs) h all i =
-    by (is_loose (part_of x)) (p x) (is_in scope x) refl refl i (scope-reach g scope s p xs (and_parts (may_stand g (part_of x) (top xs)) _ h).1 all.1)
+    by (is_loose (part_of x)) (p x) (is_in scope x) refl refl i
+    (scope-reach g scope s p xs (and_parts (may_stand g (part_of x) (top xs)) _ h).1 all.1)
   where
-    by : (b c d : Bool) → is_loose (part_of x) ≡ b → p x ≡ c → choose c (λ _. true) (λ _. choose d (λ _. false) (λ _. in_scope scope p xs)) ≡ true → (in_scope scope p xs ≡ true → reach p xs ≡ true) → (b && (c || reach p xs)) ≡ true
+    by : (b c d : Bool) → is_loose (part_of x) ≡ b → p x ≡ c → choose c (λ _. true)
+        (λ _. choose d (λ _. false) (λ _. in_scope scope p xs)) ≡ true
+        → (in_scope scope p xs ≡ true → reach p xs ≡ true) → (b && (c || reach p xs)) ≡ true
     by false c d eb ec i' rest = absurd (true≢false (sym i ∙ blocked g scope s p (x ∷ xs) h all eb))
     by true true d eb ec i' rest = refl
     by true false true eb ec i' rest = no i'
@@ -274,13 +294,17 @@ special-loose x h = by (part_of x) refl where
   by Nothing e = special Nothing refl refl e
 
 -- where no part that was opened last passes
-pub generic-reach : (p : Open → Bool) (xs : List Open) → ((x : Open) → p x ≡ true → is_loose (part_of x) ≡ false → part_of x ≡ base xs → ⊥) → finds_generic p xs ≡ true → reach p xs ≡ true
+pub generic-reach : (p : Open → Bool) (xs : List Open) → ((x : Open) → p x ≡ true → is_loose (part_of x) ≡ false
+    → part_of x ≡ base xs → ⊥) → finds_generic p xs ≡ true → reach p xs ≡ true
 generic-reach p [] h f = f
 generic-reach p (x ∷ xs) h f =
     by (is_loose (part_of x)) (p x) (is_in set.SpecialTag x) refl refl refl h f (generic-reach p xs)
   where
-    by : (b c d : Bool) → is_loose (part_of x) ≡ b → p x ≡ c → is_in set.SpecialTag x ≡ d → ((y : Open) → p y ≡ true → is_loose (part_of y) ≡ false → part_of y ≡ choose b (λ _. base xs) (λ _. part_of x) → ⊥)
-        → choose c (λ _. true) (λ _. choose d (λ _. false) (λ _. finds_generic p xs)) ≡ true → (((y : Open) → p y ≡ true → is_loose (part_of y) ≡ false → part_of y ≡ base xs → ⊥) → finds_generic p xs ≡ true → reach p xs ≡ true) → (b && (c || reach p xs)) ≡ true
+    by : (b c d : Bool) → is_loose (part_of x) ≡ b → p x ≡ c → is_in set.SpecialTag x ≡ d
+        → ((y : Open) → p y ≡ true → is_loose (part_of y) ≡ false → part_of y ≡ choose b (λ _. base xs) (λ _. part_of x) → ⊥)
+        → choose c (λ _. true) (λ _. choose d (λ _. false) (λ _. finds_generic p xs)) ≡ true
+        → (((y : Open) → p y ≡ true → is_loose (part_of y) ≡ false → part_of y ≡ base xs → ⊥)
+        → finds_generic p xs ≡ true → reach p xs ≡ true) → (b && (c || reach p xs)) ≡ true
     by true true d eb ec ed h f rest = refl
     by true false true eb ec ed h f rest = no f
     by true false false eb ec ed h f rest = rest h f
@@ -296,30 +320,38 @@ after-loose n (x ∷ xs) h =
     let parts = and_parts (is_loose (part_of x)) _ h in
     by (loose-is (part_of x) parts.0) (nat_eq x.number n) parts.1 (after-loose n xs)
   where
-    by : IsLoose x → (b : Bool) → (b || reach (is_number n) xs) ≡ true → (reach (is_number n) xs ≡ true → AreLoose (opened_after n xs)) → AreLoose (choose b (λ _. []) (λ _. x ∷ opened_after n xs))
+    by : IsLoose x → (b : Bool) → (b || reach (is_number n) xs) ≡ true
+        → (reach (is_number n) xs ≡ true → AreLoose (opened_after n xs)) → AreLoose (choose b (λ _. []) (λ _. x ∷ opened_after n xs))
     by l true h rest = tt
     by l false h rest = (l, rest h)
 
 -- the block, and the elements that were opened after it
-pub block-loose : (n : ℕ) (block : Open) (xs : List Open) → AreLoose (opened_after n xs) → furthest_block (opened_after n xs) ≡ Some block → IsLoose block × AreLoose (opened_after block.number xs)
+pub block-loose : (n : ℕ) (block : Open) (xs : List Open) → AreLoose (opened_after n xs)
+    → furthest_block (opened_after n xs) ≡ Some block → IsLoose block × AreLoose (opened_after block.number xs)
 block-loose n block [] l e = absurd (none-some block e)
 block-loose n block (x ∷ xs) l e = by (nat_eq x.number n) l e (block-loose n block xs) where
   Go : Type 0
-  Go = AreLoose (opened_after n xs) → furthest_block (opened_after n xs) ≡ Some block → IsLoose block × AreLoose (opened_after block.number xs)
+  Go = AreLoose (opened_after n xs) → furthest_block (opened_after n xs) ≡ Some block → IsLoose block
+      × AreLoose (opened_after block.number xs)
 
-  later : (b : Bool) → IsLoose x → AreLoose (opened_after block.number xs) → AreLoose (choose b (λ _. []) (λ _. x ∷ opened_after block.number xs))
+  later : (b : Bool) → IsLoose x → AreLoose (opened_after block.number xs)
+      → AreLoose (choose b (λ _. []) (λ _. x ∷ opened_after block.number xs))
   later true l rest = tt
   later false l rest = (l, rest)
 
-  deeper : (o : Option Open) → furthest_block (opened_after n xs) ≡ o → IsLoose x → AreLoose (opened_after n xs) → or_first o x ≡ Some block → (AreLoose (opened_after n xs) → furthest_block (opened_after n xs) ≡ Some block → IsLoose block × AreLoose (opened_after block.number xs))
+  deeper : (o : Option Open) → furthest_block (opened_after n xs) ≡ o → IsLoose x → AreLoose (opened_after n xs)
+      → or_first o x ≡ Some block → (AreLoose (opened_after n xs) → furthest_block (opened_after n xs) ≡ Some block
+      → IsLoose block × AreLoose (opened_after block.number xs))
       → IsLoose block × AreLoose (opened_after block.number (x ∷ xs))
   deeper (Some other) h l ls e go = let rest = go ls (h ∙ e) in (rest.0, later (nat_eq x.number block.number) l rest.1)
   deeper None h l ls e go =
       let same = special-is (is_in set.SpecialTag x) x block e in
       (rw (← same) l, rw (← same) (rw (eq-eqb x.number x.number refl) tt))
 
-  by : (b : Bool) → AreLoose (choose b (λ _. []) (λ _. x ∷ opened_after n xs)) → furthest_block (choose b (λ _. []) (λ _. x ∷ opened_after n xs)) ≡ Some block
-      → (AreLoose (opened_after n xs) → furthest_block (opened_after n xs) ≡ Some block → IsLoose block × AreLoose (opened_after block.number xs)) → IsLoose block × AreLoose (opened_after block.number (x ∷ xs))
+  by : (b : Bool) → AreLoose (choose b (λ _. []) (λ _. x ∷ opened_after n xs))
+      → furthest_block (choose b (λ _. []) (λ _. x ∷ opened_after n xs)) ≡ Some block
+      → (AreLoose (opened_after n xs) → furthest_block (opened_after n xs) ≡ Some block → IsLoose block
+      × AreLoose (opened_after block.number xs)) → IsLoose block × AreLoose (opened_after block.number (x ∷ xs))
   by true l e go = absurd (none-some block e)
   by false l e go = deeper (furthest_block (opened_after n xs)) refl l.0 l.1 e go
 
@@ -327,6 +359,7 @@ block-loose n block (x ∷ xs) l e = by (nat_eq x.number n) l e (block-loose n b
 pub number-frees : (n : ℕ) (xs : List Open) → AllOpen (λ x. is_number n x ≡ true → IsLoose x) xs → Frees xs (without_number n xs)
 number-frees n [] all = nil
 number-frees n (x ∷ xs) all = by (nat_eq x.number n) refl (number-frees n xs all.1) where
-  by : (b : Bool) → nat_eq x.number n ≡ b → Frees xs (without_number n xs) → Frees (x ∷ xs) (choose b (λ _. xs) (λ _. x ∷ without_number n xs))
+  by : (b : Bool) → nat_eq x.number n ≡ b → Frees xs (without_number n xs)
+      → Frees (x ∷ xs) (choose b (λ _. xs) (λ _. x ∷ without_number n xs))
   by true e rest = drop x xs xs (all.0 e) (frees-same xs)
   by false e rest = keep x xs (without_number n xs) rest

@@ -4,17 +4,20 @@ use Rattle.std.specs.Prelude.{IfErr, IfOk}
 use Rattle.html_tokens.specs.Sink.{Unfit}
 use Rattle.html_tokens.specs.declared.token.Doctype.{Doctype}
 use Rattle.html_tokens.specs.declared.token.Token.{Token}
-use Rattle.html_tokens.specs.declared.token.Token.TheVariants.{DoctypeToken, TagToken, CommentToken, CharacterTokens, NullCharacterToken, EOFToken, ParseError as ErrorToken}
+use Rattle.html_tokens.specs.declared.token.Token.TheVariants.{DoctypeToken, TagToken, CommentToken, CharacterTokens}
+use Rattle.html_tokens.specs.declared.token.Token.TheVariants.{NullCharacterToken, EOFToken, ParseError as ErrorToken}
 use Rattle.markup.specs.declared.quirks.QuirksMode.{QuirksMode}
 use Rattle.html_rules.specs.Actions.{set_ignore_lf, set_quirks_mode}
 use Rattle.html_rules.specs.Choice.{choose}
 use Rattle.html_rules.specs.Doctypes.{doctype_error, quirks_of}
 use Rattle.html_rules.specs.Places.{append_doctype_to_document}
-use Rattle.html_rules.specs.Rules.{Ending, Finished, Again, Replied, Settled, check_acknowledged, four_for_each, is_self_closing, settle, settled_by, turn, within}
+use Rattle.html_rules.specs.Rules.{Ending, Finished, Again, Replied, Settled, check_acknowledged, four_for_each}
+use Rattle.html_rules.specs.Rules.{is_self_closing, settle, settled_by, turn, within}
 use Rattle.html_rules.specs.Shape.{is_fit}
 use Rattle.html_rules.specs.Stack.{parse_error}
 use Rattle.html_rules.specs.State.{Open, State, hushed}
-use Rattle.html_rules.specs.Step.{followed_by, after_line_feed, doctype_taken, first_doctype_taken, if_kept, is_barred, is_idle, step, taken, taken_by, text_taken, untouched}
+use Rattle.html_rules.specs.Step.{followed_by, after_line_feed, doctype_taken, first_doctype_taken, if_kept, is_barred, is_idle}
+use Rattle.html_rules.specs.Step.{step, taken, taken_by, text_taken, untouched}
 use Rattle.html_rules.specs.declared.insertion_mode.InsertionMode.{InsertionMode}
 use Rattle.html_rules.specs.declared.insertion_mode.InsertionMode.TheVariants as mode
 use Rattle.html_rules_laws.specs.Nesting.{AreReachedStatesFit, IsNested, Reached, document, fragment, token}
@@ -25,7 +28,8 @@ use Rattle.html_rules_laws.proofs.TreePreserved.StandingSteps.{doctype-Standing,
 use Rattle.html_rules_laws.proofs.TreePreserved.StandingTrees.{stays-nodes}
 use Rattle.html_rules_laws.proofs.StepLaws.{refusal_with, step-is}
 use Rattle.html_rules_laws.proofs.TreePreserved.Steps.{doctype-eased, quirks-eased}
-use Rattle.html_rules_laws.proofs.TreePreserved.Tokens.{IsKept, begins, come-kept, hushed-come, other-come, settle-kept, states-steady, taken-left, unlined}
+use Rattle.html_rules_laws.proofs.TreePreserved.Tokens.{IsKept, begins, come-kept, hushed-come, other-come, settle-kept}
+use Rattle.html_rules_laws.proofs.TreePreserved.Tokens.{states-steady, taken-left, unlined}
 use Rattle.html_rules_laws.proofs.TreePreserved.Turns.{turn-again}
 use Rattle.html_rules_laws.proofs.ModesPreserved.Begins.{nested-states}
 use Rattle.html_rules_laws.proofs.ModesPreserved.Fits.{nested-fits}
@@ -42,17 +46,21 @@ check-nested false t s h = by (is_self_closing t) where
   by true = erred-nested s h
   by false = h
 
-settled-nested : (again : State → Settled) (e : Ending) (t : Token) (s : State) → (e ≡ Again → IsNested (again s).state) → IsNested s → IsNested (settled_by again e t s).state
+settled-nested : (again : State → Settled) (e : Ending) (t : Token) (s : State)
+    → (e ≡ Again → IsNested (again s).state) → IsNested s → IsNested (settled_by again e t s).state
 settled-nested again (Finished acknowledged) t s go h = check-nested acknowledged t s h
 settled-nested again Again t s go h = go refl
 settled-nested again (Replied r) t s go h = h
 
-within-nested : (n : ℕ) (beyond : State → Settled) (t : Token) → ((s : State) → MayCome t s → IsNested s → IsNested (beyond s).state) → (s : State) → MayCome t s → IsNested s → IsNested (within n beyond t s).state
+within-nested : (n : ℕ) (beyond : State → Settled) (t : Token)
+    → ((s : State) → MayCome t s → IsNested s → IsNested (beyond s).state) → (s : State) → MayCome t s → IsNested s
+    → IsNested (within n beyond t s).state
 unfolding within
 within-nested zero beyond t go s may h = go s may h
 within-nested (suc n) beyond t go s may h =
     let made = turn-nested t s may h in
-    settled-nested (within n beyond t) (turn t s).ends t (turn t s).state (λ e. within-nested n beyond t go (turn t s).state (turn-again t s may e) made) made
+    settled-nested (within n beyond t) (turn t s).ends t (turn t s).state
+    (λ e. within-nested n beyond t go (turn t s).state (turn-again t s may e) made) made
 
 four-nested : (xs : List Open) (t : Token) (s : State) → MayCome t s → IsNested s → IsNested (four_for_each xs t s).state
 unfolding four_for_each
@@ -85,7 +93,12 @@ unfolding append_doctype_to_document
 first-put d s f = record {
   at = f.at;
   standing = doctype-Standing d s f.standing;
-  is = record { fits = f.is.fits; count = f.is.count; framed = f.is.framed; form = form-kept s.form_elem s.forest (append_doctype_to_document d s).forest (doctype-eased d s f.standing).names f.is.form };
+  is = record {
+    fits = f.is.fits;
+    count = f.is.count;
+    framed = f.is.framed;
+    form = form-kept s.form_elem s.forest (append_doctype_to_document d s).forest (doctype-eased d s f.standing).names f.is.form;
+  };
 }
 
 first-quirks : (q : QuirksMode) (s : State) → IsFirst s → IsFirst (set_quirks_mode q s)
@@ -93,7 +106,12 @@ unfolding set_quirks_mode
 first-quirks q s f = record {
   at = f.at;
   standing = quirks-Standing q s f.standing;
-  is = record { fits = f.is.fits; count = f.is.count; framed = f.is.framed; form = form-kept s.form_elem s.forest (set_quirks_mode q s).forest (quirks-eased q s f.standing).names f.is.form };
+  is = record {
+    fits = f.is.fits;
+    count = f.is.count;
+    framed = f.is.framed;
+    form = form-kept s.form_elem s.forest (set_quirks_mode q s).forest (quirks-eased q s f.standing).names f.is.form;
+  };
 }
 
 first-either : (b : Bool) (x y : State) → IsFirst x → IsFirst y → IsFirst (choose b (λ _. x) (λ _. y))
@@ -116,7 +134,8 @@ doctype-nested m d s at standing h = erred-nested s h
 -- a token that is taken
 
 taken_by-nested : (t : Token) (b : Bool) (s : State) → MayCome t s → IsNested s → IsNested (taken_by b t s).state
-taken_by-nested (CharacterTokens text) b s may h = text-nested (after_line_feed b text) (untouched s) (come-kept (CharacterTokens text) s may) h
+taken_by-nested (CharacterTokens text) b s may h = text-nested (after_line_feed b text) (untouched s)
+    (come-kept (CharacterTokens text) s may) h
 taken_by-nested (DoctypeToken d) b s may h = doctype-nested s.mode d s refl may.upright.standing h
 taken_by-nested (TagToken tag) b s may h = settle-nested (TagToken tag) s may h
 taken_by-nested (CommentToken text) b s may h = settle-nested (CommentToken text) s may h
@@ -143,7 +162,8 @@ hushed-nested s standing h = record {
 
 -- the step
 
-step-nested : (ended idle fit barred : Bool) (s : State) (t : Token) (line : ℕ) → s.has_ended ≡ ended → is_idle t ≡ idle → is_fit s ≡ fit → is_barred s.mode t ≡ barred → Steady s → IsNested s → IfOk (step s t line) (λ p. IsNested p.0)
+step-nested : (ended idle fit barred : Bool) (s : State) (t : Token) (line : ℕ) → s.has_ended ≡ ended
+    → is_idle t ≡ idle → is_fit s ≡ fit → is_barred s.mode t ≡ barred → Steady s → IsNested s → IfOk (step s t line) (λ p. IsNested p.0)
 unfolding refusal_with
 step-nested true idle fit barred s t line e i f b is n = rw (step-is s t line true idle fit barred e i f b) tt
 step-nested false true fit barred s t line e i f b is n = rw (step-is s t line false true fit barred e i f b) (rw i n)
@@ -152,7 +172,8 @@ step-nested false false true true s t line e i f b is n = rw (step-is s t line f
 step-nested false false true false s t line e i f b is n =
     let may = hushed-come t s (begins s is e f t) in
     rw (step-is s t line false false true false e i f b)
-    (rw i (hushed-nested (taken t (hushed s)).state (taken-left t (hushed s) may).upright.standing (taken-nested t (hushed s) may (hushed-nested s is.upright.standing n))))
+    (rw i (hushed-nested (taken t (hushed s)).state (taken-left t (hushed s) may).upright.standing
+    (taken-nested t (hushed s) may (hushed-nested s is.upright.standing n))))
 
 -- the states that are reached
 
@@ -164,8 +185,15 @@ token-nested : (s : State) (t : Token) (line : ℕ) → Steady s → IsNested s 
 token-nested s t line is n = step-nested s.has_ended (is_idle t) (is_fit s) (is_barred s.mode t) s t line refl refl refl refl is n
 
 reached-is : (s : State) → Reached s → IsReached s
-reached-is s (document setting f tree top) = record { steady = states-steady.document setting f tree top; is = nested-states.document setting f }
-reached-is s (fragment setting context form f tree top own named) = record { steady = states-steady.fragment setting context form f tree top own; is = nested-states.fragment setting context form f tree named }
+reached-is s (document setting f tree top) = record {
+  steady = states-steady.document setting f tree top;
+  is = nested-states.document setting f;
+}
+reached-is s (fragment setting context form f tree top own named) =
+    record {
+      steady = states-steady.fragment setting context form f tree top own;
+      is = nested-states.fragment setting context form f tree named;
+    }
 reached-is _ (token s r t line reply before e) =
     let was = reached-is s before in
     record {
@@ -176,7 +204,8 @@ reached-is _ (token s r t line reply before e) =
 reached-fit : (s : State) → Reached s → is_fit s ≡ true
 reached-fit s h = let is = reached-is s h in nested-fits s is.steady.sound.head is.is
 
-fit-taken : (ended idle barred : Bool) (s : State) (t : Token) (line : ℕ) → s.has_ended ≡ ended → is_idle t ≡ idle → is_fit s ≡ true → is_barred s.mode t ≡ barred → IfErr (step s t line) (λ refusal. refusal ≡ Unfit → ⊥)
+fit-taken : (ended idle barred : Bool) (s : State) (t : Token) (line : ℕ) → s.has_ended ≡ ended → is_idle t ≡ idle
+    → is_fit s ≡ true → is_barred s.mode t ≡ barred → IfErr (step s t line) (λ refusal. refusal ≡ Unfit → ⊥)
 unfolding refusal_with
 fit-taken true idle barred s t line e i f b = rw (step-is s t line true idle true barred e i f b) (λ same. absurd (cc))
 fit-taken false true barred s t line e i f b = rw (step-is s t line false true true barred e i f b) tt

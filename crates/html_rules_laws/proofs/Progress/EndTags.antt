@@ -1,4 +1,5 @@
--- While the text of an element is read, characters are told, and an end tag. A start tag that is told leaves its name as that of the last one.
+-- While the text of an element is read, characters are told, and an end tag. A start tag that is told leaves its name as that of the last
+-- one.
 use Rattle.std.proofs.Common.{◌≡◌, ℕ, suc, Bool, true, false, List, [], ◌∷◌, ◌++◌, Option, Some, None, refl}
 use Rattle.std.specs.Prelude.{drop, take, nat_eq, ◌&&◌, codes}
 use Rattle.html_tokens.specs.declared.states.RawKind.{RawKind}
@@ -18,7 +19,9 @@ use Rattle.html_tokens.specs.Items.{cdata_by, data_by, declaration_by, end_at, e
 use Rattle.html_tokens.specs.RawText.{ends_at_tag, has_references, is_fitting_end, raw_at, raw_by}
 use Rattle.html_tokens.specs.Reference.{Reference, fault_of_reference, reference_at}
 use Rattle.html_tokens.specs.Table.{Row}
-use Rattle.html_tokens.specs.Tags.{Opening, Quote, Close, Other, Part, Space, Solidus, End, Attributes, attribute_after, attribute_by, after_tag, equals_by, has_attribute, last_name, opened_at, opened_by, opening, part, quote_at, slash_by, tag_by, value_at, with_attribute}
+use Rattle.html_tokens.specs.Tags.{Opening, Quote, Close, Other, Part, Space, Solidus, End, Attributes, attribute_after}
+use Rattle.html_tokens.specs.Tags.{attribute_by, after_tag, equals_by, has_attribute, last_name, opened_at, opened_by, opening}
+use Rattle.html_tokens.specs.Tags.{part, quote_at, slash_by, tag_by, value_at, with_attribute}
 use Rattle.html_tokens.proofs.Declarations.{Holds, all as every, bogus, doctype_at, empty_by}
 use Rattle.html_rules.specs.ForeignContent.{is_end_tag, is_start_tag}
 use Rattle.html_rules_laws.specs.Joint.{is_raw_place}
@@ -35,7 +38,9 @@ abbrev pub Fits : Option (List ℕ) → Option Token → Stand → Type 0
 Fits last o next = MayTell o next.place × (next.last_start_tag ≡ last)
 
 -- What holds inside of a tag of a kind, and after it where it ends, holds of each item there.
-module _ (P : Option Token → Stand → Type 0) (st : Stand) (Q : TagKind → Type 0) (inside : (tag : Tag) → Q tag.kind → P None (moved st (InTag tag))) (over : (tag : Tag) → Q tag.kind → P (Some (TagToken tag)) (after_tag st tag)) where
+module _ (P : Option Token → Stand → Type 0) (st : Stand) (Q : TagKind → Type 0)
+    (inside : (tag : Tag) → Q tag.kind → P None (moved st (InTag tag)))
+    (over : (tag : Tag) → Q tag.kind → P (Some (TagToken tag)) (after_tag st tag)) where
   with-kind : (tag : Tag) (name value : List ℕ) → Q tag.kind → Q (with_attribute tag name value).kind
   with-kind tag name value e = by (has_attribute tag name) where
     by : (b : Bool) → Q (attribute_by b tag name value).kind
@@ -49,7 +54,8 @@ module _ (P : Option Token → Stand → Type 0) (st : Stand) (Q : TagKind → T
   quote-holds n tag [] e = inside tag e
   quote-holds n tag (c ∷ t) e = inside tag e
 
-  opened-holds : (o : Opening) (rows : List Row) (tag : Tag) (name : List ℕ) (c : ℕ) (t : List ℕ) → Q tag.kind → Holds P (opened_by o rows st tag name c t)
+  opened-holds : (o : Opening) (rows : List Row) (tag : Tag) (name : List ℕ) (c : ℕ) (t : List ℕ) → Q tag.kind
+      → Holds P (opened_by o rows st tag name c t)
   opened-holds Quote rows tag name c t e = quote-holds _ (with_attribute tag name _) _ (with-kind tag name _ e)
   opened-holds Close rows tag name c t e = with-attribute tag name [] e
   opened-holds Other rows tag name c t e = with-attribute tag name _ e
@@ -68,7 +74,8 @@ module _ (P : Option Token → Stand → Type 0) (st : Stand) (Q : TagKind → T
   attribute-holds : (rows : List Row) (tag : Tag) (front t : List ℕ) → Q tag.kind → Holds P (attribute_after rows st tag front t)
   attribute-holds rows tag front t e =
       let n = run ends_attribute_name t in
-      every P n _ (equals-holds (begins (codes "=") (drop (white (drop n t)) (drop n t))) rows tag (front ++ all_lowered (take n t)) (drop n t) e)
+      every P n _ (equals-holds (begins (codes "=") (drop (white (drop n t)) (drop n t))) rows tag
+      (front ++ all_lowered (take n t)) (drop n t) e)
 
   slash-holds : (b : Bool) (tag : Tag) → Q tag.kind → Holds P (slash_by b st tag)
   slash-holds true tag e = over (record tag { self_closing = true }) e
@@ -85,26 +92,32 @@ end-same : (kind : TagKind) (name : List ℕ) (last : Option (List ℕ)) → is_
 end-same StartTag name last e = no e
 end-same EndTag name last e = refl
 
-part-fits : (p : Part) (rows : List Row) (st : Stand) (tag : Tag) (c : ℕ) (t : List ℕ) → is_end_tag tag.kind ≡ true → Holds (Fits st.last_start_tag) (tag_by p rows st tag c t)
-part-fits p rows st tag c t e = part-holds (Fits st.last_start_tag) st (λ kind. is_end_tag kind ≡ true) (λ tag e. (e, refl)) (λ tag e. (e, end-same tag.kind tag.name st.last_start_tag e)) p rows tag c t e
+part-fits : (p : Part) (rows : List Row) (st : Stand) (tag : Tag) (c : ℕ) (t : List ℕ) → is_end_tag tag.kind ≡ true
+    → Holds (Fits st.last_start_tag) (tag_by p rows st tag c t)
+part-fits p rows st tag c t e = part-holds (Fits st.last_start_tag) st (λ kind. is_end_tag kind ≡ true)
+    (λ tag e. (e, refl)) (λ tag e. (e, end-same tag.kind tag.name st.last_start_tag e)) p rows tag c t e
 
 -- raw text
 
-reference-fits : (rows : List Row) (st : Stand) (t : List ℕ) → is_raw_place st.place ≡ true → Holds (Fits st.last_start_tag) (reference_item (fault_of_reference rows t) (reference_at false rows t) st)
+reference-fits : (rows : List Row) (st : Stand) (t : List ℕ) → is_raw_place st.place ≡ true
+    → Holds (Fits st.last_start_tag) (reference_item (fault_of_reference rows t) (reference_at false rows t) st)
 reference-fits rows st t h = by (reference_at false rows t) where
   by : (o : Option Reference) → Holds (Fits st.last_start_tag) (reference_item (fault_of_reference rows t) o st)
   by None = (h, refl)
   by (Some r) = (h, refl)
 
-raw-fits : (rows : List Row) (st : Stand) (kind : RawKind) (c : ℕ) (t : List ℕ) → is_raw_place st.place ≡ true → Holds (Fits st.last_start_tag) (raw_at rows st kind c t)
-raw-fits rows st kind c t h = by (nat_eq c 60 && ends_at_tag kind && is_fitting_end st.last_start_tag t) (nat_eq c 38 && has_references kind) where
-  by : (a b : Bool) → Holds (Fits st.last_start_tag) (raw_by a b rows st kind c t)
-  by true b = (refl, refl)
-  by false true = reference-fits rows st t h
-  by false false = (refl, refl)
+raw-fits : (rows : List Row) (st : Stand) (kind : RawKind) (c : ℕ) (t : List ℕ) → is_raw_place st.place ≡ true
+    → Holds (Fits st.last_start_tag) (raw_at rows st kind c t)
+raw-fits rows st kind c t h = by (nat_eq c 60 && ends_at_tag kind && is_fitting_end st.last_start_tag t)
+    (nat_eq c 38 && has_references kind) where
+      by : (a b : Bool) → Holds (Fits st.last_start_tag) (raw_by a b rows st kind c t)
+      by true b = (refl, refl)
+      by false true = reference-fits rows st t h
+      by false false = (refl, refl)
 
 -- the item there
-pub item-fits : (rows : List Row) (cdata : Bool) (st : Stand) (c : ℕ) (t : List ℕ) → is_raw_place st.place ≡ true → Holds (Fits st.last_start_tag) (item rows cdata st c t)
+pub item-fits : (rows : List Row) (cdata : Bool) (st : Stand) (c : ℕ) (t : List ℕ) → is_raw_place st.place ≡ true
+    → Holds (Fits st.last_start_tag) (item rows cdata st c t)
 item-fits rows cdata st c t h = by st.place refl h where
   by : (p : TextPlace) → st.place ≡ p → is_raw_place p ≡ true → Holds (Fits st.last_start_tag) (item_in p rows cdata st c t)
   by (InRaw kind) e h = raw-fits rows st kind c t (rw e h)
@@ -134,8 +147,10 @@ abbrev bogus-leaves : (st : Stand) (t : List ℕ) → Holds LeavesName (bogus_co
 bogus-leaves st t = bogus LeavesName (λ st. Unit {0}) comment-leaves doctype-leaves st tt t []
 
 declaration-leaves : (a b e : Bool) (st : Stand) (t : List ℕ) → Holds LeavesName (declaration_by a b e st t)
-declaration-leaves true b e st t = every LeavesName 4 (comment_at st (drop 2 t)) (empty_by LeavesName (λ st. Unit {0}) comment-leaves doctype-leaves _ _ st (drop 2 t) tt)
-declaration-leaves false true e st t = every LeavesName 9 (doctype_item st (drop 7 t)) (doctype_at LeavesName (λ st. Unit {0}) comment-leaves doctype-leaves st tt (drop 7 t))
+declaration-leaves true b e st t = every LeavesName 4 (comment_at st (drop 2 t))
+    (empty_by LeavesName (λ st. Unit {0}) comment-leaves doctype-leaves _ _ st (drop 2 t) tt)
+declaration-leaves false true e st t = every LeavesName 9 (doctype_item st (drop 7 t))
+    (doctype_at LeavesName (λ st. Unit {0}) comment-leaves doctype-leaves st tt (drop 7 t))
 declaration-leaves false false true st t = tt
 declaration-leaves false false false st t = bogus-leaves st t
 
@@ -171,7 +186,8 @@ null-leaves : (b : Bool) (c : ℕ) (st : Stand) → Holds LeavesName (null_by b 
 null-leaves true c st = tt
 null-leaves false c st = tt
 
-data-leaves : (a b : Bool) (rows : List Row) (cdata : Bool) (st : Stand) (c : ℕ) (t : List ℕ) → Holds LeavesName (data_by a b rows cdata st c t)
+data-leaves : (a b : Bool) (rows : List Row) (cdata : Bool) (st : Stand) (c : ℕ) (t : List ℕ)
+    → Holds LeavesName (data_by a b rows cdata st c t)
 data-leaves true b rows cdata st c t = open-leaves cdata st t
 data-leaves false true rows cdata st c t = reference-leaves (reference_at false rows t) _ st
 data-leaves false false rows cdata st c t = null-leaves (nat_eq c 0) c st
@@ -180,7 +196,8 @@ cdata-leaves : (b : Bool) (st : Stand) (c : ℕ) → Holds LeavesName (cdata_by 
 cdata-leaves true st c = tt
 cdata-leaves false st c = null-leaves (nat_eq c 0) c st
 
-raw-leaves : (a b : Bool) (rows : List Row) (st : Stand) (kind : RawKind) (c : ℕ) (t : List ℕ) → Holds LeavesName (raw_by a b rows st kind c t)
+raw-leaves : (a b : Bool) (rows : List Row) (st : Stand) (kind : RawKind) (c : ℕ) (t : List ℕ)
+    → Holds LeavesName (raw_by a b rows st kind c t)
 raw-leaves true b rows st kind c t = tt
 raw-leaves false true rows st kind c t = reference-leaves (reference_at false rows t) _ st
 raw-leaves false false rows st kind c t = tt
@@ -192,4 +209,5 @@ item-leaves rows cdata st c t = by st.place where
   by (InRaw kind) = raw-leaves _ _ rows st kind c t
   by InPlaintext = tt
   by InCdata = cdata-leaves _ st c
-  by (InTag tag) = part-holds LeavesName st (λ kind. Unit {0}) (λ tag u. tt) (λ tag u. own-name tag.kind tag.name st.last_start_tag) (part c) rows tag c t tt
+  by (InTag tag) = part-holds LeavesName st (λ kind. Unit {0}) (λ tag u. tt)
+      (λ tag u. own-name tag.kind tag.name st.last_start_tag) (part c) rows tag c t tt

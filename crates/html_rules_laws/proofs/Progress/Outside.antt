@@ -5,7 +5,8 @@ use Rattle.std.proofs.lemmas.Bool.{and_parts}
 use Rattle.html_tokens.specs.Sink.{Reply}
 use Rattle.html_tokens.specs.declared.replies.TokenSinkResult.TheVariants.{RawData}
 use Rattle.html_tokens.specs.declared.token.Token.{Token}
-use Rattle.html_rules.specs.Actions.{act, restore_mode, save_mode, or_mode, pop_template_mode, push_head_elem, push_template_mode, set_head_elem, set_mode, set_template_mode}
+use Rattle.html_rules.specs.Actions.{act, restore_mode, save_mode, or_mode, pop_template_mode, push_head_elem}
+use Rattle.html_rules.specs.Actions.{push_template_mode, set_head_elem, set_mode, set_template_mode}
 use Rattle.html_rules.specs.Choice.{choose}
 use Rattle.html_rules.specs.Conditions.{holds}
 use Rattle.html_rules.specs.ForeignContent.{foreign_start, is_foreign}
@@ -13,11 +14,17 @@ use Rattle.html_rules.specs.Modes.Foreign.{in_foreign_content}
 use Rattle.html_rules.specs.Names.{Html}
 use Rattle.html_rules.specs.Places.{create_root}
 use Rattle.html_rules.specs.Reset.{mode_of_html, mode_of_open, reset_insertion_mode}
-use Rattle.html_rules.specs.Rules.{Ending, Finished, Again, Replied, Settled, Turn, check_acknowledged, concluded, first_fit, fits, four_for_each, is_self_closing, most_modes, rows, settle, settled_by, turn, turn_by_row, using_rules_for, within}
+use Rattle.html_rules.specs.Rules.{Ending, Finished, Again, Replied, Settled, Turn, check_acknowledged, concluded, first_fit}
+use Rattle.html_rules.specs.Rules.{fits, four_for_each, is_self_closing, most_modes, rows, settle, settled_by, turn}
+use Rattle.html_rules.specs.Rules.{turn_by_row, using_rules_for, within}
 use Rattle.html_rules.specs.Sets.{names_of}
 use Rattle.html_rules.specs.Stack.{parse_error}
 use Rattle.html_rules.specs.State.{Open, State, adjusted_current_node, current_number}
-use Rattle.html_rules.specs.Table.{Row, Action, Then, When, InsertNew, CreateRoot, CreateNewRoot, InsertTemplate, SetHeadElem, PushHeadElem, SwitchTo, SaveMode, RestoreMode, ResetMode, PushTemplateMode, SetTemplateMode, PopTemplateMode, InsertForeign, Conclusion, Done, Acknowledged, Reprocess, ReprocessInOriginal, ReprocessInMode, Using, UsingThen, UsingCurrentMode, RawText, PlainText, RunScript, ReportEncoding}
+use Rattle.html_rules.specs.Table.{Row, Action, Then, When, InsertNew, CreateRoot, CreateNewRoot, InsertTemplate, SetHeadElem}
+use Rattle.html_rules.specs.Table.{PushHeadElem, SwitchTo, SaveMode, RestoreMode, ResetMode, PushTemplateMode, SetTemplateMode}
+use Rattle.html_rules.specs.Table.{PopTemplateMode, InsertForeign, Conclusion, Done, Acknowledged, Reprocess}
+use Rattle.html_rules.specs.Table.{ReprocessInOriginal, ReprocessInMode, Using, UsingThen, UsingCurrentMode, RawText, PlainText}
+use Rattle.html_rules.specs.Table.{RunScript, ReportEncoding}
 use Rattle.html_rules.specs.Templates.{insert_template}
 use Rattle.html_rules.specs.declared.insertion_mode.InsertionMode.{InsertionMode}
 use Rattle.html_rules.specs.declared.insertion_mode.InsertionMode.TheVariants as mode
@@ -47,7 +54,11 @@ pub record Outside (s : State) : Type 0 where
   pub modes : are_template_modes s.template_modes ≡ true
 
 pub aside-outside : (s r : State) → IsAside s r → Outside s → Outside r
-aside-outside s r aside h = record { mode = ap is_text aside.mode ∙ h.mode; original = ap is_text_original aside.original ∙ h.original; modes = rw aside.modes h.modes }
+aside-outside s r aside h = record {
+  mode = ap is_text aside.mode ∙ h.mode;
+  original = ap is_text_original aside.original ∙ h.original;
+  modes = rw aside.modes h.modes;
+}
 
 -- the mode that is reset
 
@@ -97,11 +108,13 @@ pub moved-out : (m : InsertionMode) → is_text m ≡ false → (s : State) → 
 unfolding set_mode
 moved-out m k s h = record { mode = k; original = h.original; modes = h.modes }
 
-pub back-out : (s : State) → is_text s.mode ≡ false → is_text_original s.orig_mode ≡ false → are_template_modes s.template_modes ≡ true → Outside (restore_mode s)
+pub back-out : (s : State) → is_text s.mode ≡ false → is_text_original s.orig_mode ≡ false
+    → are_template_modes s.template_modes ≡ true → Outside (restore_mode s)
 unfolding restore_mode
 back-out s k o m = record { mode = or-out s.orig_mode s.mode o k; original = refl; modes = m }
 
-pub reset-out : (s : State) → is_text_original s.orig_mode ≡ false → are_template_modes s.template_modes ≡ true → Outside (reset_insertion_mode s)
+pub reset-out : (s : State) → is_text_original s.orig_mode ≡ false → are_template_modes s.template_modes ≡ true
+    → Outside (reset_insertion_mode s)
 unfolding reset_insertion_mode
 reset-out s o m = record { mode = open-out s s.open_elems m; original = o; modes = m }
 
@@ -122,7 +135,8 @@ act-out CreateNewRoot p t s h = record { mode = h.mode; original = h.original; m
 act-out InsertTemplate p t s h = aside-outside s _ (for_tag-keeps aside_kept insert_template t (template-keeps aside_kept) s) h
 act-out SetHeadElem p t s h = record { mode = h.mode; original = h.original; modes = h.modes }
 act-out PushHeadElem p t s h = aside-outside s _ (push_head-keeps aside_kept s.head_elem s) h
-act-out InsertForeign p t s h = aside-outside s _ (for_tag-keeps aside_kept foreign_start t (λ tag s. foreign-keeps aside_kept (adjusted_current_node s) tag s) s) h
+act-out InsertForeign p t s h = aside-outside s _
+    (for_tag-keeps aside_kept foreign_start t (λ tag s. foreign-keeps aside_kept (adjusted_current_node s) tag s) s) h
 act-out a p t s h = aside-outside s _ (act-aside Texts a p t s) h
 
 -- actions that do, last of all
@@ -177,7 +191,9 @@ IsRawEnd (Replied r) = IsRaw r
 IsOut : Turn → Type 0
 IsOut made = Outside made.state ⊎ ((made.state.mode ≡ mode.Text) × IsRawEnd made.ends)
 
-concluded-out : (using : InsertionMode → Token → State → Turn) (t : Token) → ((m : InsertionMode) (s : State) → Outside s → IsOut (using m t s)) → (e : Conclusion) → ends_out e ≡ true → (script : ℕ) (s : State) → Outside s → IsOut (concluded using e t script s)
+concluded-out : (using : InsertionMode → Token → State → Turn) (t : Token)
+    → ((m : InsertionMode) (s : State) → Outside s → IsOut (using m t s)) → (e : Conclusion) → ends_out e ≡ true
+    → (script : ℕ) (s : State) → Outside s → IsOut (concluded using e t script s)
 unfolding IsOut
 concluded-out using t go Done h script s o = inl o
 concluded-out using t go Acknowledged h script s o = inl o
@@ -188,30 +204,42 @@ concluded-out using t go (Using m) h script s o = go m s o
 concluded-out using t go (UsingThen m after) h script s o =
     let made : Turn = using m t s in
     let aside = act-aside Texts after h t made.state in
-    elim (go m s o) [ inl out ↦ inl (aside-outside made.state (act after t made.state) aside out) | inr raw ↦ inr (aside.mode ∙ raw.0, raw.1) ]
+    elim (go m s o) [
+      | inl out ↦ inl (aside-outside made.state (act after t made.state) aside out)
+      | inr raw ↦
+          inr (aside.mode ∙ raw.0, raw.1)
+    ]
 concluded-out using t go UsingCurrentMode h script s o = go s.mode s o
 concluded-out using t go (RawText kind) h script s o = inl o
 concluded-out using t go PlainText h script s o = inl o
 concluded-out using t go RunScript h script s o = inl o
 concluded-out using t go ReportEncoding h script s o = inl o
 
-raw-out : (using : InsertionMode → Token → State → Turn) (t : Token) (a : Action) (e : Conclusion) → to_text a ≡ true → is_raw e ≡ true → (script : ℕ) (s : State) → IsOut (concluded using e t script (act a t s))
+raw-out : (using : InsertionMode → Token → State → Turn) (t : Token) (a : Action) (e : Conclusion)
+    → to_text a ≡ true → is_raw e ≡ true → (script : ℕ) (s : State) → IsOut (concluded using e t script (act a t s))
 unfolding IsOut
 raw-out using t a (RawText kind) h r script s = inr (act-text a h t s, tt)
 raw-out using t a e h r script s = no r
 
-row-out : (using : InsertionMode → Token → State → Turn) (t : Token) → ((m : InsertionMode) (s : State) → Outside s → IsOut (using m t s)) → (r : Row) → row_out r ≡ true → (s : State) → Outside s → IsOut (turn_by_row using r t s)
+row-out : (using : InsertionMode → Token → State → Turn) (t : Token)
+    → ((m : InsertionMode) (s : State) → Outside s → IsOut (using m t s)) → (r : Row) → row_out r ≡ true
+    → (s : State) → Outside s → IsOut (turn_by_row using r t s)
 row-out using t go r h s o =
     or_by (out_in r.does && ends_out r.ends) _ h
-    (λ k. let tests = and_parts (out_in r.does) (ends_out r.ends) k in concluded-out using t go r.ends tests.1 (current_number s.open_elems) (act r.does t s) (act-out r.does tests.0 t s o))
-    (λ k. let tests = and_parts (to_text r.does) (is_raw r.ends) k in raw-out using t r.does r.ends tests.0 tests.1 (current_number s.open_elems) s)
+    (λ k. let tests = and_parts (out_in r.does) (ends_out r.ends) k in concluded-out using t go r.ends tests.1
+    (current_number s.open_elems) (act r.does t s) (act-out r.does tests.0 t s o))
+    (λ k. let tests = and_parts (to_text r.does) (is_raw r.ends) k in raw-out using t r.does r.ends tests.0 tests.1
+    (current_number s.open_elems) s)
 
-first-out : (using : InsertionMode → Token → State → Turn) (t : Token) → ((m : InsertionMode) (s : State) → Outside s → IsOut (using m t s)) → (rs : List Row) → all_out rs ≡ true → (s : State) → Outside s → IsOut (turn_by_row using (first_fit rs t s) t s)
+first-out : (using : InsertionMode → Token → State → Turn) (t : Token)
+    → ((m : InsertionMode) (s : State) → Outside s → IsOut (using m t s)) → (rs : List Row) → all_out rs ≡ true
+    → (s : State) → Outside s → IsOut (turn_by_row using (first_fit rs t s) t s)
 unfolding IsOut
 first-out using t go [] h s o = inl o
 first-out using t go (r ∷ rs) h s o =
     let tests = and_parts (row_out r) (all_out rs) h in
-    by_fit (λ r. IsOut (turn_by_row using r t s)) r (first_fit rs t s) (fits r t s) (λ fit. row-out using t go r tests.0 s o) (first-out using t go rs tests.1 s o)
+    by_fit (λ r. IsOut (turn_by_row using r t s)) r (first_fit rs t s) (fits r t s)
+    (λ fit. row-out using t go r tests.0 s o) (first-out using t go rs tests.1 s o)
 
 using-out : (n : ℕ) (t : Token) (m : InsertionMode) (s : State) → Outside s → IsOut (using_rules_for n m t s)
 unfolding using_rules_for IsOut
@@ -228,7 +256,9 @@ either-turn false x y h k = k
 
 turn-out : (t : Token) (s : State) → Outside s → IsOut (turn t s)
 unfolding turn
-turn-out t s o = either-turn (is_foreign s t) _ _ (first-out (using_rules_for most_modes) t (using-out most_modes t) in_foreign_content foreign-out s o) (using-out most_modes t s.mode s o)
+turn-out t s o = either-turn (is_foreign s t) _ _
+    (first-out (using_rules_for most_modes) t (using-out most_modes t) in_foreign_content foreign-out s o)
+    (using-out most_modes t s.mode s o)
 
 -- a token
 
@@ -242,15 +272,18 @@ pub check-out : (acknowledged : Bool) (t : Token) (s : State) → Outside s → 
 check-out true t s o = o
 check-out false t s o = either-out (is_self_closing t) (parse_error s) s (error-out s o) o
 
-settled-out : (again : State → Settled) → ((s : State) → Outside s → IsOutside (again s)) → (e : Ending) (t : Token) (s : State) → Outside s ⊎ ((s.mode ≡ mode.Text) × IsRawEnd e) → IsOutside (settled_by again e t s)
+settled-out : (again : State → Settled) → ((s : State) → Outside s → IsOutside (again s)) → (e : Ending) (t : Token)
+    (s : State) → Outside s ⊎ ((s.mode ≡ mode.Text) × IsRawEnd e) → IsOutside (settled_by again e t s)
 settled-out again go (Finished acknowledged) t s h = elim h [ inl o ↦ inl (check-out acknowledged t s o) | inr raw ↦ absurd raw.1 ]
 settled-out again go Again t s h = elim h [ inl o ↦ go s o | inr raw ↦ absurd raw.1 ]
 settled-out again go (Replied r) t s h = h
 
-within-out : (n : ℕ) (beyond : State → Settled) (t : Token) → ((s : State) → Outside s → IsOutside (beyond s)) → (s : State) → Outside s → IsOutside (within n beyond t s)
+within-out : (n : ℕ) (beyond : State → Settled) (t : Token) → ((s : State) → Outside s → IsOutside (beyond s))
+    → (s : State) → Outside s → IsOutside (within n beyond t s)
 unfolding within IsOut
 within-out zero beyond t go s o = go s o
-within-out (suc n) beyond t go s o = settled-out (within n beyond t) (within-out n beyond t go) (turn t s).ends t (turn t s).state (turn-out t s o)
+within-out (suc n) beyond t go s o = settled-out (within n beyond t) (within-out n beyond t go) (turn t s).ends t
+    (turn t s).state (turn-out t s o)
 
 four-out : (xs : List Open) (t : Token) (s : State) → Outside s → IsOutside (four_for_each xs t s)
 unfolding four_for_each

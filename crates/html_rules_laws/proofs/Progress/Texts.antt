@@ -1,5 +1,6 @@
 -- No token of a text is refused.
-use Rattle.std.proofs.Common.{◌≡◌, ◌∙◌, ℕ, zero, suc, ◌-◌, ◌+◌, Bool, true, false, List, [], ◌∷◌, Option, Some, None, Result, Ok, Err, refl, sym, ap, subst, true≢false, inl, inr, ◌⊎◌}
+use Rattle.std.proofs.Common.{◌≡◌, ◌∙◌, ℕ, zero, suc, ◌-◌, ◌+◌, Bool, true, false, List, [], ◌∷◌, Option, Some, None, Result}
+use Rattle.std.proofs.Common.{Ok, Err, refl, sym, ap, subst, true≢false, inl, inr, ◌⊎◌}
 use Rattle.std.specs.Prelude.{take, IfOk, IsOk}
 use Rattle.std.proofs.lemmas.Bool.{and_parts}
 use Rattle.markup.specs.Forest.{Forest}
@@ -17,7 +18,8 @@ use Rattle.html_tokens.specs.declared.tags.TagKind.{TagKind}
 use Rattle.html_tokens.specs.declared.tags.TagKind.TheVariants.{StartTag, EndTag}
 use Rattle.html_tokens.specs.declared.token.Doctype.{Doctype}
 use Rattle.html_tokens.specs.declared.token.Token.{Token}
-use Rattle.html_tokens.specs.declared.token.Token.TheVariants.{DoctypeToken, TagToken, CommentToken, CharacterTokens, NullCharacterToken, EOFToken, ParseError as ErrorToken}
+use Rattle.html_tokens.specs.declared.token.Token.TheVariants.{DoctypeToken, TagToken, CommentToken, CharacterTokens}
+use Rattle.html_tokens.specs.declared.token.Token.TheVariants.{NullCharacterToken, EOFToken, ParseError as ErrorToken}
 use Rattle.html_rules.specs.Actions.{restore_mode, or_mode, set_ignore_lf, set_mode, set_quirks_mode}
 use Rattle.html_rules.specs.Choice.{choose}
 use Rattle.html_rules.specs.Conditions.{context_is, is_nonempty}
@@ -27,12 +29,14 @@ use Rattle.html_rules.specs.ForeignContent.{asks_cdata, is_end_tag, is_foreign, 
 use Rattle.html_rules.specs.Modes.Foreign.{in_foreign_content}
 use Rattle.html_rules.specs.Places.{append_doctype_to_document, append_text, create_root}
 use Rattle.html_rules.specs.Reset.{reset_insertion_mode}
-use Rattle.html_rules.specs.Rules.{Finished, Settled, Turn, first_fit, most_modes, rows, settle, settled_by, turn, turn_by_row, using_rules_for, within, four_for_each}
+use Rattle.html_rules.specs.Rules.{Finished, Settled, Turn, first_fit, most_modes, rows, settle, settled_by, turn, turn_by_row}
+use Rattle.html_rules.specs.Rules.{using_rules_for, within, four_for_each}
 use Rattle.html_rules.specs.Sets.{is_among, names_of}
 use Rattle.html_rules.specs.Shape.{is_fit}
 use Rattle.html_rules.specs.Stack.{parse_error, pop_but_root}
 use Rattle.html_rules.specs.State.{Open, State, hushed, is_in}
-use Rattle.html_rules.specs.Step.{answered, followed_by, after_line_feed, doctype_taken, ended, first_doctype_taken, if_kept, is_barred, is_idle, step, taken, taken_by, text_taken, untouched}
+use Rattle.html_rules.specs.Step.{answered, followed_by, after_line_feed, doctype_taken, ended, first_doctype_taken, if_kept}
+use Rattle.html_rules.specs.Step.{is_barred, is_idle, step, taken, taken_by, text_taken, untouched}
 use Rattle.html_rules.specs.Table.{Row as TableRow, EndTags, AnyEndTag, Then, Pop, RestoreMode, Done, RunScript, row}
 use Rattle.html_rules.specs.declared.insertion_mode.InsertionMode.{InsertionMode}
 use Rattle.html_rules.specs.declared.insertion_mode.InsertionMode.TheVariants as mode
@@ -48,23 +52,28 @@ use Rattle.html_rules_laws.proofs.Replies.{settle-well, taken-well, text-continu
 use Rattle.html_rules_laws.proofs.Termination.Settled.{settle-rest}
 use Rattle.html_rules_laws.proofs.Soundness.Sink.{context-template_modes}
 use Rattle.html_rules_laws.proofs.StepLaws.{idle-step, refusal_with, step-is}
-use Rattle.html_rules_laws.proofs.TreePreserved.Tokens.{IsKept, begins, come-kept, hushed-come, hushed-upright, other-come, settle-kept, states-steady, unlined}
+use Rattle.html_rules_laws.proofs.TreePreserved.Tokens.{IsKept, begins, come-kept, hushed-come, hushed-upright, other-come}
+use Rattle.html_rules_laws.proofs.TreePreserved.Tokens.{settle-kept, states-steady, unlined}
 use Rattle.html_rules_laws.proofs.ModesPreserved.Begins.{nested-states}
 use Rattle.html_rules_laws.proofs.ModesPreserved.Fits.{nested-fits}
 use Rattle.html_rules_laws.proofs.ModesPreserved.Tokens.{hushed-nested, reached-states, settle-nested, unlined-nested}
 use Rattle.html_rules_laws.proofs.ModesPreserved.Turns.{other-html}
 use Rattle.html_rules_laws.proofs.Progress.EndTags.{Fits, LeavesName, item-fits, item-leaves}
 use Rattle.html_rules_laws.proofs.Progress.Named.{IsMade, settle-named}
-use Rattle.html_rules_laws.proofs.Progress.Outside.{IsOutside, IsRaw, Outside, check-out, error-out, is_text, moved-out, reset-out, settle-out}
+use Rattle.html_rules_laws.proofs.Progress.Outside.{IsOutside, IsRaw, Outside, check-out, error-out, is_text, moved-out}
+use Rattle.html_rules_laws.proofs.Progress.Outside.{reset-out, settle-out}
 use Rattle.html_rules_laws.proofs.Bools.{no}
 
 -- the end stays as far as it was
 
 text-going : (text : List ℕ) (before : Settled) (s : State) → IsRest s before.state → IsRest s (text_taken text before).state
 text-going [] before s h = h
-text-going (c ∷ cs) before s h = let t : Token = CharacterTokens (c ∷ []) in text-going cs (followed_by before (settle t before.state)) s (rest-after s before.state (settle t before.state).state h (settle-rest t before.state))
+text-going (c ∷ cs) before s h = let t : Token = CharacterTokens (c ∷ []) in
+    text-going cs (followed_by before (settle t before.state)) s
+    (rest-after s before.state (settle t before.state).state h (settle-rest t before.state))
 
-either-ended : (b : Bool) (s x y : State) → x.has_ended ≡ s.has_ended → y.has_ended ≡ s.has_ended → (choose b (λ _. x) (λ _. y)).has_ended ≡ s.has_ended
+either-ended : (b : Bool) (s x y : State) → x.has_ended ≡ s.has_ended → y.has_ended ≡ s.has_ended
+    → (choose b (λ _. x) (λ _. y)).has_ended ≡ s.has_ended
 either-ended true s x y h k = h
 either-ended false s x y h k = k
 
@@ -107,7 +116,8 @@ text-out [] before o = o
 text-out (c ∷ cs) before o =
     let t : Token = CharacterTokens (c ∷ []) in
     text-out cs (followed_by before (settle t before.state))
-    (elim (settle-out t before.state o) [ inl out ↦ out | inr raw ↦ absurd (no_raw (settle t before.state).reply raw.1 (settle-well t before.state)) ])
+    (elim (settle-out t before.state o)
+    [ inl out ↦ out | inr raw ↦ absurd (no_raw (settle t before.state).reply raw.1 (settle-well t before.state)) ])
 
 either-out : (b : Bool) (x y : State) → Outside x → Outside y → Outside (choose b (λ _. x) (λ _. y))
 either-out true x y h k = h
@@ -151,7 +161,9 @@ out-barred m h t = refl
 
 -- where the text of an element is read
 
-first-of-text : (using : InsertionMode → Token → State → Turn) (text : List ℕ) (s : State) → turn_by_row using (first_fit (rows mode.Text) (CharacterTokens text) s) (CharacterTokens text) s ≡ record { state = append_text text s; ends = Finished false }
+first-of-text : (using : InsertionMode → Token → State → Turn) (text : List ℕ) (s : State)
+    → turn_by_row using (first_fit (rows mode.Text) (CharacterTokens text) s) (CharacterTokens text)
+    s ≡ record { state = append_text text s; ends = Finished false }
 unfolding rows
 first-of-text using text s = refl
 
@@ -164,42 +176,57 @@ unfolding append_text
 appended-stays text s = (refl, refl)
 
 -- what holds of the turn by the rows of the mode holds of the turn
-own-turn : (P : Turn → Type 0) (t : Token) (s : State) → s.mode ≡ mode.Text → MayCome t s → IsNested s → P (turn_by_row (using_rules_for 3) (first_fit (rows mode.Text) t s) t s) → P (turn t s)
+own-turn : (P : Turn → Type 0) (t : Token) (s : State) → s.mode ≡ mode.Text → MayCome t s → IsNested s
+    → P (turn_by_row (using_rules_for 3) (first_fit (rows mode.Text) t s) t s) → P (turn t s)
 unfolding turn using_rules_for
 own-turn P t s at may is h = by (is_foreign s t) refl where
-  by : (b : Bool) → is_foreign s t ≡ b → P (choose b (λ _. turn_by_row (using_rules_for most_modes) (first_fit in_foreign_content t s) t s) (λ _. using_rules_for most_modes s.mode t s))
+  by : (b : Bool) → is_foreign s t ≡ b
+      → P (choose b (λ _. turn_by_row (using_rules_for most_modes) (first_fit in_foreign_content t s) t s)
+      (λ _. using_rules_for most_modes s.mode t s))
   by true f = absurd (other-html mode.Text refl t s may at is f)
   by false f = subst (λ m. P (using_rules_for 4 m t s)) (sym at) h
 
-character-settled : (c : ℕ) (s : State) → s.mode ≡ mode.Text → MayCome (CharacterTokens (c ∷ [])) s → IsNested s → Stays s (settle (CharacterTokens (c ∷ [])) s).state
+character-settled : (c : ℕ) (s : State) → s.mode ≡ mode.Text → MayCome (CharacterTokens (c ∷ [])) s → IsNested s
+    → Stays s (settle (CharacterTokens (c ∷ [])) s).state
 unfolding settle within
 character-settled c s at may is =
     let t : Token = CharacterTokens (c ∷ []) in
     own-turn (λ made. Stays s (settled_by (within 15 (four_for_each s.open_elems t) t) made.ends t made.state).state) t s at may is
-    (subst (λ made. Stays s (settled_by (within 15 (four_for_each s.open_elems t) t) made.ends t made.state).state) (sym (first-of-text (using_rules_for 3) (c ∷ []) s)) (appended-stays (c ∷ []) s))
+    (subst (λ made. Stays s (settled_by (within 15 (four_for_each s.open_elems t) t) made.ends t made.state).state)
+    (sym (first-of-text (using_rules_for 3) (c ∷ []) s)) (appended-stays (c ∷ []) s))
 
-characters-settled : (text : List ℕ) (before : Settled) → IsKept before.state → IsNested before.state → before.state.mode ≡ mode.Text → Stays before.state (text_taken text before).state
+characters-settled : (text : List ℕ) (before : Settled) → IsKept before.state → IsNested before.state
+    → before.state.mode ≡ mode.Text → Stays before.state (text_taken text before).state
 characters-settled [] before kept is at = (refl, refl)
 characters-settled (c ∷ cs) before kept is at =
     let t : Token = CharacterTokens (c ∷ []) in
     let may = other-come t before.state refl kept in
     let one = character-settled c before.state at may is in
-    let rest = characters-settled cs (followed_by before (settle t before.state)) (settle-kept t before.state may) (settle-nested t before.state may is) (one.0 ∙ at) in
+    let rest = characters-settled cs (followed_by before (settle t before.state)) (settle-kept t before.state may)
+    (settle-nested t before.state may is) (one.0 ∙ at) in
     (rest.0 ∙ one.0, rest.1 ∙ one.1)
 
 -- the end tag
 
-under-mode : (g : Ground) (template : Bool) (o : Option InsertionMode) (m : InsertionMode) (xs : List Open) → fits_under g template o xs ≡ true → is_text (or_mode o m) ≡ false
+under-mode : (g : Ground) (template : Bool) (o : Option InsertionMode) (m : InsertionMode) (xs : List Open)
+    → fits_under g template o xs ≡ true → is_text (or_mode o m) ≡ false
 under-mode g template None m xs h = no h
 under-mode g template (Some original) m [] h = no h
-under-mode g template (Some original) m (x ∷ xs) h = by original (and_parts (is_nonempty xs) _ (and_parts (is_loose (part_of x)) _ h).1).1 where
-  by : (m : InsertionMode) → fits_nested g template m xs ≡ true → is_text m ≡ false
-  by mode.Text h = no h
-  by m h = refl
+under-mode g template (Some original) m (x ∷ xs) h =
+    by original (and_parts (is_nonempty xs) _ (and_parts (is_loose (part_of x)) _ h).1).1 where
+      by : (m : InsertionMode) → fits_nested g template m xs ≡ true → is_text m ≡ false
+      by mode.Text h = no h
+      by m h = refl
 
-over-out : (s : State) → s.mode ≡ mode.Text → IsNested s → are_template_modes s.template_modes ≡ true → Outside (restore_mode (pop_but_root s))
+over-out : (s : State) → s.mode ≡ mode.Text → IsNested s → are_template_modes s.template_modes ≡ true
+    → Outside (restore_mode (pop_but_root s))
 unfolding restore_mode pop_but_root
-over-out s at is modes = record { mode = under-mode (ground_of s.context_elem) (context_is set.Template s.context_elem) s.orig_mode s.mode s.open_elems (rw at at is.fits); original = refl; modes = modes }
+over-out s at is modes = record {
+  mode = under-mode (ground_of s.context_elem)
+      (context_is set.Template s.context_elem) s.orig_mode s.mode s.open_elems (rw at at is.fits);
+  original = refl;
+  modes = modes;
+}
 
 abbrev script_row : TableRow
 script_row = row (EndTags set.Script) (Then Pop RestoreMode) RunScript
@@ -207,21 +234,24 @@ script_row = row (EndTags set.Script) (Then Pop RestoreMode) RunScript
 abbrev end_row : TableRow
 end_row = row AnyEndTag (Then Pop RestoreMode) Done
 
-end-fit : (P : TableRow → Type 0) (tag : Tag) (s : State) → is_end_tag tag.kind ≡ true → P script_row → P end_row → P (first_fit (rows mode.Text) (TagToken tag) s)
+end-fit : (P : TableRow → Type 0) (tag : Tag) (s : State) → is_end_tag tag.kind ≡ true → P script_row → P end_row
+    → P (first_fit (rows mode.Text) (TagToken tag) s)
 unfolding rows
 end-fit P tag s e h k = rw e (by (is_among tag.name (names_of set.Script))) where
   by : (b : Bool) → P (choose (choose b (λ _. true) (λ _. false)) (λ _. script_row) (λ _. end_row))
   by true = h
   by false = k
 
-end-settled : (tag : Tag) (s : State) → is_end_tag tag.kind ≡ true → s.mode ≡ mode.Text → MayCome (TagToken tag) s → IsNested s → Outside (settle (TagToken tag) s).state
+end-settled : (tag : Tag) (s : State) → is_end_tag tag.kind ≡ true → s.mode ≡ mode.Text → MayCome (TagToken tag) s
+    → IsNested s → Outside (settle (TagToken tag) s).state
 unfolding settle within
 end-settled tag s e at may is =
     let t : Token = TagToken tag in
     let after = within 15 (four_for_each s.open_elems t) t in
     let over = over-out s at is may.held.modes in
     own-turn (λ made. Outside (settled_by after made.ends t made.state).state) t s at may is
-    (end-fit (λ r. Outside (settled_by after (turn_by_row (using_rules_for 3) r t s).ends t (turn_by_row (using_rules_for 3) r t s).state).state) tag s e over (check-out false t (restore_mode (pop_but_root s)) over))
+    (end-fit (λ r. Outside (settled_by after (turn_by_row (using_rules_for 3) r t s).ends t
+    (turn_by_row (using_rules_for 3) r t s).state).state) tag s e over (check-out false t (restore_mode (pop_but_root s)) over))
 
 start-end : (kind : TagKind) → is_end_tag kind ≡ true → is_start_tag kind ≡ false
 start-end StartTag e = no e
@@ -245,9 +275,11 @@ fit-of : (st : Stand) (s : State) → Joint st s → is_fit s ≡ true
 fit-of st s j = nested-fits s j.steady.sound.head j.is
 
 -- a token that is taken
-taken-step : (s : State) (t : Token) (line : ℕ) → s.has_ended ≡ false → is_idle t ≡ false → is_fit s ≡ true → is_barred s.mode t ≡ false → step s t line ≡ Ok (hushed (taken t (hushed s)).state, (taken t (hushed s)).reply)
+taken-step : (s : State) (t : Token) (line : ℕ) → s.has_ended ≡ false → is_idle t ≡ false → is_fit s ≡ true
+    → is_barred s.mode t ≡ false → step s t line ≡ Ok (hushed (taken t (hushed s)).state, (taken t (hushed s)).reply)
 unfolding refusal_with
-taken-step s t line e i f b = step-is s t line false false true false e i f b ∙ ap (λ c. Ok (choose c (λ _. (s, Continue)) (λ _. answered (taken t (hushed s))))) i
+taken-step s t line e i f b = step-is s t line false false true false e i f b
+    ∙ ap (λ c. Ok (choose c (λ _. (s, Continue)) (λ _. answered (taken t (hushed s))))) i
 
 -- what comes of it
 record IsFollowed (s : State) (t : Token) (line : ℕ) (Q : State → Reply → Type 0) : Type 0 where
@@ -257,16 +289,25 @@ record IsFollowed (s : State) (t : Token) (line : ℕ) (Q : State → Reply → 
   going : state.has_ended ≡ false
   holds : Q state reply
 
-follow : (st : Stand) (s : State) → Joint st s → (t : Token) (line : ℕ) → is_barred s.mode t ≡ false → (Q : State → Reply → Type 0) → (is_idle t ≡ true → Q s Continue) → Q (hushed (taken t (hushed s)).state) (taken t (hushed s)).reply → IsFollowed s t line Q
+follow : (st : Stand) (s : State) → Joint st s → (t : Token) (line : ℕ) → is_barred s.mode t ≡ false
+    → (Q : State → Reply → Type 0) → (is_idle t ≡ true → Q s Continue) → Q (hushed (taken t (hushed s)).state)
+    (taken t (hushed s)).reply → IsFollowed s t line Q
 follow st s j t line b Q one other = by (is_idle t) refl where
   by : (i : Bool) → is_idle t ≡ i → IsFollowed s t line Q
   by true i = record { state = s; reply = Continue; is = idle-step s t line j.going i; going = j.going; holds = one i }
-  by false i = record { state = hushed (taken t (hushed s)).state; reply = (taken t (hushed s)).reply; is = taken-step s t line j.going i (fit-of st s j) b; going = taken-ended t (hushed s) ∙ j.going; holds = other }
+  by false i = record {
+    state = hushed (taken t (hushed s)).state;
+    reply = (taken t (hushed s)).reply;
+    is = taken-step s t line j.going i (fit-of st s j) b;
+    going = taken-ended t (hushed s) ∙ j.going;
+    holds = other;
+  }
 
 abbrev Held : Stand → State → Reply → Type 0
 Held next r reply = Outside r ⊎ InText (next_stand next reply) r
 
-joined : (next : Stand) (s : State) (t : Token) (line : ℕ) → Steady s → IsNested s → (f : IsFollowed s t line (Held next)) → Joint (next_stand next f.reply) f.state
+joined : (next : Stand) (s : State) (t : Token) (line : ℕ) → Steady s → IsNested s
+    → (f : IsFollowed s t line (Held next)) → Joint (next_stand next f.reply) f.state
 joined next s t line steady is f = record {
   steady = subst (λ made. IfOk made (λ p. Steady p.0)) f.is (states-steady.step s steady t line);
   is = subst (λ made. IfOk made (λ p. IsNested p.0)) f.is (reached-states.kept s steady is t line);
@@ -275,7 +316,8 @@ joined next s t line steady is f = record {
 }
 
 -- where raw text follows a start tag, it is that of the current node
-in-text : (next : Stand) (r : State) (reply : Reply) (t : Token) → r.mode ≡ mode.Text → IsRaw reply → LeavesName (Some t) next → IsMade t r.open_elems → InText (next_stand next reply) (hushed r)
+in-text : (next : Stand) (r : State) (reply : Reply) (t : Token) → r.mode ≡ mode.Text → IsRaw reply
+    → LeavesName (Some t) next → IsMade t r.open_elems → InText (next_stand next reply) (hushed r)
 in-text next r (RawData kind) (TagToken tag) at raw leaves made = record { at = at; place = refl; named = rw (leaves made.0) made.1 }
 in-text next r (RawData kind) t at raw leaves made = absurd made
 in-text next r Continue t at raw leaves made = absurd raw
@@ -283,7 +325,8 @@ in-text next r Plaintext t at raw leaves made = absurd raw
 in-text next r (Script n) t at raw leaves made = absurd raw
 in-text next r (EncodingIndicator label) t at raw leaves made = absurd raw
 
-taken_by-named : (t : Token) (b : Bool) (s : State) → MayCome t s → IsNested s → IsRaw (taken_by b t s).reply → IsMade t (taken_by b t s).state.open_elems
+taken_by-named : (t : Token) (b : Bool) (s : State) → MayCome t s → IsNested s → IsRaw (taken_by b t s).reply
+    → IsMade t (taken_by b t s).state.open_elems
 taken_by-named (CharacterTokens text) b s may is raw = absurd (no_raw _ raw (text-continues (after_line_feed b text) (untouched s) refl))
 taken_by-named (DoctypeToken d) b s may is raw = absurd raw
 taken_by-named (TagToken tag) b s may is raw = settle-named (TagToken tag) s may is raw
@@ -292,7 +335,8 @@ taken_by-named NullCharacterToken b s may is raw = settle-named NullCharacterTok
 taken_by-named EOFToken b s may is raw = settle-named EOFToken s may is raw
 taken_by-named (ErrorToken message) b s may is raw = settle-named (ErrorToken message) s may is raw
 
-taken-named : (t : Token) (s : State) → MayCome t (set_ignore_lf false s) → IsNested (set_ignore_lf false s) → IsRaw (taken t s).reply → IsMade t (taken t s).state.open_elems
+taken-named : (t : Token) (s : State) → MayCome t (set_ignore_lf false s) → IsNested (set_ignore_lf false s)
+    → IsRaw (taken t s).reply → IsMade t (taken t s).state.open_elems
 unfolding taken
 taken-named t s may is raw = taken_by-named t s.ignore_lf (set_ignore_lf false s) may is raw
 
@@ -307,26 +351,34 @@ still-nested : (st : Stand) (s : State) → Joint st s → IsNested (set_ignore_
 still-nested st s j = unlined-nested (hushed s) (hushed-nested s j.steady.upright.standing j.is)
 
 -- a token outside of the text of elements
-outside-follow : (st next : Stand) (s : State) → Joint st s → Outside s → (t : Token) (line : ℕ) → LeavesName (Some t) next → IsFollowed s t line (Held next)
+outside-follow : (st next : Stand) (s : State) → Joint st s → Outside s → (t : Token) (line : ℕ)
+    → LeavesName (Some t) next → IsFollowed s t line (Held next)
 outside-follow st next s j o t line leaves =
     let made : Settled = taken t (hushed s) in
     follow st s j t line (out-barred s.mode o.mode t) (Held next) (λ i. inl o)
-    (elim (taken-out t (hushed s) (hushed-out s o))
-    [ inl out ↦ inl (hushed-out made.state out) | inr raw ↦ inr (in-text next made.state made.reply t raw.0 raw.1 leaves (taken-named t (hushed s) (may-come st s j t) (still-nested st s j) raw.1)) ])
+    (elim (taken-out t (hushed s) (hushed-out s o)) [
+      | inl out ↦ inl (hushed-out made.state out)
+      | inr raw ↦
+          inr (in-text next made.state made.reply t raw.0 raw.1 leaves
+          (taken-named t (hushed s) (may-come st s j t) (still-nested st s j) raw.1))
+    ])
 
 -- a token in it
-text-follow : (st next : Stand) (s : State) → Joint st s → InText st s → (t : Token) (line : ℕ) → Fits st.last_start_tag (Some t) next → IsFollowed s t line (Held next)
+text-follow : (st next : Stand) (s : State) → Joint st s → InText st s → (t : Token) (line : ℕ)
+    → Fits st.last_start_tag (Some t) next → IsFollowed s t line (Held next)
 unfolding taken set_ignore_lf
 text-follow st next s j text (CharacterTokens cs) line tell =
     let t : Token = CharacterTokens cs in
     let may = may-come st s j t in
-    let stays = characters-settled (after_line_feed s.ignore_lf cs) (untouched (set_ignore_lf false (hushed s))) (come-kept t (set_ignore_lf false (hushed s)) may) (still-nested st s j) text.at in
+    let stays = characters-settled (after_line_feed s.ignore_lf cs) (untouched (set_ignore_lf false (hushed s)))
+    (come-kept t (set_ignore_lf false (hushed s)) may) (still-nested st s j) text.at in
     follow st s j t line (rw text.at refl) (Held next) (λ i. inr (record { at = text.at; place = tell.0; named = rw tell.1 text.named }))
     (inr (rw (taken-well t (hushed s)) (record { at = stays.0 ∙ text.at; place = tell.0; named = rw (tell.1, stays.1) text.named })))
 text-follow st next s j text (TagToken tag) line tell =
     let t : Token = TagToken tag in
     let out = end-settled tag (set_ignore_lf false (hushed s)) tell.0 text.at (may-come st s j t) (still-nested st s j) in
-    follow st s j t line (rw text.at (start-end tag.kind tell.0)) (Held next) (λ i. no i) (inl (hushed-out (settle t (set_ignore_lf false (hushed s))).state out))
+    follow st s j t line (rw text.at (start-end tag.kind tell.0)) (Held next) (λ i. no i)
+    (inl (hushed-out (settle t (set_ignore_lf false (hushed s))).state out))
 text-follow st next s j text (CommentToken cs) line tell = absurd tell.0
 text-follow st next s j text (DoctypeToken d) line tell = absurd tell.0
 text-follow st next s j text NullCharacterToken line tell = absurd tell.0
@@ -345,14 +397,22 @@ silent-joint st next s j tell = record {
   steady = j.steady;
   is = j.is;
   going = j.going;
-  text = elim j.text [ inl o ↦ inl o | inr text ↦ inr (record { at = text.at; place = (tell text.place).0; named = rw (tell text.place).1 text.named }) ];
+  text = elim j.text [
+    | inl o ↦ inl o
+    | inr text ↦
+        inr (record { at = text.at; place = (tell text.place).0; named = rw (tell text.place).1 text.named })
+  ];
 }
 
 -- what a token that may be told there makes of the state
-item-follow : (st next : Stand) (s : State) → Joint st s → (t : Token) (line : ℕ) → (is_raw_place st.place ≡ true → Fits st.last_start_tag (Some t) next) → LeavesName (Some t) next → IsFollowed s t line (Held next)
-item-follow st next s j t line tell leaves = elim j.text [ inl o ↦ outside-follow st next s j o t line leaves | inr text ↦ text-follow st next s j text t line (tell text.place) ]
+item-follow : (st next : Stand) (s : State) → Joint st s → (t : Token) (line : ℕ)
+    → (is_raw_place st.place ≡ true → Fits st.last_start_tag (Some t) next) → LeavesName (Some t) next → IsFollowed s t line (Held next)
+item-follow st next s j t line tell leaves =
+    elim j.text [ inl o ↦ outside-follow st next s j o t line leaves | inr text ↦ text-follow st next s j text t line (tell text.place) ]
 
-item-taken : (st next : Stand) (fault : Option Fault) (o : Option Token) (read : ℕ) (s : State) → Joint st s → (is_raw_place st.place ≡ true → Fits st.last_start_tag o next) → LeavesName o next → (k : State × Reply → Result State Refusal) → ((r : State) (reply : Reply) → Joint (next_stand next reply) r → IsOk (k (r, reply)))
+item-taken : (st next : Stand) (fault : Option Fault) (o : Option Token) (read : ℕ) (s : State) → Joint st s
+    → (is_raw_place st.place ≡ true → Fits st.last_start_tag o next) → LeavesName o next
+    → (k : State × Reply → Result State Refusal) → ((r : State) (reply : Reply) → Joint (next_stand next reply) r → IsOk (k (r, reply)))
     → IsOk (said step (λ fault s. s) fault o read s >>= k)
 item-taken st next fault None read s j tell leaves k go = rw (erred-same fault s) (go s Continue (silent-joint st next s j tell))
 item-taken st next fault (Some t) read s j tell leaves k go =
@@ -363,17 +423,20 @@ end-barred : (m : InsertionMode) → is_barred m EOFToken ≡ false
 end-barred mode.Text = refl
 end-barred m = refl
 
-end-taken : (st : Stand) (fault : Option Fault) (read : ℕ) (s : State) → Joint st s → IsOk (said step (λ fault s. s) fault (Some EOFToken) read s >>= λ p. Ok (ended p.0))
+end-taken : (st : Stand) (fault : Option Fault) (read : ℕ) (s : State) → Joint st s
+    → IsOk (said step (λ fault s. s) fault (Some EOFToken) read s >>= λ p. Ok (ended p.0))
 end-taken st fault read s j =
     let f = follow st s j EOFToken (line_number read) (end-barred s.mode) (λ r reply. Unit {0}) (λ i. tt) tt in
     rw (erred-same fault s, f.is) refl
 
-reading-taken : (table : List Row) (n : ℕ) (st : Stand) (breaks : ℕ) (s : State) (text : List ℕ) → Joint st s → IsOk (reading_from step (λ fault s. s) asks_cdata ended table n st breaks s text)
+reading-taken : (table : List Row) (n : ℕ) (st : Stand) (breaks : ℕ) (s : State) (text : List ℕ) → Joint st s
+    → IsOk (reading_from step (λ fault s. s) asks_cdata ended table n st breaks s text)
 unfolding reading_from
 reading-taken table n st breaks s [] j = end-taken st (fault_at_end st.place) breaks s j
 reading-taken table zero st breaks s (c ∷ t) j =
     let i : Item = item table (asks_cdata s) st c t in
-    item-taken st i.next i.fault i.token (breaks + line_breaks (take i.len (c ∷ t))) s j (item-fits table (asks_cdata s) st c t) (item-leaves table (asks_cdata s) st c t) _
+    item-taken st i.next i.fault i.token (breaks + line_breaks (take i.len (c ∷ t))) s j
+    (item-fits table (asks_cdata s) st c t) (item-leaves table (asks_cdata s) st c t) _
     (λ r reply after. reading-taken table (i.len - 1) (next_stand i.next reply) (breaks + line_breaks (take i.len (c ∷ t))) r t after)
 reading-taken table (suc n) st breaks s (c ∷ t) j = reading-taken table n st breaks s t j
 
@@ -393,9 +456,14 @@ begun st s steady is going o = record {
 fragment-out : (setting : Setting) (context : Open) (form : Option ℕ) (f : Forest) → Outside (before_fragment setting context form f)
 unfolding create_root
 fragment-out setting context form f =
-    reset-out (create_root [] (record (before_document setting f) { context_elem = Some context; form_elem = form; template_modes = modes_of_context context })) refl (context-template_modes (is_in set.Template context))
+    reset-out (create_root [] (record (before_document setting f) {
+      context_elem = Some context;
+      form_elem = form;
+      template_modes = modes_of_context context;
+    })) refl (context-template_modes (is_in set.Template context))
 
-fragment-going : (setting : Setting) (context : Open) (form : Option ℕ) (f : Forest) → (before_fragment setting context form f).has_ended ≡ false
+fragment-going : (setting : Setting) (context : Open) (form : Option ℕ) (f : Forest)
+    → (before_fragment setting context form f).has_ended ≡ false
 unfolding create_root reset_insertion_mode
 fragment-going setting context form f = refl
 
@@ -403,12 +471,15 @@ pub each-text : IsEachTextTaken
 each-text = record {
   document = λ table opts setting f tree top text.
       reading-taken table 0 (stand_of opts) 0 (hushed (before_document setting f)) (normal_text opts.discard_bom text)
-      (begun (stand_of opts) (before_document setting f) (states-steady.document setting f tree top) (nested-states.document setting f) refl (record { mode = refl; original = refl; modes = refl }));
+      (begun (stand_of opts) (before_document setting f) (states-steady.document setting f tree top)
+      (nested-states.document setting f) refl (record { mode = refl; original = refl; modes = refl }));
   fragment = λ table opts setting context form scripting f tree top own named text.
       let begins : Stand = stand_of (record opts { initial_state = Some (tokenizer_state context scripting) }) in
       let s : State = before_fragment setting context form f in
       reading-taken table 0 begins 0 (hushed s) (normal_text opts.discard_bom text)
-      (begun begins s (states-steady.fragment setting context form f tree top own) (nested-states.fragment setting context form f tree named) (fragment-going setting context form f) (fragment-out setting context form f));
+      (begun begins s (states-steady.fragment setting context form f tree top own)
+      (nested-states.fragment setting context form f tree named) (fragment-going setting context form f)
+      (fragment-out setting context form f));
 }
 
 -- WHERE A READING STANDS
@@ -418,7 +489,9 @@ given-or other (Ok x) = x
 given-or other (Err e) = other
 
 -- an item leads from one joint state to another
-item-joint : (st next : Stand) (fault : Option Fault) (o : Option Token) (read : ℕ) (s r : State) (reply : Reply) → Joint st s → (is_raw_place st.place ≡ true → Fits st.last_start_tag o next) → LeavesName o next → said step (λ fault s. s) fault o read s ≡ Ok (r, reply) → Joint (next_stand next reply) r
+item-joint : (st next : Stand) (fault : Option Fault) (o : Option Token) (read : ℕ) (s r : State) (reply : Reply)
+    → Joint st s → (is_raw_place st.place ≡ true → Fits st.last_start_tag o next) → LeavesName o next
+    → said step (λ fault s. s) fault o read s ≡ Ok (r, reply) → Joint (next_stand next reply) r
 unfolding given-or
 item-joint st next fault None read s r reply j tell leaves e =
     let same = ap (given-or (r, reply)) e in
@@ -430,13 +503,17 @@ item-joint st next fault (Some t) read s r reply j tell leaves e =
 
 met-joint : (table : List Row) (st : Stand) (s : State) → Met table st s → Joint st s
 met-joint table st s (document opts setting f tree top) =
-    begun (stand_of opts) (before_document setting f) (states-steady.document setting f tree top) (nested-states.document setting f) refl (record { mode = refl; original = refl; modes = refl })
+    begun (stand_of opts) (before_document setting f) (states-steady.document setting f tree top)
+    (nested-states.document setting f) refl (record { mode = refl; original = refl; modes = refl })
 met-joint table st s (fragment opts setting context form scripting f tree top own named) =
     begun (stand_of (record opts { initial_state = Some (tokenizer_state context scripting) })) (before_fragment setting context form f)
-    (states-steady.fragment setting context form f tree top own) (nested-states.fragment setting context form f tree named) (fragment-going setting context form f) (fragment-out setting context form f)
+    (states-steady.fragment setting context form f tree top own)
+    (nested-states.fragment setting context form f tree named) (fragment-going setting context form f)
+    (fragment-out setting context form f)
 met-joint table st s (item_after st' s' r c t breaks reply before e) =
     let i : Item = item table (asks_cdata s') st' c t in
-    item-joint st' i.next i.fault i.token breaks s' r reply (met-joint table st' s' before) (item-fits table (asks_cdata s') st' c t) (item-leaves table (asks_cdata s') st' c t) e
+    item-joint st' i.next i.fault i.token breaks s' r reply (met-joint table st' s' before)
+    (item-fits table (asks_cdata s') st' c t) (item-leaves table (asks_cdata s') st' c t) e
 
 -- outside of the text of elements the mode is another
 outside-text : (s : State) → Outside s → s.mode ≡ mode.Text → ⊥

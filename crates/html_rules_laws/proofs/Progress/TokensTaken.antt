@@ -41,7 +41,13 @@ pub is-settled : (t : Token) (s : State) → Usable s → s.has_ended ≡ false 
 is-settled t s h going = token-settled t s (mode-fits s (usable-fit s h going)) h.steady.sound.listed h.steady.sound.modes
 
 unhushed-sound : (s : State) → Held s → Sound s
-unhushed-sound s h = let is = sound-of s h in record { listed = is.listed; modes = is.modes; head = is.head; original = is.original; placed = is.placed }
+unhushed-sound s h = let is = sound-of s h in record {
+  listed = is.listed;
+  modes = is.modes;
+  head = is.head;
+  original = is.original;
+  placed = is.placed;
+}
 
 -- it leads to a usable state
 pub settled-usable : (t : Token) (s : State) → Usable s → s.has_ended ≡ false → Usable (settle t s).state
@@ -63,8 +69,19 @@ pub unlined-usable : (s : State) → Usable s → Usable (set_ignore_lf false s)
 unfolding set_ignore_lf
 unlined-usable s h = record {
   steady = record {
-    sound = record { listed = h.steady.sound.listed; modes = h.steady.sound.modes; head = h.steady.sound.head; original = h.steady.sound.original; placed = h.steady.sound.placed };
-    upright = record { standing = h.steady.upright.standing; rooted = h.steady.upright.rooted; head = h.steady.upright.head; context = h.steady.upright.context };
+    sound = record {
+      listed = h.steady.sound.listed;
+      modes = h.steady.sound.modes;
+      head = h.steady.sound.head;
+      original = h.steady.sound.original;
+      placed = h.steady.sound.placed;
+    };
+    upright = record {
+      standing = h.steady.upright.standing;
+      rooted = h.steady.upright.rooted;
+      head = h.steady.upright.head;
+      context = h.steady.upright.context;
+    };
   };
   nested = λ going. unlined-nested s (h.nested going);
   context = h.context;

@@ -42,7 +42,8 @@ row_takes r t s h =
 takes_each : (rs : List Row) → has_anything_else rs ≡ true → TakesEachToken rs
 takes_each [] h t s = absurd (true≢false (sym h))
 takes_each (r ∷ rs) h t s =
-    takes_by (is_anything_else r.on && is_always r.when) (has_anything_else rs) (fits r t s) (list_any (λ r. fits r t s) rs) (row_takes r t s) (λ e. takes_each rs e t s) h
+    takes_by (is_anything_else r.on && is_always r.when) (has_anything_else rs) (fits r t s)
+    (list_any (λ r. fits r t s) rs) (row_takes r t s) (λ e. takes_each rs e t s) h
 
 modes_have_anything_else : (m : InsertionMode) → has_anything_else (rows m) ≡ true
 unfolding rows

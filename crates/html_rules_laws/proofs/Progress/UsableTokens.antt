@@ -35,7 +35,9 @@ renumbered n s = record s { forest = with_errors n s.forest }
 upright-renumbered : (n : ℕ) (s : State) → Upright s → Upright (renumbered n s)
 upright-renumbered n s h =
     let stays = stays-nodes s.forest s.forest.quirks n h.standing.tree in
-    eased-Upright s (renumbered n s) h (changed-Standing s.forest (renumbered n s).forest s.open_elems s.active_formatting stays h.standing) (eased-part s (renumbered n s) h.standing.opened stays (part-same s.open_elems)) refl refl
+    eased-Upright s (renumbered n s) h
+    (changed-Standing s.forest (renumbered n s).forest s.open_elems s.active_formatting stays h.standing)
+    (eased-part s (renumbered n s) h.standing.opened stays (part-same s.open_elems)) refl refl
 
 sound-renumbered : (n : ℕ) (s : State) → Sound s → Sound (renumbered n s)
 sound-renumbered n s h = record { listed = h.listed; modes = h.modes; head = h.head; original = h.original; placed = h.placed }
@@ -45,7 +47,8 @@ nested-renumbered n s up h = record {
   fits = h.fits;
   count = h.count;
   framed = h.framed;
-  form = form-kept s.form_elem s.forest (renumbered n s).forest (stays-nodes s.forest s.forest.quirks n up.standing.tree).names.names h.form;
+  form = form-kept s.form_elem s.forest (renumbered n s).forest
+      (stays-nodes s.forest s.forest.quirks n up.standing.tree).names.names h.form;
 }
 
 -- the number of errors is of no account
@@ -68,7 +71,8 @@ usable-fit s h going = nested-states.fit s h.steady.sound (h.nested going)
 
 -- the step
 
-context-by : (ended idle fit barred : Bool) (s : State) (t : Token) (line : ℕ) → s.has_ended ≡ ended → is_idle t ≡ idle → is_fit s ≡ fit → is_barred s.mode t ≡ barred → IfSome s.context_elem (λ c. IsNode s.forest c.number)
+context-by : (ended idle fit barred : Bool) (s : State) (t : Token) (line : ℕ) → s.has_ended ≡ ended
+    → is_idle t ≡ idle → is_fit s ≡ fit → is_barred s.mode t ≡ barred → IfSome s.context_elem (λ c. IsNode s.forest c.number)
     → IfOk (step s t line) (λ p. IfSome p.0.context_elem (λ c. IsNode p.0.forest c.number))
 unfolding refusal_with
 context-by true idle fit barred s t line e i f b is = rw (step-is s t line true idle fit barred e i f b) tt
@@ -76,9 +80,11 @@ context-by false true fit barred s t line e i f b is = rw (step-is s t line fals
 context-by false false false barred s t line e i f b is = rw (step-is s t line false false false barred e i f b) tt
 context-by false false true true s t line e i f b is = rw (step-is s t line false false true true e i f b) tt
 context-by false false true false s t line e i f b is =
-    rw (step-is s t line false false true false e i f b) (rw i (context-stays (hushed s) (taken t (hushed s)).state (taken-larger t (hushed s)) is))
+    rw (step-is s t line false false true false e i f b)
+    (rw i (context-stays (hushed s) (taken t (hushed s)).state (taken-larger t (hushed s)) is))
 
-usable-all : (r : Result (State × Reply) Refusal) → IfOk r (λ p. Steady p.0) → IfOk r (λ p. IsNested p.0) → IfOk r (λ p. IfSome p.0.context_elem (λ c. IsNode p.0.forest c.number)) → IfOk r (λ p. Usable p.0)
+usable-all : (r : Result (State × Reply) Refusal) → IfOk r (λ p. Steady p.0) → IfOk r (λ p. IsNested p.0)
+    → IfOk r (λ p. IfSome p.0.context_elem (λ c. IsNode p.0.forest c.number)) → IfOk r (λ p. Usable p.0)
 usable-all (Ok p) h k l = record { steady = h; nested = λ going. k; context = l }
 usable-all (Err refusal) h k l = tt
 
@@ -111,19 +117,35 @@ usable_laws = record {
 -- where documents and fragments begin
 
 document-usable : (setting : Setting) (f : Forest) → IsTree f → above_of f 0 ≡ None → Usable (before_document setting f)
-document-usable setting f tree top = record { steady = states-steady.document setting f tree top; nested = λ going. nested-states.document setting f; context = tt }
+document-usable setting f tree top = record {
+  steady = states-steady.document setting f tree top;
+  nested = λ going. nested-states.document setting f;
+  context = tt;
+}
 
-fragment-usable : (setting : Setting) (context : Open) (form : Option ℕ) (f : Forest) → IsTree f → above_of f 0 ≡ None → IsOwn context.namespace → IsNode f context.number → IfSome form (λ n. element_name (data_of f n) ≡ Some (element_name_of Html (codes "form")))
+fragment-usable : (setting : Setting) (context : Open) (form : Option ℕ) (f : Forest) → IsTree f
+    → above_of f 0 ≡ None → IsOwn context.namespace → IsNode f context.number
+    → IfSome form (λ n. element_name (data_of f n) ≡ Some (element_name_of Html (codes "form")))
     → Usable (before_fragment setting context form f)
 fragment-usable setting context form f tree top own at named = record {
   steady = states-steady.fragment setting context form f tree top own;
   nested = λ going. nested-states.fragment setting context form f tree named;
-  context = context-stays (record (before_document setting f) { context_elem = Some context; form_elem = form; template_modes = modes_of_context context }) (before_fragment setting context form f) (root-larger (record (before_document setting f) { context_elem = Some context; form_elem = form; template_modes = modes_of_context context })) at;
+  context = context-stays (record (before_document setting f) {
+    context_elem = Some context;
+    form_elem = form;
+    template_modes = modes_of_context context;
+  }) (before_fragment setting context form f)
+      (root-larger (record (before_document setting f) {
+        context_elem = Some context;
+        form_elem = form;
+        template_modes = modes_of_context context;
+      })) at;
 }
 
 pub states-usable : AreStatesUsable
 states-usable = record {
   sink = usable_laws;
   document = λ setting f tree top. usable-hushed (before_document setting f) (document-usable setting f tree top);
-  fragment = λ setting context form f tree top own at named. usable-hushed (before_fragment setting context form f) (fragment-usable setting context form f tree top own at named);
+  fragment = λ setting context form f tree top own at named. usable-hushed (before_fragment setting context form f)
+      (fragment-usable setting context form f tree top own at named);
 }

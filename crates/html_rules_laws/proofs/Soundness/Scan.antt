@@ -20,12 +20,15 @@ abbrev pub scan : (Kind → Row → Bool) → Kind → List Row → Bool
 scan ok kind [] = true
 scan ok kind (r ∷ rs) =
     scan_row ok kind r
-    && choose (is_always r.when) (λ _. choose (is_none (left kind r.on)) (λ _. true) (λ _. scan ok (left kind r.on) rs)) (λ _. scan ok kind rs)
+    && choose (is_always r.when)
+    (λ _. choose (is_none (left kind r.on)) (λ _. true) (λ _. scan ok (left kind r.on) rs)) (λ _. scan ok kind rs)
 
 module _ (ok : Kind → Row → Bool) (P : Row → Type 0) (t : Token) (s : State)
-    (rows-hold : (kind : Kind) (r : Row) → ok kind r ≡ true → is_of kind t ≡ true → class_fits r.on t ≡ true → holds r.when t s ≡ true → P r) (none : P (row AnythingElse Nothing Done))
+    (rows-hold : (kind : Kind) (r : Row) → ok kind r ≡ true → is_of kind t ≡ true → class_fits r.on t ≡ true
+    → holds r.when t s ≡ true → P r) (none : P (row AnythingElse Nothing Done))
   where
-    row-holds : (kind : Kind) (r : Row) → scan_row ok kind r ≡ true → is_of kind t ≡ true → class_fits r.on t ≡ true → holds r.when t s ≡ true → P r
+    row-holds : (kind : Kind) (r : Row) → scan_row ok kind r ≡ true → is_of kind t ≡ true → class_fits r.on t ≡ true
+        → holds r.when t s ≡ true → P r
     row-holds kind r h f k c = by (is_none (hit kind r.on)) refl h where
       by : (b : Bool) → is_none (hit kind r.on) ≡ b → choose b (λ _. true) (λ _. ok (hit kind r.on) r) ≡ true → P r
       by true n h = absurd (none-of (hit kind r.on) t n (hit-is kind r.on t f k))
@@ -37,7 +40,8 @@ module _ (ok : Kind → Row → Bool) (P : Row → Type 0) (t : Token) (s : Stat
         let parts = and_parts (scan_row ok kind r) _ h in
         by (class_fits r.on t) (holds r.when t s) (is_always r.when) refl refl refl parts.0 parts.1 (scan-holds rs)
       where
-        left-holds : class_fits r.on t ≡ false → (b : Bool) → is_none (left kind r.on) ≡ b → choose b (λ _. true) (λ _. scan ok (left kind r.on) rs) ≡ true
+        left-holds : class_fits r.on t ≡ false → (b : Bool) → is_none (left kind r.on) ≡ b → choose b (λ _. true)
+            (λ _. scan ok (left kind r.on) rs) ≡ true
             → ((kind : Kind) → scan ok kind rs ≡ true → is_of kind t ≡ true → P (first_fit rs t s)) → P (first_fit rs t s)
         left-holds k true n h rest = absurd (none-of (left kind r.on) t n (left-is kind r.on t f k))
         left-holds k false n h rest = rest (left kind r.on) h (left-is kind r.on t f k)

@@ -7,7 +7,8 @@ use Rattle.markup.specs.declared.attributes.Attribute.{Attribute}
 use Rattle.html_tokens.specs.declared.tags.Tag.{Tag}
 use Rattle.html_tokens.specs.declared.token.Token.{Token}
 use Rattle.html_tokens.specs.declared.token.Token.TheVariants.{TagToken}
-use Rattle.html_rules.specs.Actions.{act, restore_mode, or_mode, pop_template_mode, set_head_elem, set_mode, insert_pending_text, without_first}
+use Rattle.html_rules.specs.Actions.{act, restore_mode, or_mode, pop_template_mode, set_head_elem, set_mode}
+use Rattle.html_rules.specs.Actions.{insert_pending_text, without_first}
 use Rattle.html_rules.specs.Choice.{choose}
 use Rattle.html_rules.specs.Conditions.{holds, is_nonempty}
 use Rattle.html_rules.specs.ForeignContent.{is_html_element, is_start_tag}
@@ -18,22 +19,28 @@ use Rattle.html_rules.specs.Reset.{reset_insertion_mode}
 use Rattle.html_rules.specs.Rules.{Turn, concluded}
 use Rattle.html_rules.specs.Sets.{is_among, mathml_names_of, names_of, svg_names_of}
 use Rattle.html_rules.specs.Shape.{is_at_root}
-use Rattle.html_rules.specs.Stack.{expect_to_close, generate_implied_end_tags, has_open, left_below, left_from, parse_error, pop_but_root, pop_until, without_current_but_root}
+use Rattle.html_rules.specs.Stack.{expect_to_close, generate_implied_end_tags, has_open, left_below, left_from, parse_error}
+use Rattle.html_rules.specs.Stack.{pop_but_root, pop_until, without_current_but_root}
 use Rattle.html_rules.specs.State.{Open, State, current_is, is_in}
-use Rattle.html_rules.specs.Table.{Condition, TemplateOpen, Action, Then, ParseError, InsertElement, InsertNew, CreateRoot, CreateNewRoot, Pop, PopUntil, Close, ImpliedEndTagsThoroughly, SetHeadElem, ClearToMarker, SwitchTo, RestoreMode, ResetMode, PopTemplateMode, InsertPendingText, Conclusion, Done, Reprocess, ReprocessInOriginal, RunScript}
+use Rattle.html_rules.specs.Table.{Condition, TemplateOpen, Action, Then, ParseError, InsertElement, InsertNew, CreateRoot}
+use Rattle.html_rules.specs.Table.{CreateNewRoot, Pop, PopUntil, Close, ImpliedEndTagsThoroughly, SetHeadElem, ClearToMarker}
+use Rattle.html_rules.specs.Table.{SwitchTo, RestoreMode, ResetMode, PopTemplateMode, InsertPendingText, Conclusion, Done}
+use Rattle.html_rules.specs.Table.{Reprocess, ReprocessInOriginal, RunScript}
 use Rattle.html_rules.specs.Tokens.{attributes_of}
 use Rattle.html_rules.specs.declared.insertion_mode.InsertionMode.{InsertionMode}
 use Rattle.html_rules.specs.declared.insertion_mode.InsertionMode.TheVariants as mode
 use Rattle.html_rules.specs.declared.tag_set.TagSet.TheVariants as set
 use Rattle.html_rules_laws.specs.Held.{Held}
 use Rattle.html_rules_laws.specs.Placing.{are_general, is_in_head, may_stand_over, stand_well}
-use Rattle.html_rules_laws.specs.Sound.{are_placed, are_placed_in, are_placed_under, asks_root, comes_from_table, has_its_head, is_later, is_later_original, is_over_head_element, is_own, is_table_mode}
+use Rattle.html_rules_laws.specs.Sound.{are_placed, are_placed_in, are_placed_under, asks_root, comes_from_table, has_its_head}
+use Rattle.html_rules_laws.specs.Sound.{is_later, is_later_original, is_over_head_element, is_own, is_table_mode}
 use Rattle.html_rules_laws.proofs.Frames.Aside.{aside_kept}
 use Rattle.html_rules_laws.proofs.Frames.Firm.{IsOrdinary, firm-part, over-plain, part-html}
 use Rattle.html_rules_laws.proofs.SetFacts.{all_among, among-all, in-apart}
 use Rattle.html_rules_laws.proofs.Termination.Kinds.{Kind, Starts, is_of}
 use Rattle.html_rules_laws.proofs.Soundness.Acts.{act-aside, act-tame, plain-of, tame_in}
-use Rattle.html_rules_laws.proofs.Soundness.Moves.{closed-held, from-well, free-placed, free-later, held-some, implied-count, is_loose, kept_by_implied, loose-tame, reset-held}
+use Rattle.html_rules_laws.proofs.Soundness.Moves.{closed-held, from-well, free-placed, free-later, held-some, implied-count}
+use Rattle.html_rules_laws.proofs.Soundness.Moves.{is_loose, kept_by_implied, loose-tame, reset-held}
 use Rattle.html_rules_laws.proofs.Soundness.Rows.{IsCalm, StandsWell, closes, starts_plain, tame-calm}
 use Rattle.html_rules_laws.proofs.TreePreserved.Standing.{part-but_root, part-from}
 use Rattle.html_rules_laws.proofs.Frames.Tame.{behind-listed, expect_to_close-tame}
@@ -50,7 +57,9 @@ close-elements p s = by (current_is p s.open_elems) where
   by false = refl
 
 thorough-closed : (s : State) → is_later s.mode ≡ true → StandsWell s → Held s → has_open set.Template s.open_elems ≡ true
-    → Held (reset_insertion_mode (pop_template_mode (clear_active_formatting_to_marker (expect_to_close (is_in set.Template) (generate_implied_end_tags set.ThoroughImpliedEnd s)))))
+    → Held (reset_insertion_mode
+    (pop_template_mode (clear_active_formatting_to_marker
+    (expect_to_close (is_in set.Template) (generate_implied_end_tags set.ThoroughImpliedEnd s)))))
 unfolding generate_implied_end_tags clear_active_formatting_to_marker pop_template_mode
 thorough-closed s later well h there =
     let one : State = generate_implied_end_tags set.ThoroughImpliedEnd s in
@@ -59,18 +68,28 @@ thorough-closed s later well h there =
     let listed = (expect_to_close-tame (is_in set.Template) one h.listed).listed in
     let zs : List Open = left_from kept_by_implied s.open_elems in
     let count = implied-count s.open_elems in
-    closed-held s (pop_template_mode (clear_active_formatting_to_marker two)) zs later h (λ e root. from-well kept_by_implied s.open_elems (well e root)) count.0 (count.1 there) (part-html s.open_elems zs (part-from kept_by_implied s.open_elems))
-    (close-elements (is_in set.Template) one) (ap (λ modes. without_first modes) aside.modes) aside.head aside.context (behind-listed two.active_formatting listed) (rw aside.original h.original)
+    closed-held s (pop_template_mode (clear_active_formatting_to_marker two)) zs later h
+    (λ e root. from-well kept_by_implied s.open_elems (well e root)) count.0 (count.1 there)
+    (part-html s.open_elems zs (part-from kept_by_implied s.open_elems))
+    (close-elements (is_in set.Template) one) (ap (λ modes. without_first modes) aside.modes) aside.head
+    aside.context (behind-listed two.active_formatting listed) (rw aside.original h.original)
 
 erred-closed : (s : State) → is_later s.mode ≡ true → StandsWell s → Held s → has_open set.Template s.open_elems ≡ true
     → Held (reset_insertion_mode (pop_template_mode (clear_active_formatting_to_marker (pop_until (is_in set.Template) (parse_error s)))))
 unfolding parse_error pop_until clear_active_formatting_to_marker pop_template_mode
 erred-closed s later well h there =
-    closed-held s (pop_template_mode (clear_active_formatting_to_marker (pop_until (is_in set.Template) (parse_error s)))) s.open_elems later h well refl there (λ k. k) refl refl refl refl (behind-listed s.active_formatting h.listed) h.original
+    closed-held s (pop_template_mode
+    (clear_active_formatting_to_marker (pop_until (is_in set.Template) (parse_error s)))) s.open_elems later h
+    well refl there (λ k. k) refl refl refl refl (behind-listed s.active_formatting h.listed) h.original
 
-pub closes-held : (condition : Condition) (a : Action) → closes condition a ≡ true → (t : Token) (s : State) → holds condition t s ≡ true → is_later s.mode ≡ true → StandsWell s → Held s → Held (act a t s)
-closes-held TemplateOpen (Then ImpliedEndTagsThoroughly (Then (Close set.Template) (Then ClearToMarker (Then PopTemplateMode ResetMode)))) c t s o later well h = thorough-closed s later well h o
-closes-held TemplateOpen (Then ParseError (Then (PopUntil set.Template) (Then ClearToMarker (Then PopTemplateMode ResetMode)))) c t s o later well h = erred-closed s later well h o
+pub closes-held : (condition : Condition) (a : Action) → closes condition a ≡ true → (t : Token) (s : State)
+    → holds condition t s ≡ true → is_later s.mode ≡ true → StandsWell s → Held s → Held (act a t s)
+closes-held TemplateOpen (Then ImpliedEndTagsThoroughly
+    (Then (Close set.Template) (Then ClearToMarker (Then PopTemplateMode ResetMode)))) c t s o later well h =
+    thorough-closed s later well h o
+closes-held TemplateOpen (Then ParseError
+    (Then (PopUntil set.Template) (Then ClearToMarker (Then PopTemplateMode ResetMode)))) c t s o later well h =
+    erred-closed s later well h o
 closes-held condition a c t s o later well h = no c
 
 -- the mode is reset after tame steps
@@ -81,12 +100,16 @@ resets kind ResetMode = true
 resets kind a = false
 
 pub calm-well : (s : State) → IsCalm s → StandsWell s
-calm-well s is e root = (and_parts (not (is_in_head s.open_elems)) _ (sym (free-placed s.mode is.free s.orig_mode s.open_elems) ∙ is.held.placed e root)).1
+calm-well s is e root = (and_parts (not (is_in_head s.open_elems)) _
+    (sym (free-placed s.mode is.free s.orig_mode s.open_elems) ∙ is.held.placed e root)).1
 
-pub resets-held : (kind : Kind) (a : Action) → resets kind a ≡ true → (t : Token) → is_of kind t ≡ true → (s : State) → IsCalm s → Held (act a t s)
-resets-held kind (Then a b) h t f s is = let parts = and_parts (tame_in kind a) (resets kind b) h in resets-held kind b parts.1 t f (act a t s) (tame-calm kind a parts.0 t f s is)
+pub resets-held : (kind : Kind) (a : Action) → resets kind a ≡ true → (t : Token) → is_of kind t ≡ true
+    → (s : State) → IsCalm s → Held (act a t s)
+resets-held kind (Then a b) h t f s is = let parts = and_parts (tame_in kind a) (resets kind b) h in
+    resets-held kind b parts.1 t f (act a t s) (tame-calm kind a parts.0 t f s is)
 resets-held kind ResetMode h t f s is =
-    reset-held s is.held.listed is.held.original is.held.modes (held-some s (free-later s.mode is.free) is.held) is.held.most (λ e root. calm-well s is e (λ later. root))
+    reset-held s is.held.listed is.held.original is.held.modes (held-some s (free-later s.mode is.free) is.held)
+    is.held.most (λ e root. calm-well s is e (λ later. root))
 resets-held kind a h t f s is = no h
 
 -- the root
@@ -95,7 +118,8 @@ empty-well : (xs : List Open) → not (is_nonempty xs) ≡ true → stand_well x
 empty-well [] h = refl
 empty-well (x ∷ xs) h = no h
 
-rooted-held : (attributes : List Attribute) (s : State) → s.mode ≡ mode.BeforeHtml → Held s → Held (set_mode mode.BeforeHead (create_root attributes s))
+rooted-held : (attributes : List Attribute) (s : State) → s.mode ≡ mode.BeforeHtml → Held s
+    → Held (set_mode mode.BeforeHead (create_root attributes s))
 unfolding create_root set_mode names_of
 rooted-held attributes s e h =
     let head : asks_root s.context_elem ≡ true = rw e at h.head in
@@ -105,7 +129,8 @@ rooted-held attributes s e h =
       head = head;
       original = h.original;
       most = h.most;
-      placed = λ f root. let empty : not (is_nonempty s.open_elems) ≡ true = rw e at (h.placed f (λ later. absurd (true≢false (sym later ∙ ap is_later e)))) in both _ _ empty (empty-well s.open_elems empty);
+      placed = λ f root. let empty : not (is_nonempty s.open_elems) ≡ true =
+          rw e at (h.placed f (λ later. absurd (true≢false (sym later ∙ ap is_later e)))) in both _ _ empty (empty-well s.open_elems empty);
     }
 
 abbrev pub before_html_ok : Action → Conclusion → Bool
@@ -113,7 +138,9 @@ before_html_ok (Then CreateRoot (SwitchTo mode.BeforeHead)) Done = true
 before_html_ok CreateNewRoot (Reprocess mode.BeforeHead) = true
 before_html_ok a e = false
 
-pub before_html-held : (using : InsertionMode → Token → State → Turn) (a : Action) (e : Conclusion) → before_html_ok a e ≡ true → (t : Token) (script : ℕ) (s : State) → s.mode ≡ mode.BeforeHtml → Held s → Held (concluded using e t script (act a t s)).state
+pub before_html-held : (using : InsertionMode → Token → State → Turn) (a : Action) (e : Conclusion)
+    → before_html_ok a e ≡ true → (t : Token) (script : ℕ) (s : State) → s.mode ≡ mode.BeforeHtml → Held s
+    → Held (concluded using e t script (act a t s)).state
 before_html-held using (Then CreateRoot (SwitchTo mode.BeforeHead)) Done h t script s at is = rooted-held (attributes_of t) s at is
 before_html-held using CreateNewRoot (Reprocess mode.BeforeHead) h t script s at is = rooted-held [] s at is
 before_html-held using a e h t script s at is = no h
@@ -132,7 +159,9 @@ root-html : (xs : List Open) → is_at_root xs ≡ true → has_open set.Html xs
 root-html [] h = no h
 root-html (x ∷ xs) h = rw h refl
 
-headed-held : (name : List ℕ) (attributes : List Attribute) (dup : Bool) → is_among name (names_of set.Head) ≡ true → (s : State) → s.mode ≡ mode.BeforeHead → Held s → Held (set_mode mode.InHead (set_head_elem (insert_element Html name attributes dup s)))
+headed-held : (name : List ℕ) (attributes : List Attribute) (dup : Bool) → is_among name (names_of set.Head) ≡ true
+    → (s : State) → s.mode ≡ mode.BeforeHead → Held s
+    → Held (set_mode mode.InHead (set_head_elem (insert_element Html name attributes dup s)))
 unfolding set_mode set_head_elem insert_element
 headed-held name attributes dup n s e h =
     let x : Open = record { number = node_count s.forest; namespace = Html; name = name } in
@@ -146,9 +175,11 @@ headed-held name attributes dup n s e h =
       original = h.original;
       most = rw template h.most;
       placed = λ f root.
-          let was : (is_at_root s.open_elems && stand_well s.open_elems) ≡ true = rw e at (h.placed (rw template at f) (λ later. absurd (true≢false (sym later ∙ ap is_later e)))) in
+          let was : (is_at_root s.open_elems && stand_well s.open_elems) ≡ true =
+          rw e at (h.placed (rw template at f) (λ later. absurd (true≢false (sym later ∙ ap is_later e)))) in
           let parts = and_parts (is_at_root s.open_elems) (stand_well s.open_elems) was in
-          both _ _ (both _ _ head (root-html s.open_elems parts.0)) (both _ _ (rw (root', head, parts.0) (or_true (not (has_open set.Html s.open_elems)))) parts.1);
+          both _ _ (both _ _ head (root-html s.open_elems parts.0))
+          (both _ _ (rw (root', head, parts.0) (or_true (not (has_open set.Html s.open_elems)))) parts.1);
     }
 
 abbrev pub starts_head : Kind → Bool
@@ -160,26 +191,34 @@ before_head_ok kind (Then InsertElement (Then SetHeadElem (SwitchTo mode.InHead)
 before_head_ok kind (Then (InsertNew name) SetHeadElem) (Reprocess mode.InHead) = is_among name (names_of set.Head)
 before_head_ok kind a e = false
 
-inserted-head : (kind : Kind) → starts_head kind ≡ true → (t : Token) → is_of kind t ≡ true → (s : State) → s.mode ≡ mode.BeforeHead → Held s → Held (act (Then InsertElement (Then SetHeadElem (SwitchTo mode.InHead))) t s)
-inserted-head (Starts names) h (TagToken tag) f s at is = headed-held tag.name tag.attrs tag.had_duplicate_attributes (among-all tag.name names (names_of set.Head) h (and_parts (is_start_tag tag.kind) _ f).1) s at is
+inserted-head : (kind : Kind) → starts_head kind ≡ true → (t : Token) → is_of kind t ≡ true → (s : State)
+    → s.mode ≡ mode.BeforeHead → Held s → Held (act (Then InsertElement (Then SetHeadElem (SwitchTo mode.InHead))) t s)
+inserted-head (Starts names) h (TagToken tag) f s at is =
+    headed-held tag.name tag.attrs tag.had_duplicate_attributes
+    (among-all tag.name names (names_of set.Head) h (and_parts (is_start_tag tag.kind) _ f).1) s at is
 inserted-head (Starts names) h t f s at is = no f
 inserted-head kind h t f s at is = no h
 
-pub before_head-held : (using : InsertionMode → Token → State → Turn) (kind : Kind) (a : Action) (e : Conclusion) → before_head_ok kind a e ≡ true → (t : Token) → is_of kind t ≡ true → (script : ℕ) (s : State) → s.mode ≡ mode.BeforeHead → Held s
+pub before_head-held : (using : InsertionMode → Token → State → Turn) (kind : Kind) (a : Action) (e : Conclusion)
+    → before_head_ok kind a e ≡ true → (t : Token) → is_of kind t ≡ true → (script : ℕ) (s : State) → s.mode ≡ mode.BeforeHead → Held s
     → Held (concluded using e t script (act a t s)).state
-before_head-held using kind (Then InsertElement (Then SetHeadElem (SwitchTo mode.InHead))) Done h t f script s at is = inserted-head kind h t f s at is
-before_head-held using kind (Then (InsertNew name) SetHeadElem) (Reprocess mode.InHead) h t f script s at is = headed-held name [] false h s at is
+before_head-held using kind (Then InsertElement (Then SetHeadElem (SwitchTo mode.InHead))) Done h t f script s at
+    is = inserted-head kind h t f s at is
+before_head-held using kind (Then (InsertNew name) SetHeadElem) (Reprocess mode.InHead) h t f script s at is =
+    headed-held name [] false h s at is
 before_head-held using kind a e h t f script s at is = no h
 
 -- in the head
 
-some-later : (m : InsertionMode) (s : State) → is_later m ≡ true → (is_some s.head_elem || not (asks_root s.context_elem)) ≡ true → has_its_head m s.head_elem s.context_elem ≡ true
+some-later : (m : InsertionMode) (s : State) → is_later m ≡ true
+    → (is_some s.head_elem || not (asks_root s.context_elem)) ≡ true → has_its_head m s.head_elem s.context_elem ≡ true
 some-later m s l h = rw l h
 
 later-at : (s : State) (m : InsertionMode) → s.mode ≡ m → is_later m ≡ true → is_later s.mode ≡ true
 later-at s m e l = ap is_later e ∙ l
 
-noscript-held : (tag : Tag) → ((n : ℕ) → IsOrdinary (record { number = n; namespace = Html; name = tag.name })) → (s : State) → s.mode ≡ mode.InHead → Held s → Held (set_mode mode.InHeadNoscript (insert_element_for tag s))
+noscript-held : (tag : Tag) → ((n : ℕ) → IsOrdinary (record { number = n; namespace = Html; name = tag.name }))
+    → (s : State) → s.mode ≡ mode.InHead → Held s → Held (set_mode mode.InHeadNoscript (insert_element_for tag s))
 unfolding set_mode insert_element
 noscript-held tag plain s e h =
     let is = plain (node_count s.forest) in
@@ -189,7 +228,8 @@ noscript-held tag plain s e h =
       head = some-later mode.InHeadNoscript s refl (held-some s (later-at s mode.InHead e refl) h);
       original = h.original;
       most = rw is.template h.most;
-      placed = λ f root. both _ _ (rw (is.root, is.template) refl) (rw e at (h.placed (rw is.template at f) (λ later. rw is.root at (root refl))));
+      placed = λ f root. both _ _ (rw (is.root, is.template) refl)
+          (rw e at (h.placed (rw is.template at f) (λ later. rw is.root at (root refl))));
     }
 
 -- what is under a head on top
@@ -202,7 +242,8 @@ head-general (x ∷ xs) g w =
 
 -- the current node leaves for another later mode
 popped-held : (m : InsertionMode) (s : State) → is_later s.mode ≡ true → is_later m ≡ true → Held s
-    → (are_placed_in s.mode s.orig_mode s.open_elems ≡ true → are_placed_in m s.orig_mode (without_current_but_root s.open_elems) ≡ true) → Held (set_mode m (pop_but_root s))
+    → (are_placed_in s.mode s.orig_mode s.open_elems ≡ true → are_placed_in m s.orig_mode
+    (without_current_but_root s.open_elems) ≡ true) → Held (set_mode m (pop_but_root s))
 unfolding set_mode pop_but_root
 popped-held m s later l h placed =
     let firm = firm-part s.open_elems (without_current_but_root s.open_elems) (part-but_root s.open_elems) in
@@ -230,12 +271,14 @@ left-head s e is =
     let parts = and_parts (is_in_head s.open_elems) (stand_well s.open_elems) was in
     head-general s.open_elems parts.0 parts.1)
 
-inserted-noscript : (kind : Kind) → starts_plain kind ≡ true → (t : Token) → is_of kind t ≡ true → (s : State) → s.mode ≡ mode.InHead → Held s → Held (act (Then InsertElement (SwitchTo mode.InHeadNoscript)) t s)
+inserted-noscript : (kind : Kind) → starts_plain kind ≡ true → (t : Token) → is_of kind t ≡ true → (s : State)
+    → s.mode ≡ mode.InHead → Held s → Held (act (Then InsertElement (SwitchTo mode.InHeadNoscript)) t s)
 inserted-noscript (Starts names) h (TagToken tag) f s at is = noscript-held tag (plain-of (Starts names) tag h f) s at is
 inserted-noscript (Starts names) h t f s at is = no f
 inserted-noscript kind h t f s at is = no h
 
-pub in_head-held : (using : InsertionMode → Token → State → Turn) (kind : Kind) (a : Action) (e : Conclusion) → in_head_ok kind a e ≡ true → (t : Token) → is_of kind t ≡ true → (script : ℕ) (s : State) → s.mode ≡ mode.InHead → Held s
+pub in_head-held : (using : InsertionMode → Token → State → Turn) (kind : Kind) (a : Action) (e : Conclusion)
+    → in_head_ok kind a e ≡ true → (t : Token) → is_of kind t ≡ true → (script : ℕ) (s : State) → s.mode ≡ mode.InHead → Held s
     → Held (concluded using e t script (act a t s)).state
 in_head-held using kind (Then InsertElement (SwitchTo mode.InHeadNoscript)) Done h t f script s at is = inserted-noscript kind h t f s at is
 in_head-held using kind (Then Pop (SwitchTo mode.AfterHead)) Done h t f script s at is = left-head s at is
@@ -250,7 +293,8 @@ noscript_ok a e = false
 own-root : (x : Open) → is_own x ≡ true → is_in set.Html x ≡ false
 own-root x h = not_true _ (and_parts (not (is_in set.Html x)) _ (and_parts (is_html_element x) _ h).1).0
 
-under-own : (xs : List Open) → is_over_head_element xs ≡ true → (is_in_head (without_current_but_root xs) && stand_well (without_current_but_root xs)) ≡ true
+under-own : (xs : List Open) → is_over_head_element xs ≡ true
+    → (is_in_head (without_current_but_root xs) && stand_well (without_current_but_root xs)) ≡ true
 under-own [] h = no h
 under-own (x ∷ xs) h = let parts = and_parts (is_own x) _ h in rw (own-root x parts.0) parts.1
 
@@ -265,9 +309,12 @@ error-mode : (s : State) → (parse_error s).mode ≡ s.mode
 unfolding parse_error
 error-mode s = refl
 
-pub noscript-ends : (using : InsertionMode → Token → State → Turn) (a : Action) (e : Conclusion) → noscript_ok a e ≡ true → (t : Token) (script : ℕ) (s : State) → s.mode ≡ mode.InHeadNoscript → Held s → Held (concluded using e t script (act a t s)).state
+pub noscript-ends : (using : InsertionMode → Token → State → Turn) (a : Action) (e : Conclusion)
+    → noscript_ok a e ≡ true → (t : Token) (script : ℕ) (s : State) → s.mode ≡ mode.InHeadNoscript → Held s
+    → Held (concluded using e t script (act a t s)).state
 noscript-ends using (Then Pop (SwitchTo mode.InHead)) Done h t script s at is = left-noscript s at is
-noscript-ends using (Then ParseError Pop) (Reprocess mode.InHead) h t script s at is = left-noscript (parse_error s) (error-mode s ∙ at) (erred-held s is)
+noscript-ends using (Then ParseError Pop) (Reprocess mode.InHead) h t script s at is = left-noscript (parse_error s)
+    (error-mode s ∙ at) (erred-held s is)
 noscript-ends using a e h t script s at is = no h
 
 -- text of an element is over
@@ -281,7 +328,8 @@ mode-in mode.Text o xs h = no h
 mode-in mode.InTableText o xs h = no h
 mode-in m o xs h = h
 
-under-placed : (o : Option InsertionMode) (xs : List Open) → are_placed_under o xs ≡ true → are_placed_in (or_mode o mode.Text) None (without_current_but_root xs) ≡ true
+under-placed : (o : Option InsertionMode) (xs : List Open) → are_placed_under o xs ≡ true
+    → are_placed_in (or_mode o mode.Text) None (without_current_but_root xs) ≡ true
 under-placed None xs h = no h
 under-placed (Some m) [] h = no h
 under-placed (Some m) (x ∷ xs) h =
@@ -310,15 +358,18 @@ text_ok (Then Pop RestoreMode) Done = true
 text_ok (Then Pop RestoreMode) RunScript = true
 text_ok a e = false
 
-pub text-ends : (using : InsertionMode → Token → State → Turn) (a : Action) (e : Conclusion) → text_ok a e ≡ true → (t : Token) (script : ℕ) (s : State) → s.mode ≡ mode.Text → Held s → Held (concluded using e t script (act a t s)).state
-text-ends using (Then ParseError Pop) ReprocessInOriginal h t script s at is = text-back (parse_error s) (error-mode s ∙ at) (erred-held s is)
+pub text-ends : (using : InsertionMode → Token → State → Turn) (a : Action) (e : Conclusion) → text_ok a e ≡ true
+    → (t : Token) (script : ℕ) (s : State) → s.mode ≡ mode.Text → Held s → Held (concluded using e t script (act a t s)).state
+text-ends using (Then ParseError Pop) ReprocessInOriginal h t script s at is = text-back (parse_error s)
+    (error-mode s ∙ at) (erred-held s is)
 text-ends using (Then Pop RestoreMode) Done h t script s at is = text-back s at is
 text-ends using (Then Pop RestoreMode) RunScript h t script s at is = text-back s at is
 text-ends using a e h t script s at is = no h
 
 -- text of a table is over
 
-table-placed : (o : Option InsertionMode) (xs : List Open) → comes_from_table o ≡ true → are_general xs ≡ true → are_placed_in (or_mode o mode.InTableText) None xs ≡ true
+table-placed : (o : Option InsertionMode) (xs : List Open) → comes_from_table o ≡ true → are_general xs ≡ true
+    → are_placed_in (or_mode o mode.InTableText) None xs ≡ true
 table-placed None xs h g = no h
 table-placed (Some m) xs h g = by m h where
   by : (m : InsertionMode) → is_table_mode m ≡ true → are_placed_in m None xs ≡ true
@@ -347,9 +398,11 @@ abbrev pub table_text_ok : Action → Conclusion → Bool
 table_text_ok InsertPendingText ReprocessInOriginal = true
 table_text_ok a e = false
 
-pub table_text-ends : (using : InsertionMode → Token → State → Turn) (kind : Kind) (a : Action) (e : Conclusion) → table_text_ok a e ≡ true → (t : Token) → is_of kind t ≡ true → (script : ℕ) (s : State) → s.mode ≡ mode.InTableText → Held s
+pub table_text-ends : (using : InsertionMode → Token → State → Turn) (kind : Kind) (a : Action) (e : Conclusion)
+    → table_text_ok a e ≡ true → (t : Token) → is_of kind t ≡ true → (script : ℕ) (s : State) → s.mode ≡ mode.InTableText → Held s
     → Held (concluded using e t script (act a t s)).state
 table_text-ends using kind InsertPendingText ReprocessInOriginal h t f script s at is =
     let aside = act-aside kind InsertPendingText refl t s in
-    table-back (insert_pending_text s) (aside.mode ∙ at) (loose-tame s (ap is_loose at) is (insert_pending_text s) (act-tame kind InsertPendingText refl t f s is.listed) aside)
+    table-back (insert_pending_text s) (aside.mode ∙ at) (loose-tame s (ap is_loose at) is (insert_pending_text s)
+    (act-tame kind InsertPendingText refl t f s is.listed) aside)
 table_text-ends using kind a e h t f script s at is = no h

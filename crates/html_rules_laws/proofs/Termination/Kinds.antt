@@ -8,15 +8,18 @@ use Rattle.html_tokens.specs.declared.tags.Tag.{Tag}
 use Rattle.html_tokens.specs.declared.tags.TagKind.{TagKind}
 use Rattle.html_tokens.specs.declared.tags.TagKind.TheVariants.{StartTag, EndTag}
 use Rattle.html_tokens.specs.declared.token.Token.{Token}
-use Rattle.html_tokens.specs.declared.token.Token.TheVariants.{DoctypeToken, TagToken, CommentToken, CharacterTokens, NullCharacterToken, EOFToken, ParseError}
+use Rattle.html_tokens.specs.declared.token.Token.TheVariants.{DoctypeToken, TagToken, CommentToken, CharacterTokens}
+use Rattle.html_tokens.specs.declared.token.Token.TheVariants.{NullCharacterToken, EOFToken, ParseError}
 use Rattle.html_rules.specs.Choice.{choose}
 use Rattle.html_rules.specs.ForeignContent.{is_start_tag, is_end_tag}
 use Rattle.html_rules.specs.Sets.{is_among, names_of}
-use Rattle.html_rules.specs.Table.{Class, StartTags, EndTags, AnyStartTag, AnyEndTag, WhiteSpace, Character, Null, Comment, EndOfFile, AnythingElse}
+use Rattle.html_rules.specs.Table.{Class, StartTags, EndTags, AnyStartTag, AnyEndTag, WhiteSpace, Character, Null, Comment}
+use Rattle.html_rules.specs.Table.{EndOfFile, AnythingElse}
 use Rattle.html_rules.specs.Tokens.{class_fits, is_white}
 use Rattle.html_rules_laws.proofs.Bools.{both, no, not_true}
 
--- start tags with one of these names, or with none of them; end tags; characters, of white space alone; U+0000; the end; comments; any other token that is no tag
+-- start tags with one of these names, or with none of them; end tags; characters, of white space alone; U+0000; the end; comments; any
+-- other token that is no tag
 pub data Kind : Type 0 where
   Starts : (names : List (List ℕ)) → Kind
   StartsBut : (names : List (List ℕ)) → Kind
@@ -102,26 +105,30 @@ left kind class = kind
 
 -- names
 
-among-common : (name : List ℕ) (xs names : List (List ℕ)) → is_among name xs ≡ true → is_among name names ≡ true → is_among name (common xs names) ≡ true
+among-common : (name : List ℕ) (xs names : List (List ℕ)) → is_among name xs ≡ true → is_among name names ≡ true
+    → is_among name (common xs names) ≡ true
 among-common name [] names h k = h
 among-common name (x ∷ xs) names h k = by (bytes_eq name x) (is_among x names) refl refl h (λ h. among-common name xs names h k) where
   same : bytes_eq name x ≡ true → is_among x names ≡ true
   same e = rw (← (bytes_eq-Decides name x).0 e) k
 
-  by : (a b : Bool) → bytes_eq name x ≡ a → is_among x names ≡ b → (a || is_among name xs) ≡ true → (is_among name xs ≡ true → is_among name (common xs names) ≡ true)
+  by : (a b : Bool) → bytes_eq name x ≡ a → is_among x names ≡ b → (a || is_among name xs) ≡ true
+      → (is_among name xs ≡ true → is_among name (common xs names) ≡ true)
       → is_among name (choose b (λ _. x ∷ common xs names) (λ _. common xs names)) ≡ true
   by true true e f h rest = rw e refl
   by true false e f h rest = absurd (true≢false (sym (same e) ∙ f))
   by false true e f h rest = rw e (rest h)
   by false false e f h rest = rest h
 
-among-minus : (name : List ℕ) (xs names : List (List ℕ)) → is_among name xs ≡ true → is_among name names ≡ false → is_among name (minus xs names) ≡ true
+among-minus : (name : List ℕ) (xs names : List (List ℕ)) → is_among name xs ≡ true → is_among name names ≡ false
+    → is_among name (minus xs names) ≡ true
 among-minus name [] names h k = h
 among-minus name (x ∷ xs) names h k = by (bytes_eq name x) (is_among x names) refl refl h (λ h. among-minus name xs names h k) where
   same : bytes_eq name x ≡ true → is_among x names ≡ false
   same e = rw (← (bytes_eq-Decides name x).0 e) k
 
-  by : (a b : Bool) → bytes_eq name x ≡ a → is_among x names ≡ b → (a || is_among name xs) ≡ true → (is_among name xs ≡ true → is_among name (minus xs names) ≡ true)
+  by : (a b : Bool) → bytes_eq name x ≡ a → is_among x names ≡ b → (a || is_among name xs) ≡ true
+      → (is_among name xs ≡ true → is_among name (minus xs names) ≡ true)
       → is_among name (choose b (λ _. minus xs names) (λ _. x ∷ minus xs names)) ≡ true
   by true true e f h rest = absurd (true≢false (sym f ∙ same e))
   by true false e f h rest = rw e refl
@@ -134,7 +141,8 @@ one_kind EndTag h k = true≢false (sym h)
 
 -- a class takes of a kind what it is said to
 
-tag-hit : (kind : Kind) (c : Class) (tag : Tag) → is_of kind (TagToken tag) ≡ true → class_fits c (TagToken tag) ≡ true → is_of (hit kind c) (TagToken tag) ≡ true
+tag-hit : (kind : Kind) (c : Class) (tag : Tag) → is_of kind (TagToken tag) ≡ true
+    → class_fits c (TagToken tag) ≡ true → is_of (hit kind c) (TagToken tag) ≡ true
 tag-hit (Starts names) (StartTags set) tag h k =
     let a = and_parts (is_start_tag tag.kind) (is_among tag.name names) h in
     let b = and_parts (is_start_tag tag.kind) (is_among tag.name (names_of set)) k in
@@ -151,10 +159,14 @@ tag-hit (EndsBut names) (EndTags set) tag h k =
     let a = and_parts (is_end_tag tag.kind) (not (is_among tag.name names)) h in
     let b = and_parts (is_end_tag tag.kind) (is_among tag.name (names_of set)) k in
     both (is_end_tag tag.kind) _ a.0 (among-minus tag.name (names_of set) names b.1 (not_true _ a.1))
-tag-hit (Starts names) (EndTags set) tag h k = absurd (one_kind tag.kind (and_parts (is_start_tag tag.kind) _ h).0 (and_parts (is_end_tag tag.kind) _ k).0)
-tag-hit (StartsBut names) (EndTags set) tag h k = absurd (one_kind tag.kind (and_parts (is_start_tag tag.kind) _ h).0 (and_parts (is_end_tag tag.kind) _ k).0)
-tag-hit (Ends names) (StartTags set) tag h k = absurd (one_kind tag.kind (and_parts (is_start_tag tag.kind) _ k).0 (and_parts (is_end_tag tag.kind) _ h).0)
-tag-hit (EndsBut names) (StartTags set) tag h k = absurd (one_kind tag.kind (and_parts (is_start_tag tag.kind) _ k).0 (and_parts (is_end_tag tag.kind) _ h).0)
+tag-hit (Starts names) (EndTags set) tag h k =
+    absurd (one_kind tag.kind (and_parts (is_start_tag tag.kind) _ h).0 (and_parts (is_end_tag tag.kind) _ k).0)
+tag-hit (StartsBut names) (EndTags set) tag h k =
+    absurd (one_kind tag.kind (and_parts (is_start_tag tag.kind) _ h).0 (and_parts (is_end_tag tag.kind) _ k).0)
+tag-hit (Ends names) (StartTags set) tag h k =
+    absurd (one_kind tag.kind (and_parts (is_start_tag tag.kind) _ k).0 (and_parts (is_end_tag tag.kind) _ h).0)
+tag-hit (EndsBut names) (StartTags set) tag h k =
+    absurd (one_kind tag.kind (and_parts (is_start_tag tag.kind) _ k).0 (and_parts (is_end_tag tag.kind) _ h).0)
 tag-hit (Starts names) AnyEndTag tag h k = absurd (one_kind tag.kind (and_parts (is_start_tag tag.kind) _ h).0 k)
 tag-hit (StartsBut names) AnyEndTag tag h k = absurd (one_kind tag.kind (and_parts (is_start_tag tag.kind) _ h).0 k)
 tag-hit (Ends names) AnyStartTag tag h k = absurd (one_kind tag.kind k (and_parts (is_end_tag tag.kind) _ h).0)
@@ -172,7 +184,8 @@ tag-hit Others c tag h k = no h
 tag-hit kind AnythingElse tag h k = h
 tag-hit kind c tag h k = no k
 
-text-hit : (kind : Kind) (c : Class) (text : List ℕ) → is_of kind (CharacterTokens text) ≡ true → class_fits c (CharacterTokens text) ≡ true → is_of (hit kind c) (CharacterTokens text) ≡ true
+text-hit : (kind : Kind) (c : Class) (text : List ℕ) → is_of kind (CharacterTokens text) ≡ true
+    → class_fits c (CharacterTokens text) ≡ true → is_of (hit kind c) (CharacterTokens text) ≡ true
 text-hit Texts WhiteSpace text h k = k
 text-hit Whites WhiteSpace text h k = h
 text-hit Whites Character text h k = h
@@ -222,7 +235,8 @@ and_false : (a b : Bool) → (a && b) ≡ false → a ≡ true → b ≡ false
 and_false true b h e = h
 and_false false b h e = no e
 
-tag-left : (kind : Kind) (c : Class) (tag : Tag) → is_of kind (TagToken tag) ≡ true → class_fits c (TagToken tag) ≡ false → is_of (left kind c) (TagToken tag) ≡ true
+tag-left : (kind : Kind) (c : Class) (tag : Tag) → is_of kind (TagToken tag) ≡ true
+    → class_fits c (TagToken tag) ≡ false → is_of (left kind c) (TagToken tag) ≡ true
 tag-left (Starts names) (StartTags set) tag h k =
     let a = and_parts (is_start_tag tag.kind) (is_among tag.name names) h in
     both (is_start_tag tag.kind) _ a.0 (among-minus tag.name names (names_of set) a.1 (and_false _ _ k a.0))
@@ -242,7 +256,8 @@ tag-left Others c tag h k = no h
 tag-left kind AnythingElse tag h k = absurd (true≢false k)
 tag-left kind c tag h k = h
 
-text-left : (kind : Kind) (c : Class) (text : List ℕ) → is_of kind (CharacterTokens text) ≡ true → class_fits c (CharacterTokens text) ≡ false → is_of (left kind c) (CharacterTokens text) ≡ true
+text-left : (kind : Kind) (c : Class) (text : List ℕ) → is_of kind (CharacterTokens text) ≡ true
+    → class_fits c (CharacterTokens text) ≡ false → is_of (left kind c) (CharacterTokens text) ≡ true
 text-left Texts Character text h k = absurd (true≢false k)
 text-left Whites Character text h k = absurd (true≢false k)
 text-left Whites AnythingElse text h k = absurd (true≢false k)

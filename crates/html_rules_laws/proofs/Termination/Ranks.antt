@@ -1,4 +1,5 @@
--- A rank of modes, for each family of tokens: where a token is taken again, the rank of the mode goes down, or an element is popped that pays four.
+-- A rank of modes, for each family of tokens: where a token is taken again, the rank of the mode goes down, or an element is popped that
+-- pays four.
 use Rattle.std.proofs.Common.{◌≡◌, ℕ, zero, suc, ◌+◌, ◌*◌, Bool, true, false, List, [], ◌∷◌, refl, ap, true≢false, codes}
 use Rattle.std.specs.Prelude.{◌||◌, ◌&&◌, not, nat_eq, nat_le, nat_lt}
 use Rattle.std.proofs.lemmas.Bool.{and_parts}
@@ -6,19 +7,28 @@ use Rattle.html_tokens.specs.declared.tags.Tag.{Tag}
 use Rattle.html_tokens.specs.declared.tags.TagKind.{TagKind}
 use Rattle.html_tokens.specs.declared.tags.TagKind.TheVariants.{StartTag, EndTag}
 use Rattle.html_tokens.specs.declared.token.Token.{Token}
-use Rattle.html_tokens.specs.declared.token.Token.TheVariants.{DoctypeToken, TagToken, CommentToken, CharacterTokens, NullCharacterToken, EOFToken, ParseError}
+use Rattle.html_tokens.specs.declared.token.Token.TheVariants.{DoctypeToken, TagToken, CommentToken, CharacterTokens}
+use Rattle.html_tokens.specs.declared.token.Token.TheVariants.{NullCharacterToken, EOFToken, ParseError}
 use Rattle.html_rules.specs.Choice.{choose}
 use Rattle.html_rules.specs.ForeignContent.{is_start_tag, is_end_tag}
 use Rattle.html_rules.specs.Modes.Foreign.{in_foreign_content}
 use Rattle.html_rules.specs.Rules.{rows}
 use Rattle.html_rules.specs.Sets.{is_among, mathml_names_of, names_of, svg_names_of}
-use Rattle.html_rules.specs.Table.{Row, Condition, CurrentIs, InScope, Action, Then, ClearBackTo, Pop, InsertPendingText, Conclusion, Reprocess, ReprocessInOriginal, ReprocessInMode, Using, UsingThen, UsingCurrentMode}
+use Rattle.html_rules.specs.Table.{Row, Condition, CurrentIs, InScope, Action, Then, ClearBackTo, Pop, InsertPendingText}
+use Rattle.html_rules.specs.Table.{Conclusion, Reprocess, ReprocessInOriginal, ReprocessInMode, Using, UsingThen}
+use Rattle.html_rules.specs.Table.{UsingCurrentMode}
 use Rattle.html_rules.specs.declared.insertion_mode.InsertionMode.{InsertionMode}
-use Rattle.html_rules.specs.declared.insertion_mode.InsertionMode.TheVariants.{Initial, BeforeHtml, BeforeHead, InHead, InHeadNoscript, AfterHead, InBody, Text, InTable, InTableText, InCaption, InColumnGroup, InTableBody, InRow, InCell, InTemplate, AfterBody, InFrameset, AfterFrameset, AfterAfterBody, AfterAfterFrameset}
+use Rattle.html_rules.specs.declared.insertion_mode.InsertionMode.TheVariants.{Initial, BeforeHtml, BeforeHead, InHead}
+use Rattle.html_rules.specs.declared.insertion_mode.InsertionMode.TheVariants.{InHeadNoscript, AfterHead, InBody, Text, InTable}
+use Rattle.html_rules.specs.declared.insertion_mode.InsertionMode.TheVariants.{InTableText, InCaption, InColumnGroup}
+use Rattle.html_rules.specs.declared.insertion_mode.InsertionMode.TheVariants.{InTableBody, InRow, InCell, InTemplate}
+use Rattle.html_rules.specs.declared.insertion_mode.InsertionMode.TheVariants.{AfterBody, InFrameset, AfterFrameset}
+use Rattle.html_rules.specs.declared.insertion_mode.InsertionMode.TheVariants.{AfterAfterBody, AfterAfterFrameset}
 use Rattle.html_rules.specs.declared.tag_set.TagSet.TheVariants as set
 use Rattle.html_rules_laws.specs.WholeTable.{is_always}
 use Rattle.html_rules_laws.proofs.SetFacts.{apart, within}
-use Rattle.html_rules_laws.proofs.Termination.Kinds.{Kind, Starts, StartsBut, Ends, EndsBut, Texts, Nulls, TheEnd, Others, hit, is_none, is_of, left}
+use Rattle.html_rules_laws.proofs.Termination.Kinds.{Kind, Starts, StartsBut, Ends, EndsBut, Texts, Nulls, TheEnd, Others, hit}
+use Rattle.html_rules_laws.proofs.Termination.Kinds.{is_none, is_of, left}
 use Rattle.html_rules_laws.proofs.Termination.Matters.{all_pay, all_pay_or_root, tells}
 use Rattle.html_rules_laws.proofs.Termination.Steps.{brought, closes, is_known, is_mild, resets}
 use Rattle.html_rules_laws.proofs.Bools.{both}
@@ -121,7 +131,8 @@ rank φ AfterAfterFrameset = 1
 
 -- the current node is popped, which the condition says to pay; or elements are popped up to a context, and then one more
 abbrev pub pops_scoped : Condition → Action → Action → Bool
-pops_scoped (InScope scope names) (ClearBackTo context) Pop = all_pay_or_root context && (all_pay names && (apart set.Html names && within set.Html scope))
+pops_scoped (InScope scope names) (ClearBackTo context) Pop = all_pay_or_root context
+    && (all_pay names && (apart set.Html names && within set.Html scope))
 pops_scoped condition a b = false
 
 abbrev pub pops_found : Condition → Action → Bool
@@ -136,7 +147,8 @@ is_paying r = (closes r.does && tells r.on r.when) || (is_known r.does && (nat_e
 abbrev pub again_ok : Family → InsertionMode → Row → InsertionMode → Bool
 again_ok φ m r to =
     nat_lt (rank φ to) 16
-    && ((is_known r.does && nat_lt (rank φ to + 4 * brought r.does) (rank φ m)) || (is_known r.does && (is_paying r && nat_le (rank φ to) (rank φ m + 3))))
+    && ((is_known r.does && nat_lt (rank φ to + 4 * brought r.does) (rank φ m))
+    || (is_known r.does && (is_paying r && nat_le (rank φ to) (rank φ m + 3))))
 
 -- families whose tokens may reset the mode
 abbrev pub may_reset : Family → Bool
@@ -167,7 +179,8 @@ abbrev pub rows_ok : (Kind → InsertionMode → Bool) → Family → InsertionM
 rows_ok uses φ m kind [] = true
 rows_ok uses φ m kind (r ∷ rs) =
     row_ok uses φ m kind r
-    && choose (is_always r.when) (λ _. choose (is_none (left kind r.on)) (λ _. true) (λ _. rows_ok uses φ m (left kind r.on) rs)) (λ _. rows_ok uses φ m kind rs)
+    && choose (is_always r.when)
+    (λ _. choose (is_none (left kind r.on)) (λ _. true) (λ _. rows_ok uses φ m (left kind r.on) rs)) (λ _. rows_ok uses φ m kind rs)
 
 -- the same, where so many modes may use one another's rules
 unfoldable pub uses_ok : ℕ → Family → InsertionMode → Kind → InsertionMode → Bool
@@ -207,7 +220,9 @@ mode_ok m φ = rank_ok φ m && (uses_ok 4 φ m (kind_of φ) m && rows_ok (uses_o
 -- all families
 
 abbrev every : (Family → Bool) → Bool
-every p = p Cells && (p Rows && (p Columns && (p OtherStarts && (p RootEnd && (p OtherEnds && (p Characters && (p NullCharacters && (p FileEnd && p OtherTokens))))))))
+every p = p Cells && (p Rows
+    && (p Columns && (p OtherStarts
+    && (p RootEnd && (p OtherEnds && (p Characters && (p NullCharacters && (p FileEnd && p OtherTokens))))))))
 
 each : (p : Family → Bool) → every p ≡ true → (φ : Family) → p φ ≡ true
 each p h φ =
@@ -222,7 +237,8 @@ each p h φ =
     let l = and_parts (p FileEnd) _ k.1 in
     by φ a.0 b.0 c.0 d.0 e.0 f.0 g.0 k.0 l.0 l.1
   where
-    by : (φ : Family) → p Cells ≡ true → p Rows ≡ true → p Columns ≡ true → p OtherStarts ≡ true → p RootEnd ≡ true → p OtherEnds ≡ true → p Characters ≡ true → p NullCharacters ≡ true → p FileEnd ≡ true → p OtherTokens ≡ true → p φ ≡ true
+    by : (φ : Family) → p Cells ≡ true → p Rows ≡ true → p Columns ≡ true → p OtherStarts ≡ true → p RootEnd ≡ true
+        → p OtherEnds ≡ true → p Characters ≡ true → p NullCharacters ≡ true → p FileEnd ≡ true → p OtherTokens ≡ true → p φ ≡ true
     by Cells a b c d e f g k l m = a
     by Rows a b c d e f g k l m = b
     by Columns a b c d e f g k l m = c
@@ -246,7 +262,8 @@ mode-ok φ m = each (mode_ok m) (modes_ok m) φ
 pub record IsInFamily (t : Token) (φ : Family) : Type 0 where
   pub is : is_of (kind_of φ) t ≡ true
 
-none_of : (a b c d : Bool) → (a || (b || false)) ≡ false → (c || false) ≡ false → (d || false) ≡ false → not (a || (b || (c || (d || false)))) ≡ true
+none_of : (a b c d : Bool) → (a || (b || false)) ≡ false → (c || false) ≡ false → (d || false) ≡ false
+    → not (a || (b || (c || (d || false)))) ≡ true
 none_of true b c d h k l = absurd (true≢false h)
 none_of false true c d h k l = absurd (true≢false h)
 none_of false false true d h k l = absurd (true≢false k)
@@ -254,12 +271,15 @@ none_of false false false true h k l = absurd (true≢false l)
 none_of false false false false h k l = refl
 
 start-family : (tag : Tag) → is_start_tag tag.kind ≡ true → (φ : Family) × IsInFamily (TagToken tag) φ
-start-family tag s = by (is_among tag.name (codes "td" ∷ codes "th" ∷ [])) (is_among tag.name (codes "tr" ∷ [])) (is_among tag.name (codes "col" ∷ [])) (is_among tag.name special_starts) refl refl refl refl where
-  by : (a b c d : Bool) → is_among tag.name (codes "td" ∷ codes "th" ∷ []) ≡ a → is_among tag.name (codes "tr" ∷ []) ≡ b → is_among tag.name (codes "col" ∷ []) ≡ c → is_among tag.name special_starts ≡ d → (φ : Family) × IsInFamily (TagToken tag) φ
-  by true b c d ea eb ec ed = (Cells, record { is = both (is_start_tag tag.kind) _ s ea })
-  by false true c d ea eb ec ed = (Rows, record { is = both (is_start_tag tag.kind) _ s eb })
-  by false false true d ea eb ec ed = (Columns, record { is = both (is_start_tag tag.kind) _ s ec })
-  by false false false d ea eb ec ed = (OtherStarts, record { is = both (is_start_tag tag.kind) _ s (none_of _ _ _ _ ea eb ec) })
+start-family tag s = by (is_among tag.name (codes "td" ∷ codes "th" ∷ [])) (is_among tag.name (codes "tr" ∷ []))
+    (is_among tag.name (codes "col" ∷ [])) (is_among tag.name special_starts) refl refl refl refl where
+      by : (a b c d : Bool) → is_among tag.name (codes "td" ∷ codes "th" ∷ []) ≡ a
+          → is_among tag.name (codes "tr" ∷ []) ≡ b → is_among tag.name (codes "col" ∷ []) ≡ c
+          → is_among tag.name special_starts ≡ d → (φ : Family) × IsInFamily (TagToken tag) φ
+      by true b c d ea eb ec ed = (Cells, record { is = both (is_start_tag tag.kind) _ s ea })
+      by false true c d ea eb ec ed = (Rows, record { is = both (is_start_tag tag.kind) _ s eb })
+      by false false true d ea eb ec ed = (Columns, record { is = both (is_start_tag tag.kind) _ s ec })
+      by false false false d ea eb ec ed = (OtherStarts, record { is = both (is_start_tag tag.kind) _ s (none_of _ _ _ _ ea eb ec) })
 
 end-family : (tag : Tag) → is_end_tag tag.kind ≡ true → (φ : Family) × IsInFamily (TagToken tag) φ
 end-family tag s = by (is_among tag.name (codes "html" ∷ [])) refl where

@@ -1,12 +1,15 @@
 -- What actions of rows that take a token again leave of the open elements that pay, and of the template modes.
-use Rattle.std.proofs.Common.{◌≡◌, ◌∙◌, ℕ, suc, ◌+◌, ◌<◌, ◌≤◌, Bool, true, false, List, [], ◌∷◌, Option, Some, None, refl, sym, true≢false, arith, codes, inl, inr}
+use Rattle.std.proofs.Common.{◌≡◌, ◌∙◌, ℕ, suc, ◌+◌, ◌<◌, ◌≤◌, Bool, true, false, List, [], ◌∷◌, Option, Some, None, refl, sym}
+use Rattle.std.proofs.Common.{true≢false, arith, codes, inl, inr}
 use Rattle.std.specs.Prelude.{◌||◌, ◌&&◌, nat_eq, not}
 use Rattle.std.specs.List.{list_all}
 use Rattle.std.proofs.lemmas.Bool.{and_parts, cases_lt, eqb-true}
 use Rattle.markup.specs.Forest.{node_count}
 use Rattle.html_tokens.specs.declared.tags.Tag.{Tag}
 use Rattle.html_tokens.specs.declared.token.Token.{Token}
-use Rattle.html_rules.specs.Actions.{act, frameset_not_ok_unless_white, save_mode, pop_template_mode, push_head, push_head_elem, remove_from_stack_if, remove_head_elem, set_foster_parenting, set_head_elem, set_quirks_mode, set_template_mode, insert_pending_text, insert_table_text}
+use Rattle.html_rules.specs.Actions.{act, frameset_not_ok_unless_white, save_mode, pop_template_mode, push_head, push_head_elem}
+use Rattle.html_rules.specs.Actions.{remove_from_stack_if, remove_head_elem, set_foster_parenting, set_head_elem}
+use Rattle.html_rules.specs.Actions.{set_quirks_mode, set_template_mode, insert_pending_text, insert_table_text}
 use Rattle.html_rules.specs.Choice.{choose}
 use Rattle.html_rules.specs.ForeignContent.{ends_foreign, pop_foreign}
 use Rattle.html_rules.specs.Formatting.{clear_active_formatting_to_marker, reconstruct_active_formatting_elements, reopen}
@@ -14,9 +17,13 @@ use Rattle.html_rules.specs.Names.{Html}
 use Rattle.html_rules.specs.Places.{append_text, create_root, insert_element}
 use Rattle.html_rules.specs.Reset.{reset_insertion_mode}
 use Rattle.html_rules.specs.Sets.{is_among, names_of}
-use Rattle.html_rules.specs.Stack.{check_body_end, expect_to_close, generate_implied_end_tags, is_open, nothing, parse_error, pop_but_root, pop_until, pop_until_current, remove_from_stack}
+use Rattle.html_rules.specs.Stack.{check_body_end, expect_to_close, generate_implied_end_tags, is_open, nothing, parse_error}
+use Rattle.html_rules.specs.Stack.{pop_but_root, pop_until, pop_until_current, remove_from_stack}
 use Rattle.html_rules.specs.State.{Open, Entry, Element, Marker, State, current_is, is_in}
-use Rattle.html_rules.specs.Table.{Action, Nothing, Then, ParseError, InsertNew, CreateNewRoot, Pop, PopUntil, ClearBackTo, Close, ImpliedEndTags, CheckBodyEnd, SetHeadElem, PushHeadElem, RemoveHeadElem, ClearToMarker, SaveMode, ResetMode, SetTemplateMode, PopTemplateMode, SetQuirks, EnableFosterParenting, DisableFosterParenting, PopForeign}
+use Rattle.html_rules.specs.Table.{Action, Nothing, Then, ParseError, InsertNew, CreateNewRoot, Pop, PopUntil, ClearBackTo}
+use Rattle.html_rules.specs.Table.{Close, ImpliedEndTags, CheckBodyEnd, SetHeadElem, PushHeadElem, RemoveHeadElem}
+use Rattle.html_rules.specs.Table.{ClearToMarker, SaveMode, ResetMode, SetTemplateMode, PopTemplateMode, SetQuirks}
+use Rattle.html_rules.specs.Table.{EnableFosterParenting, DisableFosterParenting, PopForeign}
 use Rattle.html_rules.specs.Tokens.{is_white}
 use Rattle.html_rules.specs.declared.tag_set.TagSet.TheVariants as set
 use Rattle.html_rules_laws.specs.Ready.{are_formatting}
@@ -74,16 +81,20 @@ brings-choose false k s x y h g = g
 
 close-brings : (p : Open → Bool) (s : State) → Brings 0 s (expect_to_close p s)
 unfolding expect_to_close pop_until parse_error
-close-brings p s = brings-choose (current_is p s.open_elems) 0 s _ _ (brings-part s _ (part-below p s.open_elems) refl) (brings-part s _ (part-below p s.open_elems) refl)
+close-brings p s = brings-choose (current_is p s.open_elems) 0 s _ _
+    (brings-part s _ (part-below p s.open_elems) refl) (brings-part s _ (part-below p s.open_elems) refl)
 
-new-brings : (name : List ℕ) (xs : List Open) (n : ℕ) → payers (record { number = n; namespace = Html; name = name } ∷ xs) ≤ payers xs + one_if_pays name
+new-brings : (name : List ℕ) (xs : List Open) (n : ℕ)
+    → payers (record { number = n; namespace = Html; name = name } ∷ xs) ≤ payers xs + one_if_pays name
 new-brings name xs n = by (is_among name paying_names) where
   by : (b : Bool) → choose b (λ _. suc (payers xs)) (λ _. payers xs) ≤ payers xs + choose b (λ _. 1) (λ _. 0)
   by true = omega arith
   by false = omega arith
 
 pub known-brings : (a : Action) → is_known a ≡ true → (t : Token) (s : State) → Brings (brought a) s (act a t s)
-unfolding parse_error insert_element create_root pop_but_root pop_until pop_until_current generate_implied_end_tags check_body_end set_head_elem clear_active_formatting_to_marker save_mode reset_insertion_mode set_template_mode pop_template_mode set_quirks_mode
+unfolding parse_error insert_element create_root pop_but_root pop_until pop_until_current generate_implied_end_tags
+    check_body_end set_head_elem clear_active_formatting_to_marker save_mode reset_insertion_mode set_template_mode
+    pop_template_mode set_quirks_mode
 known-brings (Then a b) k t s =
     let parts = and_parts (is_known a) (is_known b) k in
     let one = known-brings a parts.0 t s in
@@ -98,7 +109,8 @@ known-brings (PopUntil names) k t s = brings-part s _ (part-below (is_in names) 
 known-brings (ClearBackTo names) k t s = brings-part s _ (part-from (is_in names) s.open_elems) refl
 known-brings (Close names) k t s = close-brings (is_in names) s
 known-brings ImpliedEndTags k t s = brings-part s _ (part-from (λ x. not (is_in set.CursoryImpliedEnd x) || nothing x) s.open_elems) refl
-known-brings CheckBodyEnd k t s = brings-choose (list_all (is_in set.BodyEnd) s.open_elems) 0 s s (parse_error s) (brings-none s s (omega arith) refl) (brings-none s (parse_error s) (omega arith) refl)
+known-brings CheckBodyEnd k t s = brings-choose (list_all (is_in set.BodyEnd) s.open_elems) 0 s s (parse_error s)
+    (brings-none s s (omega arith) refl) (brings-none s (parse_error s) (omega arith) refl)
 known-brings SetHeadElem k t s = brings-none s _ (omega arith) refl
 known-brings ClearToMarker k t s = brings-none s _ (omega arith) refl
 known-brings SaveMode k t s = brings-none s _ (omega arith) refl
@@ -115,41 +127,44 @@ closes (PopUntil names) = all_pay names
 closes (Close names) = all_pay names
 closes a = false
 
-close-less : (p : Open → Bool) → ((x : Open) → p x ≡ true → pays x ≡ true) → (s : State) → 0 < payers s.open_elems → payers (expect_to_close p s).open_elems < payers s.open_elems
+close-less : (p : Open → Bool) → ((x : Open) → p x ≡ true → pays x ≡ true) → (s : State) → 0 < payers s.open_elems
+    → payers (expect_to_close p s).open_elems < payers s.open_elems
 unfolding expect_to_close pop_until parse_error
 close-less p h s some = by (current_is p s.open_elems) where
   by : (b : Bool) → payers (choose b (λ _. pop_until p s) (λ _. pop_until p (parse_error s))).open_elems < payers s.open_elems
   by true = below-less p h s.open_elems some
   by false = below-less p h s.open_elems some
 
-pub closes-less : (a : Action) → closes a ≡ true → (t : Token) (s : State) → 0 < payers s.open_elems → payers (act a t s).open_elems < payers s.open_elems
+pub closes-less : (a : Action) → closes a ≡ true → (t : Token) (s : State) → 0 < payers s.open_elems
+    → payers (act a t s).open_elems < payers s.open_elems
 unfolding pop_until
-closes-less (Then a b) h t s some = by (closes a) refl (and_parts (nat_eq (brought a + brought b) 0) _ parts.1).1 (closes-less a) (closes-less b) where
-  parts : ((is_known a && is_known b) ≡ true) × ((nat_eq (brought a + brought b) 0 && (closes a || closes b)) ≡ true)
-  parts = and_parts (is_known a && is_known b) _ h
+closes-less (Then a b) h t s some = by (closes a) refl (and_parts (nat_eq (brought a + brought b) 0) _ parts.1).1
+    (closes-less a) (closes-less b) where
+      parts : ((is_known a && is_known b) ≡ true) × ((nat_eq (brought a + brought b) 0 && (closes a || closes b)) ≡ true)
+      parts = and_parts (is_known a && is_known b) _ h
 
-  known : (is_known a ≡ true) × (is_known b ≡ true)
-  known = and_parts (is_known a) (is_known b) parts.0
+      known : (is_known a ≡ true) × (is_known b ≡ true)
+      known = and_parts (is_known a) (is_known b) parts.0
 
-  none : brought a + brought b ≡ 0
-  none = eqb-true (brought a + brought b) 0 (and_parts (nat_eq (brought a + brought b) 0) _ parts.1).0
+      none : brought a + brought b ≡ 0
+      none = eqb-true (brought a + brought b) 0 (and_parts (nat_eq (brought a + brought b) 0) _ parts.1).0
 
-  first : payers (act a t s).open_elems ≤ payers s.open_elems
-  first = let p = (known-brings a known.0 t s).payers in let z = none in omega arith
+      first : payers (act a t s).open_elems ≤ payers s.open_elems
+      first = let p = (known-brings a known.0 t s).payers in let z = none in omega arith
 
-  second : payers (act b t (act a t s)).open_elems ≤ payers (act a t s).open_elems
-  second = let p = (known-brings b known.1 t (act a t s)).payers in let z = none in omega arith
+      second : payers (act b t (act a t s)).open_elems ≤ payers (act a t s).open_elems
+      second = let p = (known-brings b known.1 t (act a t s)).payers in let z = none in omega arith
 
-  by : (c : Bool) → closes a ≡ c → (c || closes b) ≡ true
-      → (closes a ≡ true → (t : Token) (s : State) → 0 < payers s.open_elems → payers (act a t s).open_elems < payers s.open_elems)
-      → (closes b ≡ true → (t : Token) (s : State) → 0 < payers s.open_elems → payers (act b t s).open_elems < payers s.open_elems)
-      → payers (act b t (act a t s)).open_elems < payers s.open_elems
-  by true e h go_a go_b = let less = go_a e t s some in let more = second in omega arith
-  by false e h go_a go_b =
-      elim (cases_lt 0 (payers (act a t s).open_elems)) [
-        | inl left ↦ let less = go_b h t (act a t s) left in let more = first in omega arith
-        | inr gone ↦ let more = second in omega arith
-      ]
+      by : (c : Bool) → closes a ≡ c → (c || closes b) ≡ true
+          → (closes a ≡ true → (t : Token) (s : State) → 0 < payers s.open_elems → payers (act a t s).open_elems < payers s.open_elems)
+          → (closes b ≡ true → (t : Token) (s : State) → 0 < payers s.open_elems → payers (act b t s).open_elems < payers s.open_elems)
+          → payers (act b t (act a t s)).open_elems < payers s.open_elems
+      by true e h go_a go_b = let less = go_a e t s some in let more = second in omega arith
+      by false e h go_a go_b =
+          elim (cases_lt 0 (payers (act a t s).open_elems)) [
+            | inl left ↦ let less = go_b h t (act a t s) left in let more = first in omega arith
+            | inr gone ↦ let more = second in omega arith
+          ]
 closes-less (PopUntil names) h t s some = below-less (is_in names) (pays-in names h) s.open_elems some
 closes-less (Close names) h t s some = close-less (is_in names) (pays-in names h) s some
 closes-less a h t s some = absurd (true≢false (sym h))
@@ -198,7 +213,13 @@ mild-is (Then a b) h t s =
     let parts = and_parts (is_mild a) (is_mild b) h in
     let one = mild-is a parts.0 t s in
     let two = mild-is b parts.1 t (act a t s) in
-    record { payers = let p = one.payers in let q = two.payers in omega arith; mode = two.mode ∙ one.mode; original = two.original ∙ one.original; entries = two.entries ∙ one.entries; modes = two.modes ∙ one.modes }
+    record {
+      payers = let p = one.payers in let q = two.payers in omega arith;
+      mode = two.mode ∙ one.mode;
+      original = two.original ∙ one.original;
+      entries = two.entries ∙ one.entries;
+      modes = two.modes ∙ one.modes;
+    }
 mild-is Nothing h t s = record { payers = omega arith; mode = refl; original = refl; entries = refl; modes = refl }
 mild-is ParseError h t s = record { payers = omega arith; mode = refl; original = refl; entries = refl; modes = refl }
 mild-is EnableFosterParenting h t s = record { payers = omega arith; mode = refl; original = refl; entries = refl; modes = refl }
@@ -234,9 +255,16 @@ reopened-told (Element n tag ∷ entries) h s =
     let parts = and_parts (is_among tag.name (names_of set.FormattingEnd)) (are_formatting entries) h in
     let before = reopened-told entries parts.1 s in
     told-choose (is_open n s.open_elems) s _ _ (record { payers = omega arith; mode = refl; original = refl; modes = refl })
-    (record { payers = free tag parts.0 (node_count (reopen entries s).forest) (reopen entries s).open_elems s.open_elems before.payers; mode = before.mode; original = before.original; modes = before.modes })
+    (record {
+      payers = free tag parts.0 (node_count (reopen entries s).forest) (reopen entries s).open_elems
+          s.open_elems before.payers;
+      mode = before.mode;
+      original = before.original;
+      modes = before.modes;
+    })
   where
-    free : (tag : Tag) → is_among tag.name (names_of set.FormattingEnd) ≡ true → (n : ℕ) (xs ys : List Open) → payers xs ≤ payers ys → payers (record { number = n; namespace = Html; name = tag.name } ∷ xs) ≤ payers ys
+    free : (tag : Tag) → is_among tag.name (names_of set.FormattingEnd) ≡ true → (n : ℕ) (xs ys : List Open)
+        → payers xs ≤ payers ys → payers (record { number = n; namespace = Html; name = tag.name } ∷ xs) ≤ payers ys
     free tag h n xs ys less = rw (formatting-free tag h) less
 
 reconstructed-told : (s : State) → are_formatting s.active_formatting ≡ true → IsTold s (reconstruct_active_formatting_elements s)

@@ -11,7 +11,10 @@ use Rattle.html_rules.specs.ForeignContent.{is_start_tag, is_end_tag}
 use Rattle.html_rules.specs.Rules.{turn_then, concluded, first_fit, fits, rows, using_rules_for}
 use Rattle.html_rules.specs.Sets.{is_among, names_of}
 use Rattle.html_rules.specs.State.{State, current_number}
-use Rattle.html_rules.specs.Table.{Row, Class, StartTags, EndTags, AnyStartTag, AnyEndTag, WhiteSpace, Character, Null, Comment, EndOfFile, AnythingElse, Conclusion, Done, Acknowledged, Reprocess, ReprocessInOriginal, ReprocessInMode, Using, UsingThen, UsingCurrentMode, RawText, PlainText, RunScript, ReportEncoding}
+use Rattle.html_rules.specs.Table.{Row, Class, StartTags, EndTags, AnyStartTag, AnyEndTag, WhiteSpace, Character, Null, Comment}
+use Rattle.html_rules.specs.Table.{EndOfFile, AnythingElse, Conclusion, Done, Acknowledged, Reprocess, ReprocessInOriginal}
+use Rattle.html_rules.specs.Table.{ReprocessInMode, Using, UsingThen, UsingCurrentMode, RawText, PlainText, RunScript}
+use Rattle.html_rules.specs.Table.{ReportEncoding}
 use Rattle.html_rules.specs.Tokens.{class_fits}
 use Rattle.html_rules.specs.declared.insertion_mode.InsertionMode.{InsertionMode}
 use Rattle.html_rules_laws.specs.WholeTable.{IsEachUseEnding}
@@ -85,8 +88,10 @@ family_of_end EndTag h = refl
 -- a class has tokens of its family alone
 family-fits : (c : Class) (t : Token) → is_anything c ≡ false → class_fits c t ≡ true → family c ≡ family_of t
 family-fits AnythingElse t a h = absurd (true≢false a)
-family-fits (StartTags set) (TagToken tag) a h = family_of_start tag.kind (and_parts (is_start_tag tag.kind) (is_among tag.name (names_of set)) h).0
-family-fits (EndTags set) (TagToken tag) a h = family_of_end tag.kind (and_parts (is_end_tag tag.kind) (is_among tag.name (names_of set)) h).0
+family-fits (StartTags set) (TagToken tag) a h = family_of_start tag.kind
+    (and_parts (is_start_tag tag.kind) (is_among tag.name (names_of set)) h).0
+family-fits (EndTags set) (TagToken tag) a h = family_of_end tag.kind
+    (and_parts (is_end_tag tag.kind) (is_among tag.name (names_of set)) h).0
 family-fits AnyStartTag (TagToken tag) a h = family_of_start tag.kind h
 family-fits AnyEndTag (TagToken tag) a h = family_of_end tag.kind h
 family-fits WhiteSpace (CharacterTokens text) a h = refl
@@ -97,9 +102,13 @@ family-fits EndOfFile EOFToken a h = refl
 family-fits _ _ a h = absurd (true≢false (sym h))
 
 names-fit : (c d : Class) (t : Token) → class_fits c t ≡ true → class_fits d t ≡ true → names_meet c d ≡ true
-names-fit (StartTags a) (StartTags b) (TagToken tag) h k = shares tag.name (names_of a) (names_of b) (and_parts (is_start_tag tag.kind) (is_among tag.name (names_of a)) h).1 (and_parts (is_start_tag tag.kind) (is_among tag.name (names_of b)) k).1
+names-fit (StartTags a) (StartTags b) (TagToken tag) h k = shares tag.name (names_of a) (names_of b)
+    (and_parts (is_start_tag tag.kind) (is_among tag.name (names_of a)) h).1
+    (and_parts (is_start_tag tag.kind) (is_among tag.name (names_of b)) k).1
 names-fit (StartTags a) (StartTags b) _ h k = absurd (true≢false (sym h))
-names-fit (EndTags a) (EndTags b) (TagToken tag) h k = shares tag.name (names_of a) (names_of b) (and_parts (is_end_tag tag.kind) (is_among tag.name (names_of a)) h).1 (and_parts (is_end_tag tag.kind) (is_among tag.name (names_of b)) k).1
+names-fit (EndTags a) (EndTags b) (TagToken tag) h k = shares tag.name (names_of a) (names_of b)
+    (and_parts (is_end_tag tag.kind) (is_among tag.name (names_of a)) h).1
+    (and_parts (is_end_tag tag.kind) (is_among tag.name (names_of b)) k).1
 names-fit (EndTags a) (EndTags b) _ h k = absurd (true≢false (sym h))
 names-fit _ _ t h k = refl
 
@@ -121,10 +130,13 @@ more (suc k) n = suc (more k n)
 
 -- a row that ends so comes to the same, whether so many modes may use one another's rules or more
 abbrev IsSame : ℕ → ℕ → Token → Row → Type 0
-IsSame k n t r = (script : ℕ) (s : State) → concluded (using_rules_for (more k n)) r.ends t script s ≡ concluded (using_rules_for k) r.ends t script s
+IsSame k n t r = (script : ℕ) (s : State) → concluded (using_rules_for (more k n)) r.ends t script s ≡ concluded
+    (using_rules_for k) r.ends t script s
 
-same_by : (k n : ℕ) (t : Token) (c : Class) → ((m : InsertionMode) (s : State) → ends_within k c m ≡ true → using_rules_for (more k n) m t s ≡ using_rules_for k m t s)
-    → (e : Conclusion) → ends_by (ends_within k) c e ≡ true → (script : ℕ) (s : State) → concluded (using_rules_for (more k n)) e t script s ≡ concluded (using_rules_for k) e t script s
+same_by : (k n : ℕ) (t : Token) (c : Class) → ((m : InsertionMode) (s : State) → ends_within k c m ≡ true
+    → using_rules_for (more k n) m t s ≡ using_rules_for k m t s)
+    → (e : Conclusion) → ends_by (ends_within k) c e ≡ true → (script : ℕ) (s : State)
+    → concluded (using_rules_for (more k n)) e t script s ≡ concluded (using_rules_for k) e t script s
 same_by k n t c go (Using m) h script s = go m s h
 same_by k n t c go (UsingThen m after) h script s = ap (turn_then after t) (go m s h)
 same_by k n t c go UsingCurrentMode h script s = absurd (true≢false (sym h))
@@ -144,7 +156,8 @@ or_of_not false b h e = absurd (true≢false (sym e))
 
 -- the first row that fits comes to the same
 first-same : (k n : ℕ) (c : Class) (t : Token) (s : State) → class_fits c t ≡ true
-    → ((d : Class) → class_fits d t ≡ true → (m : InsertionMode) (s : State) → ends_within k d m ≡ true → using_rules_for (more k n) m t s ≡ using_rules_for k m t s)
+    → ((d : Class) → class_fits d t ≡ true → (m : InsertionMode) (s : State) → ends_within k d m ≡ true
+    → using_rules_for (more k n) m t s ≡ using_rules_for k m t s)
     → (rs : List Row) → each_ends (ends_within k) c rs ≡ true → IsSame k n t (first_fit rs t s)
 first-same k n c t s h go [] e = λ script s. refl
 first-same k n c t s h go (r ∷ rs) e =
@@ -154,10 +167,12 @@ first-same k n c t s h go (r ∷ rs) e =
     same_by k n t r.on (go r.on on) r.ends (or_of_not (may_meet c r.on) (ends_by (ends_within k) r.on r.ends) parts.0 (meet c r.on t h on)))
     (first-same k n c t s h go rs parts.1)
 
-uses-enough : (k n : ℕ) (c : Class) (m : InsertionMode) (t : Token) (s : State) → class_fits c t ≡ true → ends_within k c m ≡ true → using_rules_for (more k n) m t s ≡ using_rules_for k m t s
+uses-enough : (k n : ℕ) (c : Class) (m : InsertionMode) (t : Token) (s : State) → class_fits c t ≡ true
+    → ends_within k c m ≡ true → using_rules_for (more k n) m t s ≡ using_rules_for k m t s
 unfolding more ends_within using_rules_for
 uses-enough zero n c m t s h e = absurd (true≢false (sym e))
-uses-enough (suc k) n c m t s h e = first-same k n c t s h (λ d fits m s e. uses-enough k n d m t s fits e) (rows m) e (current_number s.open_elems) (act (first_fit (rows m) t s).does t s)
+uses-enough (suc k) n c m t s h e = first-same k n c t s h (λ d fits m s e. uses-enough k n d m t s fits e)
+    (rows m) e (current_number s.open_elems) (act (first_fit (rows m) t s).does t s)
 
 modes-end : (m : InsertionMode) → ends_within 4 AnythingElse m ≡ true
 unfolding ends_within rows names_of

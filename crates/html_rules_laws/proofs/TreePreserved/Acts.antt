@@ -4,14 +4,24 @@ use Rattle.std.proofs.lemmas.Bool.{and_parts}
 use Rattle.html_tokens.specs.declared.tags.Tag.{Tag}
 use Rattle.html_tokens.specs.declared.token.Token.{Token}
 use Rattle.html_tokens.specs.declared.token.Token.TheVariants.{TagToken}
-use Rattle.html_rules.specs.Actions.{act, for_tag, forget_form_elem, frameset_not_ok, frameset_not_ok_unless_white, insert_form_void, keep_text, remove_form_elem, remove_head_elem, set_foster_parenting, set_form_elem, set_ignore_lf, insert_pending_text}
+use Rattle.html_rules.specs.Actions.{act, for_tag, forget_form_elem, frameset_not_ok, frameset_not_ok_unless_white}
+use Rattle.html_rules.specs.Actions.{insert_form_void, keep_text, remove_form_elem, remove_head_elem, set_foster_parenting}
+use Rattle.html_rules.specs.Actions.{set_form_elem, set_ignore_lf, insert_pending_text}
 use Rattle.html_rules.specs.Conditions.{holds}
 use Rattle.html_rules.specs.ForeignContent.{close_foreign, ends_foreign, enter_foreign, foreign_end, pop_foreign}
 use Rattle.html_rules.specs.Formatting.{clear_active_formatting_to_marker, create_formatting_element_for, push_marker}
 use Rattle.html_rules.specs.Names.{Html, MathMl, Svg, Other}
 use Rattle.html_rules.specs.Places.{insert_and_pop_element_for, insert_element_for}
 use Rattle.html_rules.specs.State.{State, is_in, is_named}
-use Rattle.html_rules.specs.Table.{Action, Nothing, Then, When, ParseError, InsertElement, InsertVoid, InsertVoidAs, InsertFormVoid, InsertNew, InsertNewVoid, AppendText, AppendReplacement, AppendComment, AppendCommentToDocument, AppendCommentToRoot, AddAttributesToRoot, AddAttributesToBody, RemoveBody, Pop, PopUntil, ClearBackTo, Close, CloseToken, CloseP, CloseItem, ImpliedEndTags, ImpliedEndTagsExcept, ImpliedEndTagsExceptToken, ImpliedEndTagsThoroughly, AnyOtherEndTag, CheckBodyEnd, RemoveHeadElem, SetFormElem, ForgetFormElem, RemoveFormElem, Reconstruct, InsertFormatting, InsertMarker, ClearToMarker, AdoptionAgency, AdoptNobr, CloseMisnestedA, SetQuirks, FramesetNotOk, FramesetNotOkUnlessWhite, IgnoreLineFeed, EnableFosterParenting, DisableFosterParenting, KeepText, InsertPendingText, EnterForeign, PopForeign, CloseForeign}
+use Rattle.html_rules.specs.Table.{Action, Nothing, Then, When, ParseError, InsertElement, InsertVoid, InsertVoidAs}
+use Rattle.html_rules.specs.Table.{InsertFormVoid, InsertNew, InsertNewVoid, AppendText, AppendReplacement, AppendComment}
+use Rattle.html_rules.specs.Table.{AppendCommentToDocument, AppendCommentToRoot, AddAttributesToRoot, AddAttributesToBody}
+use Rattle.html_rules.specs.Table.{RemoveBody, Pop, PopUntil, ClearBackTo, Close, CloseToken, CloseP, CloseItem, ImpliedEndTags}
+use Rattle.html_rules.specs.Table.{ImpliedEndTagsExcept, ImpliedEndTagsExceptToken, ImpliedEndTagsThoroughly, AnyOtherEndTag}
+use Rattle.html_rules.specs.Table.{CheckBodyEnd, RemoveHeadElem, SetFormElem, ForgetFormElem, RemoveFormElem, Reconstruct}
+use Rattle.html_rules.specs.Table.{InsertFormatting, InsertMarker, ClearToMarker, AdoptionAgency, AdoptNobr, CloseMisnestedA}
+use Rattle.html_rules.specs.Table.{SetQuirks, FramesetNotOk, FramesetNotOkUnlessWhite, IgnoreLineFeed, EnableFosterParenting}
+use Rattle.html_rules.specs.Table.{DisableFosterParenting, KeepText, InsertPendingText, EnterForeign, PopForeign, CloseForeign}
 use Rattle.html_rules.specs.Tokens.{attributes_of, name_of, text_of}
 use Rattle.html_rules.specs.declared.tag_set.TagSet.TheVariants as set
 use Rattle.markup.specs.declared.quirks.QuirksMode.TheVariants.{Quirks}
@@ -24,10 +34,19 @@ use Rattle.html_rules_laws.proofs.TreePreserved.StandingActions.{foreign_end-par
 use Rattle.html_rules_laws.proofs.Frames.Tame.{plain-name}
 use Rattle.html_rules_laws.proofs.TreePreserved.Adoption.{agency-eased, misnested_a-eased}
 use Rattle.html_rules_laws.proofs.TreePreserved.Eases.{Eases, eased-after, eased-either, eased-same}
-use Rattle.html_rules_laws.proofs.TreePreserved.Steps.{EasesBy, append_comment-eased, append_comment_to_doc-eased, append_comment_to_html-eased, append_text-eased, body_attributes-eased, check-eased, close_by-eased, close_item-eased, close_p-eased, enter_foreign-eased, except-eased, expect_to_close-eased, formatting-eased, generic-eased, implied-eased, insert_element-eased, parse_error-eased, pop_but_root-eased, pop_until-eased, pop_until_current-eased, put_element-eased, quirks-eased, reconstruct-eased, remove_body-eased, remove_from_stack_if-eased, root_attributes-eased, insert_table_text-eased}
+use Rattle.html_rules_laws.proofs.TreePreserved.Steps.{EasesBy, append_comment-eased, append_comment_to_doc-eased}
+use Rattle.html_rules_laws.proofs.TreePreserved.Steps.{append_comment_to_html-eased, append_text-eased, body_attributes-eased}
+use Rattle.html_rules_laws.proofs.TreePreserved.Steps.{check-eased, close_by-eased, close_item-eased, close_p-eased}
+use Rattle.html_rules_laws.proofs.TreePreserved.Steps.{enter_foreign-eased, except-eased, expect_to_close-eased}
+use Rattle.html_rules_laws.proofs.TreePreserved.Steps.{formatting-eased, generic-eased, implied-eased, insert_element-eased}
+use Rattle.html_rules_laws.proofs.TreePreserved.Steps.{parse_error-eased, pop_but_root-eased, pop_until-eased}
+use Rattle.html_rules_laws.proofs.TreePreserved.Steps.{pop_until_current-eased, put_element-eased, quirks-eased}
+use Rattle.html_rules_laws.proofs.TreePreserved.Steps.{reconstruct-eased, remove_body-eased, remove_from_stack_if-eased}
+use Rattle.html_rules_laws.proofs.TreePreserved.Steps.{root_attributes-eased, insert_table_text-eased}
 use Rattle.html_rules_laws.proofs.Bools.{no, not_true}
 
-tag-eased : (step : Tag → State → State) (kind : Kind) (t : Token) → is_of kind t ≡ true → ((tag : Tag) → is_of kind (TagToken tag) ≡ true → EasesBy (step tag)) → EasesBy (for_tag step t)
+tag-eased : (step : Tag → State → State) (kind : Kind) (t : Token) → is_of kind t ≡ true
+    → ((tag : Tag) → is_of kind (TagToken tag) ≡ true → EasesBy (step tag)) → EasesBy (for_tag step t)
 tag-eased step kind (TagToken tag) f h s is = h tag f s is
 tag-eased step kind t f h s is = eased-same s
 
@@ -41,8 +60,11 @@ pending-eased : (s : State) → are_formatting s.active_formatting ≡ true → 
 unfolding insert_pending_text
 pending-eased s l is = let told = insert_table_text-eased s.pending_table_text s l is in record { names = told.names; rooted = told.rooted }
 
-pub act-eased : (kind : Kind) (a : Action) → tame_in kind a ≡ true → is_plain_action a ≡ true → (t : Token) → is_of kind t ≡ true → (s : State) → are_formatting s.active_formatting ≡ true → Standing s → Eases s (act a t s)
-unfolding remove_head_elem remove_form_elem push_marker clear_active_formatting_to_marker frameset_not_ok frameset_not_ok_unless_white set_ignore_lf set_foster_parenting set_form_elem forget_form_elem keep_text pop_foreign close_foreign foreign_end
+pub act-eased : (kind : Kind) (a : Action) → tame_in kind a ≡ true → is_plain_action a ≡ true → (t : Token)
+    → is_of kind t ≡ true → (s : State) → are_formatting s.active_formatting ≡ true → Standing s → Eases s (act a t s)
+unfolding remove_head_elem remove_form_elem push_marker clear_active_formatting_to_marker frameset_not_ok
+    frameset_not_ok_unless_white set_ignore_lf set_foster_parenting set_form_elem forget_form_elem keep_text
+    pop_foreign close_foreign foreign_end
 act-eased kind (Then a b) p q t f s l is =
     let parts = and_parts (tame_in kind a) (tame_in kind b) p in
     let plain = and_parts (is_plain_action a) (is_plain_action b) q in
@@ -51,11 +73,15 @@ act-eased kind (Then a b) p q t f s l is =
 act-eased kind (When c a) p q t f s l is = eased-either (holds c t s) s (act a t s) s (act-eased kind a p q t f s l is) (eased-same s)
 act-eased kind Nothing p q t f s l is = eased-same s
 act-eased kind ParseError p q t f s l is = parse_error-eased s is
-act-eased kind InsertElement p q t f s l is = tag-eased insert_element_for kind t f (λ tag k. insert_element-eased Html tag.name tag.attrs tag.had_duplicate_attributes tt (λ n. (plain-of kind tag p k n).root)) s is
+act-eased kind InsertElement p q t f s l is = tag-eased insert_element_for kind t f
+    (λ tag k. insert_element-eased Html tag.name tag.attrs tag.had_duplicate_attributes tt (λ n. (plain-of kind tag p k n).root)) s is
 act-eased kind InsertVoid p q t f s l is = tag-eased insert_and_pop_element_for kind t f (λ tag k. void-eased tag) s is
-act-eased kind (InsertVoidAs name) p q t f s l is = tag-eased (λ tag. insert_and_pop_element_for (record tag { name = name })) kind t f (λ tag k. void-eased (record tag { name = name })) s is
+act-eased kind (InsertVoidAs name) p q t f s l is =
+    tag-eased (λ tag. insert_and_pop_element_for (record tag { name = name })) kind t f
+    (λ tag k. void-eased (record tag { name = name })) s is
 act-eased kind InsertFormVoid p q t f s l is = tag-eased insert_form_void kind t f (λ tag k. form_void-eased tag) s is
-act-eased kind (InsertNew name) p q t f s l is = insert_element-eased Html name [] false tt (λ n. (plain-name name (not_true _ p) n).root) s is
+act-eased kind (InsertNew name) p q t f s l is = insert_element-eased Html name [] false tt
+    (λ n. (plain-name name (not_true _ p) n).root) s is
 act-eased kind (InsertNewVoid name) p q t f s l is = put_element-eased Html name [] false tt s is
 act-eased kind AppendText p q t f s l is = append_text-eased (text_of t) s is
 act-eased kind AppendReplacement p q t f s l is = append_text-eased (0xFFFD ∷ []) s is
@@ -83,7 +109,8 @@ act-eased kind SetFormElem p q t f s l is = record { names = λ n name e. e; roo
 act-eased kind ForgetFormElem p q t f s l is = record { names = λ n name e. e; rooted = λ h. h }
 act-eased kind RemoveFormElem p q t f s l is = remove_from_stack_if-eased s.form_elem s is
 act-eased kind Reconstruct p q t f s l is = reconstruct-eased s l is
-act-eased kind InsertFormatting p q t f s l is = tag-eased create_formatting_element_for kind t f (λ tag k. formatting-eased tag (formatting-of kind tag p k)) s is
+act-eased kind InsertFormatting p q t f s l is = tag-eased create_formatting_element_for kind t f
+    (λ tag k. formatting-eased tag (formatting-of kind tag p k)) s is
 act-eased kind InsertMarker p q t f s l is = record { names = λ n name e. e; rooted = λ h. h }
 act-eased kind ClearToMarker p q t f s l is = record { names = λ n name e. e; rooted = λ h. h }
 act-eased kind AdoptionAgency p q t f s l is = agency-eased (name_of t) s l is
@@ -98,9 +125,12 @@ act-eased kind DisableFosterParenting p q t f s l is = record { names = λ n nam
 act-eased kind KeepText p q t f s l is = record { names = λ n name e. e; rooted = λ h. h }
 act-eased kind InsertPendingText p q t f s l is = pending-eased s l is
 act-eased kind (EnterForeign Html) p q t f s l is = no p
-act-eased kind (EnterForeign MathMl) p q t f s l is = tag-eased (enter_foreign MathMl) kind t f (λ tag k. enter_foreign-eased MathMl tag tt refl) s is
-act-eased kind (EnterForeign Svg) p q t f s l is = tag-eased (enter_foreign Svg) kind t f (λ tag k. enter_foreign-eased Svg tag tt refl) s is
+act-eased kind (EnterForeign MathMl) p q t f s l is = tag-eased (enter_foreign MathMl) kind t f
+    (λ tag k. enter_foreign-eased MathMl tag tt refl) s is
+act-eased kind (EnterForeign Svg) p q t f s l is = tag-eased (enter_foreign Svg) kind t f
+    (λ tag k. enter_foreign-eased Svg tag tt refl) s is
 act-eased kind (EnterForeign (Other uri)) p q t f s l is = no q
 act-eased kind PopForeign p q t f s l is = pop_until_current-eased ends_foreign s is
-act-eased kind CloseForeign p q t f s l is = close_by-eased (foreign_end (name_of t) s) s (foreign_end-part true (name_of t) s.open_elems) is
+act-eased kind CloseForeign p q t f s l is = close_by-eased (foreign_end (name_of t) s) s
+    (foreign_end-part true (name_of t) s.open_elems) is
 act-eased kind a p q t f s l is = no p

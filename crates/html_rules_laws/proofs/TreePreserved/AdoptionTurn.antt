@@ -1,7 +1,9 @@
 -- What follows the walk of the adoption agency: the last node is put at the place for the common ancestor, and a new element takes the
 -- children of the furthest block.
 use Rattle.std.proofs.Common.{◌≡◌, ◌∙◌, ℕ, ◌<◌, ◌≤◌, Bool, true, false, List, [], ◌∷◌, Some, None, refl, ap, subst, arith, inl, inr, ◌⊎◌}
-use Rattle.markup.specs.Forest.{Above, Forest, IsForest, IsLoose, IsParent, IsPlace, Last, Place, above_of, children_of, data_of, element_name, holds_children, is_among, is_contents, node_count, parent_at, parent_of, put, remove, reparent_children}
+use Rattle.markup.specs.Forest.{Above, Forest, IsForest, IsLoose, IsParent, IsPlace, Last, Place, above_of, children_of}
+use Rattle.markup.specs.Forest.{data_of, element_name, holds_children, is_among, is_contents, node_count, parent_at, parent_of}
+use Rattle.markup.specs.Forest.{put, remove, reparent_children}
 use Rattle.markup.specs.Named.{IsTree}
 use Rattle.markup.specs.declared.node_or_text.NodeOrText.TheVariants.{AppendNode}
 use Rattle.markup.proofs.Forests.{IsMade-create_element, IsPutAt-put, IsRemoved-remove}
@@ -20,7 +22,8 @@ use Rattle.html_rules_laws.proofs.TreePreserved.StandingTrees.{made-Made}
 -- only newer nodes, and what stands above q, stand above these, which are newer
 abbrev pub AreNewOr : Forest → Forest → ℕ → List Open → Type 0
 AreNewOr f0 g q [] = Unit {0}
-AreNewOr f0 g q (x ∷ xs) = ((node_count f0 ≤ x.number) × ((a : ℕ) → Above g a x.number → (node_count f0 ≤ a) ⊎ Above f0 a q)) × AreNewOr f0 g q xs
+AreNewOr f0 g q (x ∷ xs) =
+    ((node_count f0 ≤ x.number) × ((a : ℕ) → Above g a x.number → (node_count f0 ≤ a) ⊎ Above f0 a q)) × AreNewOr f0 g q xs
 
 -- a forest as the walk and the put at a place q leave it: the older nodes have nothing above them but what they had, newer nodes, and what
 -- stands above q
@@ -35,13 +38,22 @@ pub record Placed (f0 g : Forest) (b q : ℕ) (copies : List Open) (entries : Li
   pub inside : (a n : ℕ) → n < node_count f0 → Above g a n → Above f0 a n ⊎ ((node_count f0 ≤ a) ⊎ Above f0 a q)
   pub above_new : AreNewOr f0 g q copies
 
-placed-new : (f0 f g : Forest) (q l : ℕ) (xs : List Open) → AreOpened f xs → ((a n : ℕ) → n < node_count f → Above g a n → Above f a n ⊎ Above f0 a q) → AreNew f0 f xs → AreNewOr f0 g q xs
+placed-new : (f0 f g : Forest) (q l : ℕ) (xs : List Open) → AreOpened f xs
+    → ((a n : ℕ) → n < node_count f → Above g a n → Above f a n ⊎ Above f0 a q) → AreNew f0 f xs → AreNewOr f0 g q xs
 placed-new f0 f g q l [] h e n = tt
-placed-new f0 f g q l (x ∷ xs) h e n =
-    ((n.0.0, λ a up. elim (e a x.number (element-IsNode f x.number (element_name_of x.namespace x.name) h.0.named) up) [ inl old ↦ inl (n.0.1 a old) | inr above ↦ inr above ]), placed-new f0 f g q l xs h.1 e n.1)
+placed-new f0 f g q l (x ∷ xs) h e n = (
+  (
+    n.0.0,
+    λ a up. elim (e a x.number (element-IsNode f x.number (element_name_of x.namespace x.name) h.0.named)
+        up) [ inl old ↦ inl (n.0.1 a old) | inr above ↦ inr above ],
+  ),
+  placed-new f0 f g q l xs h.1 e n.1,
+)
 
 -- an older node is above a copy only in the way of the place
-placed-clear : (f0 f g : Forest) (q x : ℕ) (xs : List Open) → AreOpened f xs → ((a n : ℕ) → n < node_count f → Above g a n → Above f a n ⊎ Above f0 a q) → q < node_count f0 → node_count f0 ≤ x → IsClear f x xs → IsClear g x xs
+placed-clear : (f0 f g : Forest) (q x : ℕ) (xs : List Open) → AreOpened f xs
+    → ((a n : ℕ) → n < node_count f → Above g a n → Above f a n ⊎ Above f0 a q) → q < node_count f0
+    → node_count f0 ≤ x → IsClear f x xs → IsClear g x xs
 placed-clear f0 f g q x [] h e less new c = tt
 placed-clear f0 f g q x (y ∷ ys) h e less new c = (
   λ up. elim (e x y.number (element-IsNode f y.number (element_name_of y.namespace y.name) h.0.named) up) [
@@ -51,9 +63,12 @@ placed-clear f0 f g q x (y ∷ ys) h e less new c = (
   placed-clear f0 f g q x ys h.1 e less new c.1,
 )
 
-placed-apart : (f0 f g : Forest) (q : ℕ) (xs : List Open) → AreOpened f xs → ((a n : ℕ) → n < node_count f → Above g a n → Above f a n ⊎ Above f0 a q) → q < node_count f0 → AreNew f0 f xs → IsApart f xs → IsApart g xs
+placed-apart : (f0 f g : Forest) (q : ℕ) (xs : List Open) → AreOpened f xs
+    → ((a n : ℕ) → n < node_count f → Above g a n → Above f a n ⊎ Above f0 a q) → q < node_count f0 → AreNew f0 f xs
+    → IsApart f xs → IsApart g xs
 placed-apart f0 f g q [] h e less n a = tt
-placed-apart f0 f g q (x ∷ xs) h e less n a = (placed-clear f0 f g q x.number xs h.1 e less n.0.0 a.0, placed-apart f0 f g q xs h.1 e less n.1 a.1)
+placed-apart f0 f g q (x ∷ xs) h e less n a =
+    (placed-clear f0 f g q x.number xs h.1 e less n.0.0 a.0, placed-apart f0 f g q xs h.1 e less n.1 a.1)
 
 named-opened : (f g : Forest) (xs : List Open) → ((k : ℕ) → data_of g k ≡ data_of f k) → AreOpened f xs → AreOpened g xs
 named-opened f g [] e h = tt
@@ -65,7 +80,8 @@ named-listed f g (Marker ∷ entries) e h = named-listed f g entries e h
 named-listed f g (Element n tag ∷ entries) e h = (ap element_name (e n) ∙ h.0, named-listed f g entries e h.1)
 
 -- the last node is put at a place outside the block
-pub walked-Placed : (f0 : Forest) (b : ℕ) (w : Walk) (place : Place) → Walked f0 b w → IsPlace (remove w.forest w.last_node) place → parent_at place < node_count f0 → (Above f0 b (parent_at place) → ⊥)
+pub walked-Placed : (f0 : Forest) (b : ℕ) (w : Walk) (place : Place) → Walked f0 b w
+    → IsPlace (remove w.forest w.last_node) place → parent_at place < node_count f0 → (Above f0 b (parent_at place) → ⊥)
     → Placed f0 (put (remove w.forest w.last_node) place w.last_node) b (parent_at place) w.copies w.active_formatting
 walked-Placed f0 b w place is at less out =
     let f : Forest = w.forest in
@@ -84,12 +100,16 @@ walked-Placed f0 b w place is at less out =
     let data_g : (k : ℕ) → data_of g k ≡ data_of f k = λ k. p.same_data k ∙ rr.same_data k in
     let up_q : (a : ℕ) → Above r a q → Above f0 a q = λ a up. is.outside a q less out (Above-less f r rr.less a q up) in
     let up_g : (a n : ℕ) → n < node_count f → Above g a n → Above f a n ⊎ Above f0 a q =
-    λ a n there up. elim (Above-put r g q l p.put a n up) [ inl old ↦ inl (Above-less f r rr.less a n old) | inr above ↦ inr (up_q a above) ] in
+    λ a n there up. elim (Above-put r g q l p.put a n up)
+    [ inl old ↦ inl (Above-less f r rr.less a n old) | inr above ↦ inr (up_q a above) ] in
     record {
       tree = IsTree-put_child (λ k. k) r place (AppendNode l) (IsTree-remove f l is.tree) at loose;
       names = record {
         names = λ k name e. ap element_name (data_g k) ∙ is.names.names k name e;
-        holds = λ k at. let q = is.names.holds k at in record { there = let there = q.there in omega arith; holds = ap holds_children (data_g k) ∙ q.holds };
+        holds = λ k at. let q = is.names.holds k at in record {
+          there = let there = q.there in omega arith;
+          holds = ap holds_children (data_g k) ∙ q.holds;
+        };
       };
       count = omega arith;
       opened = named-opened f g w.copies data_g is.opened;
@@ -141,18 +161,22 @@ pub adopted-Adopted : (f : Forest) (b : ℕ) (tag : Tag) → IsTree f → IsPare
 adopted-Adopted f b tag tree block plain =
     let n : ℕ = node_count f in
     let made : Forest = with_copy f tag in
-    let m = IsMade-create_element f (element_name_of Html tag.name) tag.attrs (flags_of Html tag.name tag.attrs tag.had_duplicate_attributes) tree.forest in
+    let m = IsMade-create_element f (element_name_of Html tag.name) tag.attrs
+    (flags_of Html tag.name tag.attrs tag.had_duplicate_attributes) tree.forest in
     let mm = made-Made f Html tag.name tag.attrs tag.had_duplicate_attributes [] tree tt tt in
     let forest = mm.stays.tree.forest in
     let more : n < node_count made = m.there in
     let there : b < n = block.there in
     let alone : above_of made n ≡ None = (m.loose b there).no_parent in
-    let below : (c : ℕ) → is_among c (children_of made b) ≡ true → c < n = λ c e. tree.forest.in_range b c (subst (λ cs. is_among c cs ≡ true) (m.lists b) e) in
-    let apart : (c : ℕ) → is_among c (children_of made b) ≡ true → Above made c n → ⊥ = λ c e up. let same = only-itself made c n alone up in let less = below c e in absurd (omega arith) in
+    let below : (c : ℕ) → is_among c (children_of made b) ≡ true → c < n =
+    λ c e. tree.forest.in_range b c (subst (λ cs. is_among c cs ≡ true) (m.lists b) e) in
+    let apart : (c : ℕ) → is_among c (children_of made b) ≡ true → Above made c n → ⊥ = λ c e up. let same =
+    only-itself made c n alone up in let less = below c e in absurd (omega arith) in
     let parent_n : IsParent made n = IsParent-element made n (element_name_of Html tag.name) mm.opened.named in
     let k2 : Forest = reparent_children made b n in
     let r = IsReparented-reparent_children made b n forest (omega arith) parent_n apart in
-    let stays_n : is_among n (children_of made b) ≡ false = cases_Bool_false (is_among n (children_of made b)) (λ e. let less = below n e in omega arith) in
+    let stays_n : is_among n (children_of made b) ≡ false = cases_Bool_false (is_among n (children_of made b))
+    (λ e. let less = below n e in omega arith) in
     let alone2 : above_of k2 n ≡ None = r.moved.others n stays_n ∙ alone in
     let free : (k : ℕ) → (Above made b k → ⊥) ⊎ (k ≡ b) → (c : ℕ) → is_among c (children_of made b) ≡ true → Above made c k → ⊥ =
     λ k out c e up. elim out [
@@ -161,22 +185,35 @@ adopted-Adopted f b tag tree block plain =
     ] in
     let up2 : (a k : ℕ) → (Above made b k → ⊥) ⊎ (k ≡ b) → Above k2 a k → Above made a k =
     λ a k out up. Above-moved_free made k2 (λ c. is_among c (children_of made b)) n r.moved a k (free k out) up in
-    let new_made : (k : ℕ) → k < n → Above made n k → ⊥ = λ k less up. let less' = Above-IsNode f n k less (mm.stays.above n k less up) in absurd (omega arith) in
+    let new_made : (k : ℕ) → k < n → Above made n k → ⊥ = λ k less up. let less' = Above-IsNode f n k less
+    (mm.stays.above n k less up) in absurd (omega arith) in
     let count2 : node_count k2 ≡ node_count made = r.count in
-    let loose : IsLoose k2 b n = record { there = omega arith; no_parent = alone2; not_above = λ up. new_made b there (up2 n b (inr refl) up) } in
+    let loose : IsLoose k2 b n = record {
+      there = omega arith;
+      no_parent = alone2;
+      not_above = λ up. new_made b there (up2 n b (inr refl) up);
+    } in
     let block_made : IsParent made b = mm.stays.names.holds b block in
-    let block2 : IsParent k2 b = record { there = let less = block_made.there in omega arith; holds = ap holds_children (r.same_data b) ∙ block_made.holds } in
+    let block2 : IsParent k2 b = record {
+      there = let less = block_made.there in omega arith;
+      holds = ap holds_children (r.same_data b) ∙ block_made.holds;
+    } in
     let g : Forest = put k2 (Last b) n in
     let p = IsPutAt-put k2 (Last b) n r.is block2 loose in
     let data_g : (k : ℕ) → data_of g k ≡ data_of made k = λ k. p.same_data k ∙ r.same_data k in
     let count_g : node_count g ≡ node_count made = p.count ∙ r.count in
     let down : (a k : ℕ) → k < n → (Above made b k → ⊥) ⊎ (k ≡ b) → Above g a k → Above f a k =
-    λ a k less out up. mm.stays.above a k less (up2 a k out (Above-put_free k2 g b n p.put a k (λ new. new_made k less (up2 n k out new)) up)) in
+    λ a k less out up. mm.stays.above a k less
+    (up2 a k out (Above-put_free k2 g b n p.put a k (λ new. new_made k less (up2 n k out new)) up)) in
     record {
-      tree = IsTree-put_child (λ k. k) k2 (Last b) (AppendNode n) (IsTree-reparent_children made b n mm.stays.tree (omega arith) parent_n apart) block2 loose;
+      tree = IsTree-put_child (λ k. k) k2 (Last b) (AppendNode n)
+          (IsTree-reparent_children made b n mm.stays.tree (omega arith) parent_n apart) block2 loose;
       names = record {
         names = λ k name e. ap element_name (data_g k) ∙ mm.stays.names.names k name e;
-        holds = λ k at. let q = mm.stays.names.holds k at in record { there = let less = q.there in omega arith; holds = ap holds_children (data_g k) ∙ q.holds };
+        holds = λ k at. let q = mm.stays.names.holds k at in record {
+          there = let less = q.there in omega arith;
+          holds = ap holds_children (data_g k) ∙ q.holds;
+        };
       };
       named = ap element_name (data_g n) ∙ mm.opened.named;
       clean = λ a k less out up. down a k less (inl (λ above. out (mm.stays.above b k less above))) up;

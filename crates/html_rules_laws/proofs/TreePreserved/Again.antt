@@ -8,10 +8,13 @@ use Rattle.html_rules.specs.Actions.{act, restore_mode, or_mode, set_mode}
 use Rattle.html_rules.specs.Choice.{choose}
 use Rattle.html_rules.specs.ForeignContent.{is_foreign}
 use Rattle.html_rules.specs.Modes.Foreign.{in_foreign_content}
-use Rattle.html_rules.specs.Rules.{Finished, Again, Turn, concluded, encoding_reply, first_fit, most_modes, rows, turn, turn_by_row, using_rules_for}
+use Rattle.html_rules.specs.Rules.{Finished, Again, Turn, concluded, encoding_reply, first_fit, most_modes, rows, turn}
+use Rattle.html_rules.specs.Rules.{turn_by_row, using_rules_for}
 use Rattle.html_rules.specs.Sets.{mathml_names_of, names_of, svg_names_of}
 use Rattle.html_rules.specs.State.{State, current_number}
-use Rattle.html_rules.specs.Table.{Row, Action, InsertPendingText, Conclusion, Done, Acknowledged, Reprocess, ReprocessInOriginal, ReprocessInMode, Using, UsingThen, UsingCurrentMode, RawText, PlainText, RunScript, ReportEncoding}
+use Rattle.html_rules.specs.Table.{Row, Action, InsertPendingText, Conclusion, Done, Acknowledged, Reprocess}
+use Rattle.html_rules.specs.Table.{ReprocessInOriginal, ReprocessInMode, Using, UsingThen, UsingCurrentMode, RawText, PlainText}
+use Rattle.html_rules.specs.Table.{RunScript, ReportEncoding}
 use Rattle.html_rules.specs.Tokens.{attributes_of}
 use Rattle.html_rules.specs.Encodings.{encoding_hint}
 use Rattle.html_rules.specs.declared.insertion_mode.InsertionMode.{InsertionMode}
@@ -57,7 +60,9 @@ encoded : {P : Type 0} (o : Option (List ℕ)) → encoding_reply o ≡ Again �
 encoded None e = absurd (cc)
 encoded (Some label) e = absurd (cc)
 
-ends-avoiding : (uses : Kind → InsertionMode → Bool) (using : InsertionMode → Token → State → Turn) (t : Token) → ((kind : Kind) (to : InsertionMode) → uses kind to ≡ true → is_of kind t ≡ true → (s : State) → Avoids (using to t s)) → (kind : Kind) (e : Conclusion) → ends_avoiding uses kind e ≡ true → is_of kind t ≡ true
+ends-avoiding : (uses : Kind → InsertionMode → Bool) (using : InsertionMode → Token → State → Turn) (t : Token)
+    → ((kind : Kind) (to : InsertionMode) → uses kind to ≡ true → is_of kind t ≡ true → (s : State)
+    → Avoids (using to t s)) → (kind : Kind) (e : Conclusion) → ends_avoiding uses kind e ≡ true → is_of kind t ≡ true
     → (script : ℕ) (s : State) → Avoids (concluded using e t script s)
 unfolding Avoids set_mode
 ends-avoiding uses using t go kind Done h f script s again = finished false again
@@ -66,19 +71,22 @@ ends-avoiding uses using t go kind (Reprocess to) h f script s again = h
 ends-avoiding uses using t go kind ReprocessInOriginal h f script s again = no h
 ends-avoiding uses using t go kind ReprocessInMode h f script s again = no h
 ends-avoiding uses using t go kind (Using to) h f script s again = go kind to h f s again
-ends-avoiding uses using t go kind (UsingThen to b) h f script s again = let parts = and_parts (tame_in kind b) (uses kind to) h in ap avoids (act-aside kind b parts.0 t (using to t s).state).mode ∙ go kind to parts.1 f s again
+ends-avoiding uses using t go kind (UsingThen to b) h f script s again = let parts = and_parts (tame_in kind b)
+    (uses kind to) h in ap avoids (act-aside kind b parts.0 t (using to t s).state).mode ∙ go kind to parts.1 f s again
 ends-avoiding uses using t go kind UsingCurrentMode h f script s again = no h
 ends-avoiding uses using t go kind (RawText raw) h f script s again = absurd (cc)
 ends-avoiding uses using t go kind PlainText h f script s again = absurd (cc)
 ends-avoiding uses using t go kind RunScript h f script s again = absurd (cc)
 ends-avoiding uses using t go kind ReportEncoding h f script s again = encoded (encoding_hint (attributes_of t)) again
 
-uses-avoiding : (n : ℕ) (t : Token) (kind : Kind) (to : InsertionMode) → uses_avoiding n kind to ≡ true → is_of kind t ≡ true → (s : State) → Avoids (using_rules_for n to t s)
+uses-avoiding : (n : ℕ) (t : Token) (kind : Kind) (to : InsertionMode) → uses_avoiding n kind to ≡ true
+    → is_of kind t ≡ true → (s : State) → Avoids (using_rules_for n to t s)
 unfolding uses_avoiding using_rules_for Avoids
 uses-avoiding zero t kind to h f s = λ again. finished false again
 uses-avoiding (suc n) t kind to h f s =
     scan-holds (row_avoiding (uses_avoiding n)) (λ r. Avoids (turn_by_row (using_rules_for n) r t s)) t s
-    (λ inner r k g of fits. ends-avoiding (uses_avoiding n) (using_rules_for n) t (uses-avoiding n t) inner r.ends k g (current_number s.open_elems) (act r.does t s))
+    (λ inner r k g of fits. ends-avoiding (uses_avoiding n) (using_rules_for n) t (uses-avoiding n t) inner r.ends k
+    g (current_number s.open_elems) (act r.does t s))
     (λ again. finished false again) (rows to) kind h f
 
 -- the kept text of a table is told, and the original mode comes back
@@ -102,7 +110,9 @@ or-next : (o : Option InsertionMode) → (o ≡ Some mode.AfterHead → ⊥) →
 or-next None h e = absurd (cc)
 or-next (Some m) h e = h (ap Some e)
 
-told-next : (using : InsertionMode → Token → State → Turn) (a : Action) (e : Conclusion) → is_told a e ≡ true → (t : Token) (script : ℕ) (s : State) → s.mode ≡ mode.InTableText → (s.orig_mode ≡ Some mode.AfterHead → ⊥) → IsNext (concluded using e t script (act a t s)).state
+told-next : (using : InsertionMode → Token → State → Turn) (a : Action) (e : Conclusion) → is_told a e ≡ true
+    → (t : Token) (script : ℕ) (s : State) → s.mode ≡ mode.InTableText → (s.orig_mode ≡ Some mode.AfterHead → ⊥)
+    → IsNext (concluded using e t script (act a t s)).state
 unfolding restore_mode
 told-next using InsertPendingText ReprocessInOriginal h t script s at original =
     let aside = act-aside (Starts []) InsertPendingText refl t s in
@@ -125,15 +135,18 @@ table-text m h = no h
 Nexts : Turn → Type 0
 Nexts made = made.ends ≡ Again → IsNext made.state
 
-mode-next : (t : Token) (kind : Kind) (m : InsertionMode) → next_ok kind m ≡ true → is_of kind t ≡ true → (s : State) → s.mode ≡ m → (m ≡ mode.InTableText → s.orig_mode ≡ Some mode.AfterHead → ⊥) → Nexts (using_rules_for 4 m t s)
+mode-next : (t : Token) (kind : Kind) (m : InsertionMode) → next_ok kind m ≡ true → is_of kind t ≡ true
+    → (s : State) → s.mode ≡ m → (m ≡ mode.InTableText → s.orig_mode ≡ Some mode.AfterHead → ⊥) → Nexts (using_rules_for 4 m t s)
 unfolding Nexts Avoids using_rules_for
 mode-next t kind m h f s at original = by (is_table_text m) refl h where
-  by : (b : Bool) → is_table_text m ≡ b → choose b (λ _. scan tells kind (rows mode.InTableText)) (λ _. uses_avoiding 4 kind m) ≡ true → Nexts (using_rules_for 4 m t s)
+  by : (b : Bool) → is_table_text m ≡ b → choose b (λ _. scan tells kind (rows mode.InTableText))
+      (λ _. uses_avoiding 4 kind m) ≡ true → Nexts (using_rules_for 4 m t s)
   by true e h =
       let same = table-text m e in
       subst (λ m. Nexts (using_rules_for 4 m t s)) (sym same)
       (scan-holds tells (λ r. Nexts (turn_by_row (using_rules_for 3) r t s)) t s
-      (λ inner r k g of fits again. told-next (using_rules_for 3) r.does r.ends k t (current_number s.open_elems) s (at ∙ same) (original same))
+      (λ inner r k g of fits again. told-next (using_rules_for 3) r.does r.ends k t (current_number s.open_elems) s
+      (at ∙ same) (original same))
       (λ again. finished false again) (rows mode.InTableText) kind h f)
   by false e h = λ again. avoiding-next (using_rules_for 4 m t s).state (uses-avoiding 4 t kind m h f s again)
 
@@ -146,7 +159,9 @@ foreign_ends m kind a e = false
 abbrev foreign_row : InsertionMode → Kind → Row → Bool
 foreign_row m kind r = foreign_ends m kind r.does r.ends
 
-foreign-next : (t : Token) (m : InsertionMode) (kind : Kind) (a : Action) (e : Conclusion) → foreign_ends m kind a e ≡ true → is_of kind t ≡ true → (script : ℕ) (s : State) → s.mode ≡ m → (m ≡ mode.InTableText → s.orig_mode ≡ Some mode.AfterHead → ⊥)
+foreign-next : (t : Token) (m : InsertionMode) (kind : Kind) (a : Action) (e : Conclusion)
+    → foreign_ends m kind a e ≡ true → is_of kind t ≡ true → (script : ℕ) (s : State) → s.mode ≡ m
+    → (m ≡ mode.InTableText → s.orig_mode ≡ Some mode.AfterHead → ⊥)
     → Nexts (concluded (using_rules_for 4) e t script (act a t s))
 unfolding Nexts
 foreign-next t m kind a Done h f script s at original = λ again. finished false again
@@ -155,7 +170,8 @@ foreign-next t m kind a UsingCurrentMode h f script s at original =
     let parts = and_parts (tame_in kind a) (next_ok kind m) h in
     let aside = act-aside kind a parts.0 t s in
     let same : (act a t s).mode ≡ m = aside.mode ∙ at in
-    mode-next t kind (act a t s).mode (subst (λ m. next_ok kind m ≡ true) (sym same) parts.1) f (act a t s) refl (λ e o. original (sym same ∙ e) (sym aside.original ∙ o))
+    mode-next t kind (act a t s).mode (subst (λ m. next_ok kind m ≡ true) (sym same) parts.1) f (act a t s) refl
+    (λ e o. original (sym same ∙ e) (sym aside.original ∙ o))
 foreign-next t m kind a e h f script s at original = no h
 
 mode_avoiding : InsertionMode → Bool
@@ -171,14 +187,17 @@ head-kind (TagToken tag) h = h
 head-kind t h = no h
 
 -- one turn
-pub turn-next : (t : Token) (s : State) → is_head_start t ≡ true → (s.mode ≡ mode.InTableText → s.orig_mode ≡ Some mode.AfterHead → ⊥) → (turn t s).ends ≡ Again → IsNext (turn t s).state
+pub turn-next : (t : Token) (s : State) → is_head_start t ≡ true
+    → (s.mode ≡ mode.InTableText → s.orig_mode ≡ Some mode.AfterHead → ⊥) → (turn t s).ends ≡ Again → IsNext (turn t s).state
 unfolding turn mode_avoiding Nexts
 turn-next t s h original = by (is_foreign s t) where
   parts : (next_ok (Starts head_contents) s.mode ≡ true) × (scan (foreign_row s.mode) (Starts head_contents) in_foreign_content ≡ true)
   parts = and_parts (next_ok (Starts head_contents) s.mode) _ (modes-avoid s.mode)
 
-  by : (b : Bool) → (choose b (λ _. turn_by_row (using_rules_for most_modes) (first_fit in_foreign_content t s) t s) (λ _. using_rules_for most_modes s.mode t s)).ends ≡ Again
-      → IsNext (choose b (λ _. turn_by_row (using_rules_for most_modes) (first_fit in_foreign_content t s) t s) (λ _. using_rules_for most_modes s.mode t s)).state
+  by : (b : Bool) → (choose b (λ _. turn_by_row (using_rules_for most_modes) (first_fit in_foreign_content t s) t s)
+      (λ _. using_rules_for most_modes s.mode t s)).ends ≡ Again
+      → IsNext (choose b (λ _. turn_by_row (using_rules_for most_modes) (first_fit in_foreign_content t s) t s)
+      (λ _. using_rules_for most_modes s.mode t s)).state
   by true =
       scan-holds (foreign_row s.mode) (λ r. Nexts (turn_by_row (using_rules_for 4) r t s)) t s
       (λ inner r k g of fits. foreign-next t s.mode inner r.does r.ends k g (current_number s.open_elems) s refl original)

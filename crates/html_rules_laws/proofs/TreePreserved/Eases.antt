@@ -35,13 +35,23 @@ empty-part ys xs (gone x xs' ys' part) e = absurd (cc)
 
 pub rooted-part : (f : Forest) (xs ys : List Open) → IsPart ys xs → AreRooted f xs → AreRooted f ys
 rooted-part f xs ys none h = h
-rooted-part f xs ys (kept x xs' ys' part) h = (λ e. let own = h.0 e in (empty-part ys' xs' part own.0, own.1), rooted-part f xs' ys' part h.1)
+rooted-part f xs ys (kept x xs' ys' part) h = (
+  λ e. let own = h.0 e in (empty-part ys' xs' part own.0, own.1),
+  rooted-part f xs' ys' part h.1,
+)
 rooted-part f xs ys (gone x xs' ys' part) h = rooted-part f xs' ys' part h.1
 
-pub rooted-stays : (f g : Forest) (xs : List Open) → ((a n : ℕ) → n < node_count f → Above g a n → Above f a n) → AreOpened f xs → AreRooted f xs → AreRooted g xs
+pub rooted-stays : (f g : Forest) (xs : List Open) → ((a n : ℕ) → n < node_count f → Above g a n → Above f a n)
+    → AreOpened f xs → AreRooted f xs → AreRooted g xs
 rooted-stays f g [] above h r = tt
-rooted-stays f g (x ∷ xs) above h r =
-    (λ e. let own = r.0 e in (own.0, λ a up. own.1 a (above a x.number (element-IsNode f x.number (element_name_of x.namespace x.name) h.0.named) up)), rooted-stays f g xs above h.1 r.1)
+rooted-stays f g (x ∷ xs) above h r = (
+  λ e. let own = r.0 e in (
+    own.0,
+    λ a up. own.1 a (above a x.number
+        (element-IsNode f x.number (element_name_of x.namespace x.name) h.0.named) up),
+  ),
+  rooted-stays f g xs above h.1 r.1,
+)
 
 -- some elements leave, and the older nodes have nothing new above them
 pub eased-part : (s r : State) → AreOpened s.forest s.open_elems → Stays s.forest r.forest → IsPart r.open_elems s.open_elems → Eases s r
@@ -54,8 +64,12 @@ pub stays-same : (f : Forest) → IsTree f → Stays f f
 stays-same f tree = stays-nodes f f.quirks f.errors tree
 
 -- an element comes that is no `html`
-pub eased-made : (s r : State) (x : Open) → AreOpened s.forest s.open_elems → Made s.forest r.forest s.open_elems x → r.open_elems ≡ x ∷ s.open_elems → is_in set.Html x ≡ false → Eases s r
+pub eased-made : (s r : State) (x : Open) → AreOpened s.forest s.open_elems → Made s.forest r.forest s.open_elems x
+    → r.open_elems ≡ x ∷ s.open_elems → is_in set.Html x ≡ false → Eases s r
 eased-made s r x opened made e no_html = record {
   names = made.stays.names.names;
-  rooted = λ h. subst (λ xs. AreRooted r.forest xs) (sym e) (λ html. absurd (true≢false (sym html ∙ no_html)), rooted-stays s.forest r.forest s.open_elems made.stays.above opened h);
+  rooted = λ h. subst (λ xs. AreRooted r.forest xs) (sym e) (
+    λ html. absurd (true≢false (sym html ∙ no_html)),
+    rooted-stays s.forest r.forest s.open_elems made.stays.above opened h,
+  );
 }

@@ -20,7 +20,8 @@ only-itself f a n e Above.here = refl
 only-itself f a n e (Above.further is up) = absurd (cc)
 
 -- the document alone is above the new root
-root-rooted : (f : Forest) (attributes : List Attribute) → IsTree f → above_of f 0 ≡ None → IsRooted (put (with_element f Html (codes "html") attributes false) (Last 0) (node_count f)) (node_count f)
+root-rooted : (f : Forest) (attributes : List Attribute) → IsTree f → above_of f 0 ≡ None
+    → IsRooted (put (with_element f Html (codes "html") attributes false) (Last 0) (node_count f)) (node_count f)
 root-rooted f attributes tree top a up =
     let flags = flags_of Html (codes "html") attributes false in
     let made : Forest = with_element f Html (codes "html") attributes false in
@@ -40,10 +41,15 @@ rooted-Upright attributes s e h =
     let f : Forest = s.forest in
     let at = IsParent-document f h.standing.tree.forest in
     let made = made-Made f Html (codes "html") attributes false s.open_elems h.standing.tree tt h.standing.opened in
-    let whole = put-Made f Html (codes "html") attributes false s.open_elems (Last 0) h.standing.tree tt h.standing.opened at (IsParent-document _ made.stays.tree.forest) in
+    let whole = put-Made f Html (codes "html") attributes false s.open_elems (Last 0) h.standing.tree tt
+    h.standing.opened at (IsParent-document _ made.stays.tree.forest) in
     record {
       standing = create_root-Standing attributes s h.standing;
-      rooted = (λ _. (e, root-rooted f attributes h.standing.tree h.standing.top), subst (λ xs. AreRooted (put (with_element f Html (codes "html") attributes false) (Last 0) (node_count f)) xs) (sym e) tt);
-      head = named-kept s.head_elem f (put (with_element f Html (codes "html") attributes false) (Last 0) (node_count f)) whole.stays.names.names h.head;
+      rooted = (
+        λ _. (e, root-rooted f attributes h.standing.tree h.standing.top),
+        subst (λ xs. AreRooted (put (with_element f Html (codes "html") attributes false) (Last 0) (node_count f)) xs) (sym e) tt,
+      );
+      head = named-kept s.head_elem f (put (with_element f Html (codes "html") attributes false) (Last 0)
+          (node_count f)) whole.stays.names.names h.head;
       context = h.context;
     }

@@ -12,7 +12,9 @@ use Rattle.html_rules.specs.Sets.{names_of}
 use Rattle.html_rules.specs.Shape.{is_at_root}
 use Rattle.html_rules.specs.Stack.{parse_error}
 use Rattle.html_rules.specs.State.{State, current_number}
-use Rattle.html_rules.specs.Table.{Row, Action, Then, ParseError, PushHeadElem, RemoveHeadElem, Conclusion, Done, Acknowledged, Reprocess, ReprocessInOriginal, ReprocessInMode, Using, UsingThen, UsingCurrentMode, RawText, PlainText, RunScript, ReportEncoding}
+use Rattle.html_rules.specs.Table.{Row, Action, Then, ParseError, PushHeadElem, RemoveHeadElem, Conclusion, Done, Acknowledged}
+use Rattle.html_rules.specs.Table.{Reprocess, ReprocessInOriginal, ReprocessInMode, Using, UsingThen, UsingCurrentMode, RawText}
+use Rattle.html_rules.specs.Table.{PlainText, RunScript, ReportEncoding}
 use Rattle.html_rules.specs.declared.insertion_mode.InsertionMode.{InsertionMode}
 use Rattle.html_rules.specs.declared.insertion_mode.InsertionMode.TheVariants as mode
 use Rattle.html_rules.specs.declared.tag_set.TagSet.TheVariants as set
@@ -58,14 +60,18 @@ is_after_head mode.AfterHead = true
 is_after_head m = false
 
 abbrev pub mode_poised : Kind → InsertionMode → Bool
-mode_poised kind m = choose (is_after_head m && starts_of_head kind) (λ _. scan (row_of_head 3) kind (rows mode.AfterHead)) (λ _. uses_poised 4 kind m)
+mode_poised kind m = choose (is_after_head m && starts_of_head kind)
+    (λ _. scan (row_of_head 3) kind (rows mode.AfterHead)) (λ _. uses_poised 4 kind m)
 
 -- the rows of a mode
 
 Keeper : (Kind → InsertionMode → Bool) → (InsertionMode → Token → State → Turn) → Token → Type 0
-Keeper uses using t = (kind : Kind) (to : InsertionMode) → uses kind to ≡ true → is_of kind t ≡ true → (s : State) → Poised s → Poised (using to t s).state
+Keeper uses using t = (kind : Kind) (to : InsertionMode) → uses kind to ≡ true → is_of kind t ≡ true → (s : State)
+    → Poised s → Poised (using to t s).state
 
-ends-poised : (uses : Kind → InsertionMode → Bool) (using : InsertionMode → Token → State → Turn) (t : Token) → Keeper uses using t → (kind : Kind) (e : Conclusion) → ends_poised uses kind e ≡ true → is_of kind t ≡ true → (script : ℕ) (s : State) → Poised s → Poised (concluded using e t script s).state
+ends-poised : (uses : Kind → InsertionMode → Bool) (using : InsertionMode → Token → State → Turn) (t : Token)
+    → Keeper uses using t → (kind : Kind) (e : Conclusion) → ends_poised uses kind e ≡ true → is_of kind t ≡ true
+    → (script : ℕ) (s : State) → Poised s → Poised (concluded using e t script s).state
 unfolding Keeper
 ends-poised uses using t go kind Done h f script s is = is
 ends-poised uses using t go kind Acknowledged h f script s is = is
@@ -73,20 +79,24 @@ ends-poised uses using t go kind (Reprocess to) h f script s is = moved-poised t
 ends-poised uses using t go kind ReprocessInOriginal h f script s is = back-poised s is
 ends-poised uses using t go kind ReprocessInMode h f script s is = is
 ends-poised uses using t go kind (Using to) h f script s is = go kind to h f s is
-ends-poised uses using t go kind (UsingThen to b) h f script s is = let parts = and_parts (poised_in kind b) (uses kind to) h in act-poised kind b parts.0 t f _ (go kind to parts.1 f s is)
+ends-poised uses using t go kind (UsingThen to b) h f script s is = let parts = and_parts (poised_in kind b)
+    (uses kind to) h in act-poised kind b parts.0 t f _ (go kind to parts.1 f s is)
 ends-poised uses using t go kind UsingCurrentMode h f script s is = no h
 ends-poised uses using t go kind (RawText raw) h f script s is = is
 ends-poised uses using t go kind PlainText h f script s is = is
 ends-poised uses using t go kind RunScript h f script s is = is
 ends-poised uses using t go kind ReportEncoding h f script s is = is
 
-row-poised : (uses : Kind → InsertionMode → Bool) (using : InsertionMode → Token → State → Turn) (t : Token) → Keeper uses using t → (kind : Kind) (r : Row) → row_poised uses kind r ≡ true → is_of kind t ≡ true → (s : State) → Poised s → Poised (turn_by_row using r t s).state
+row-poised : (uses : Kind → InsertionMode → Bool) (using : InsertionMode → Token → State → Turn) (t : Token)
+    → Keeper uses using t → (kind : Kind) (r : Row) → row_poised uses kind r ≡ true → is_of kind t ≡ true
+    → (s : State) → Poised s → Poised (turn_by_row using r t s).state
 row-poised uses using t go kind r h f s is =
     let parts = and_parts (poised_in kind r.does || makes_head kind r.does) _ h in
     ends-poised uses using t go kind r.ends parts.1 f (current_number s.open_elems) (act r.does t s)
     (or_by (poised_in kind r.does) _ parts.0 (λ k. act-poised kind r.does k t f s is) (λ k. makes_head-poised kind r.does k t f s is))
 
-pub uses-poised : (n : ℕ) (t : Token) (kind : Kind) (to : InsertionMode) → uses_poised n kind to ≡ true → is_of kind t ≡ true → (s : State) → Poised s → Poised (using_rules_for n to t s).state
+pub uses-poised : (n : ℕ) (t : Token) (kind : Kind) (to : InsertionMode) → uses_poised n kind to ≡ true
+    → is_of kind t ≡ true → (s : State) → Poised s → Poised (using_rules_for n to t s).state
 unfolding uses_poised using_rules_for Keeper
 uses-poised zero t kind to h f s is = is
 uses-poised (suc n) t kind to h f s is =
@@ -94,7 +104,8 @@ uses-poised (suc n) t kind to h f s is =
     (λ inner r k g of fits. row-poised (uses_poised n) (using_rules_for n) t (uses-poised n t) inner r k g s is)
     is (rows to) kind h f
 
-opened-head : (n : ℕ) (a : Action) (e : Conclusion) → opens_head a e ≡ true → (t : Token) (kind : Kind) → uses_poised n kind mode.InHead ≡ true → is_of kind t ≡ true → (script : ℕ) (s : State) → is_at_root s.open_elems ≡ true → Poised s
+opened-head : (n : ℕ) (a : Action) (e : Conclusion) → opens_head a e ≡ true → (t : Token) (kind : Kind)
+    → uses_poised n kind mode.InHead ≡ true → is_of kind t ≡ true → (script : ℕ) (s : State) → is_at_root s.open_elems ≡ true → Poised s
     → Poised (concluded (using_rules_for n) e t script (act a t s)).state
 unfolding parse_error
 opened-head n (Then ParseError PushHeadElem) (UsingThen mode.InHead RemoveHeadElem) o t kind u f script s root is =
@@ -103,7 +114,8 @@ opened-head n (Then ParseError PushHeadElem) (UsingThen mode.InHead RemoveHeadEl
 opened-head n a e o t kind u f script s root is = no o
 
 start-of_head : (kind : Kind) (t : Token) → starts_of_head kind ≡ true → is_of kind t ≡ true → is_head_start t ≡ true
-start-of_head (Starts names) (TagToken tag) h f = let parts = and_parts (is_start_tag tag.kind) _ f in both _ _ parts.0 (among-all tag.name names (names_of set.HeadContent) h parts.1)
+start-of_head (Starts names) (TagToken tag) h f = let parts = and_parts (is_start_tag tag.kind) _ f in
+    both _ _ parts.0 (among-all tag.name names (names_of set.HeadContent) h parts.1)
 start-of_head (Starts names) t h f = no f
 start-of_head kind t h f = no h
 
@@ -112,27 +124,35 @@ after-head mode.AfterHead h = refl
 after-head m h = no h
 
 -- a mode's own rows, where the head is opened again only over the root
-pub mode-poised : (t : Token) (kind : Kind) (m : InsertionMode) → mode_poised kind m ≡ true → is_of kind t ≡ true → (s : State) → (is_head_start t ≡ true → m ≡ mode.AfterHead → is_at_root s.open_elems ≡ true) → Poised s → Poised (using_rules_for 4 m t s).state
+pub mode-poised : (t : Token) (kind : Kind) (m : InsertionMode) → mode_poised kind m ≡ true → is_of kind t ≡ true
+    → (s : State) → (is_head_start t ≡ true → m ≡ mode.AfterHead → is_at_root s.open_elems ≡ true) → Poised s
+    → Poised (using_rules_for 4 m t s).state
 unfolding using_rules_for
 mode-poised t kind m h f s root is = by (is_after_head m && starts_of_head kind) refl h where
-  by : (b : Bool) → (is_after_head m && starts_of_head kind) ≡ b → choose b (λ _. scan (row_of_head 3) kind (rows mode.AfterHead)) (λ _. uses_poised 4 kind m) ≡ true → Poised (using_rules_for 4 m t s).state
+  by : (b : Bool) → (is_after_head m && starts_of_head kind) ≡ b
+      → choose b (λ _. scan (row_of_head 3) kind (rows mode.AfterHead)) (λ _. uses_poised 4 kind m) ≡ true
+      → Poised (using_rules_for 4 m t s).state
   by true e h =
       let parts = and_parts (is_after_head m) (starts_of_head kind) e in
       let at = after-head m parts.0 in
       let over = root (start-of_head kind t parts.1 f) at in
       subst (λ m. Poised (using_rules_for 4 m t s).state) (sym at)
       (scan-holds (row_of_head 3) (λ r. Poised (turn_by_row (using_rules_for 3) r t s).state) t s
-      (λ inner r k g of fits. let own = and_parts (opens_head r.does r.ends) _ k in opened-head 3 r.does r.ends own.0 t inner own.1 g (current_number s.open_elems) s over is)
+      (λ inner r k g of fits. let own = and_parts (opens_head r.does r.ends) _ k in
+      opened-head 3 r.does r.ends own.0 t inner own.1 g (current_number s.open_elems) s over is)
       is (rows mode.AfterHead) kind h f)
   by false e h = uses-poised 4 t kind m h f s is
 
 -- the kinds of all tokens
 
 abbrev pub head_contents : List (List ℕ)
-head_contents = codes "base" ∷ codes "basefont" ∷ codes "bgsound" ∷ codes "link" ∷ codes "meta" ∷ codes "noframes" ∷ codes "script" ∷ codes "style" ∷ codes "template" ∷ codes "title" ∷ []
+head_contents = codes "base" ∷ codes "basefont" ∷ codes "bgsound" ∷ codes "link" ∷ codes "meta" ∷ codes "noframes" ∷
+    codes "script" ∷ codes "style" ∷ codes "template" ∷ codes "title" ∷ []
 
 abbrev pub named_apart : List (List ℕ)
 named_apart = codes "html" ∷ codes "head" ∷ head_contents
 
 abbrev pub each_kind : (Kind → Bool) → Bool
-each_kind p = p (Starts (codes "html" ∷ [])) && (p (Starts (codes "head" ∷ [])) && (p (Starts head_contents) && (p (StartsBut named_apart) && (p (EndsBut []) && (p Texts && (p Nulls && (p TheEnd && p Others)))))))
+each_kind p = p (Starts (codes "html" ∷ []))
+    && (p (Starts (codes "head" ∷ []))
+    && (p (Starts head_contents) && (p (StartsBut named_apart) && (p (EndsBut []) && (p Texts && (p Nulls && (p TheEnd && p Others)))))))

@@ -27,15 +27,18 @@ part-choose false xs ys zs h k = k
 
 pub part-below : (p : Open → Bool) (xs : List Open) → IsPart (left_below p xs) xs
 part-below p [] = none
-part-below p (x ∷ xs) = part-choose (p x) (x ∷ xs) xs (left_below p xs) (gone x xs xs (part-same xs)) (gone x xs (left_below p xs) (part-below p xs))
+part-below p (x ∷ xs) = part-choose (p x) (x ∷ xs) xs (left_below p xs) (gone x xs xs (part-same xs))
+    (gone x xs (left_below p xs) (part-below p xs))
 
 pub part-from : (p : Open → Bool) (xs : List Open) → IsPart (left_from p xs) xs
 part-from p [] = none
-part-from p (x ∷ xs) = part-choose (p x) (x ∷ xs) (x ∷ xs) (left_from p xs) (part-same (x ∷ xs)) (gone x xs (left_from p xs) (part-from p xs))
+part-from p (x ∷ xs) = part-choose (p x) (x ∷ xs) (x ∷ xs) (left_from p xs) (part-same (x ∷ xs))
+    (gone x xs (left_from p xs) (part-from p xs))
 
 pub part-number : (n : ℕ) (xs : List Open) → IsPart (without_number n xs) xs
 part-number n [] = none
-part-number n (x ∷ xs) = part-choose (nat_eq x.number n) (x ∷ xs) xs (x ∷ without_number n xs) (gone x xs xs (part-same xs)) (kept x xs (without_number n xs) (part-number n xs))
+part-number n (x ∷ xs) = part-choose (nat_eq x.number n) (x ∷ xs) xs (x ∷ without_number n xs)
+    (gone x xs xs (part-same xs)) (kept x xs (without_number n xs) (part-number n xs))
 
 pub part-current : (xs : List Open) → IsPart (without_current xs) xs
 part-current [] = none
@@ -61,8 +64,15 @@ part-apart f xs ys (kept x xs' ys' part) h = (part-clear f x.number xs' ys' part
 part-apart f xs ys (gone x xs' ys' part) h = part-apart f xs' ys' part h.1
 
 -- elements leave the stack
-pub fewer-Standing : (f : Forest) (entries : List Entry) (xs ys : List Open) → IsPart ys xs → IsStanding f xs entries → IsStanding f ys entries
-fewer-Standing f entries xs ys part is = record { tree = is.tree; opened = part-opened f xs ys part is.opened; apart = part-apart f xs ys part is.apart; listed = is.listed; top = is.top }
+pub fewer-Standing : (f : Forest) (entries : List Entry) (xs ys : List Open) → IsPart ys xs
+    → IsStanding f xs entries → IsStanding f ys entries
+fewer-Standing f entries xs ys part is = record {
+  tree = is.tree;
+  opened = part-opened f xs ys part is.opened;
+  apart = part-apart f xs ys part is.apart;
+  listed = is.listed;
+  top = is.top;
+}
 
 -- the older nodes keep their names, and have nothing new above them
 pub record Stays (f g : Forest) : Type 0 where
@@ -72,11 +82,15 @@ pub record Stays (f g : Forest) : Type 0 where
 
 pub stays-opened : (f g : Forest) (xs : List Open) → Stays f g → AreOpened f xs → AreOpened g xs
 stays-opened f g [] is h = tt
-stays-opened f g (x ∷ xs) is h = (record { named = is.names.names x.number (element_name_of x.namespace x.name) h.0.named; own = h.0.own }, stays-opened f g xs is h.1)
+stays-opened f g (x ∷ xs) is h =
+    (record { named = is.names.names x.number (element_name_of x.namespace x.name) h.0.named; own = h.0.own }, stays-opened f g xs is h.1)
 
 pub stays-clear : (f g : Forest) (n : ℕ) (xs : List Open) → Stays f g → AreOpened f xs → IsClear f n xs → IsClear g n xs
 stays-clear f g n [] is h c = tt
-stays-clear f g n (x ∷ xs) is h c = (λ up. c.0 (is.above n x.number (element-IsNode f x.number (element_name_of x.namespace x.name) h.0.named) up), stays-clear f g n xs is h.1 c.1)
+stays-clear f g n (x ∷ xs) is h c = (
+  λ up. c.0 (is.above n x.number (element-IsNode f x.number (element_name_of x.namespace x.name) h.0.named) up),
+  stays-clear f g n xs is h.1 c.1,
+)
 
 pub stays-apart : (f g : Forest) (xs : List Open) → Stays f g → AreOpened f xs → IsApart f xs → IsApart g xs
 stays-apart f g [] is h a = tt
@@ -102,7 +116,8 @@ stays-top f g tree is e = by (above_of g 0) refl where
       absurd (Above-child g is.tree.forest 0 0 itself Above.here)
 
 -- the tree changes so
-pub changed-Standing : (f g : Forest) (xs : List Open) (entries : List Entry) → Stays f g → IsStanding f xs entries → IsStanding g xs entries
+pub changed-Standing : (f g : Forest) (xs : List Open) (entries : List Entry) → Stays f g → IsStanding f xs entries
+    → IsStanding g xs entries
 changed-Standing f g xs entries is h = record {
   tree = is.tree;
   opened = stays-opened f g xs is h.opened;
@@ -112,5 +127,12 @@ changed-Standing f g xs entries is h = record {
 }
 
 -- an element is opened that stands above none of the others
-pub opened-Standing : (f : Forest) (x : Open) (xs : List Open) (entries : List Entry) → IsOpened f x → IsClear f x.number xs → IsStanding f xs entries → IsStanding f (x ∷ xs) entries
-opened-Standing f x xs entries named clear is = record { tree = is.tree; opened = (named, is.opened); apart = (clear, is.apart); listed = is.listed; top = is.top }
+pub opened-Standing : (f : Forest) (x : Open) (xs : List Open) (entries : List Entry) → IsOpened f x
+    → IsClear f x.number xs → IsStanding f xs entries → IsStanding f (x ∷ xs) entries
+opened-Standing f x xs entries named clear is = record {
+  tree = is.tree;
+  opened = (named, is.opened);
+  apart = (clear, is.apart);
+  listed = is.listed;
+  top = is.top;
+}

@@ -1,10 +1,13 @@
 -- Actions keep the open elements standing.
-use Rattle.std.proofs.Common.{◌≡◌, ◌∙◌, ◌++◌, reverse, ℕ, ◌<◌, Bool, true, false, List, [], ◌∷◌, Option, Some, None, refl, sym, ap, subst, codes, arith, inl, inr}
+use Rattle.std.proofs.Common.{◌≡◌, ◌∙◌, ◌++◌, reverse, ℕ, ◌<◌, Bool, true, false, List, [], ◌∷◌, Option, Some, None, refl, sym}
+use Rattle.std.proofs.Common.{ap, subst, codes, arith, inl, inr}
 use Rattle.std.specs.Prelude.{◌&&◌, not, IfSome}
 use Rattle.std.proofs.lemmas.Bool.{cases_eq}
 use Rattle.std.proofs.lemmas.Grind.{reverse_onto}
-use Rattle.markup.specs.Forest.{Above, Forest, IsForest, NodeData, above_of, add_attributes, data_of, element_name, holds_children, node_count, remove, with_attributes}
-use Rattle.markup.specs.Forest.NodeData.{Comment, Contents, Doctype as DoctypeNode, Document, Element as ElementNode, ProcessingInstruction, Text}
+use Rattle.markup.specs.Forest.{Above, Forest, IsForest, NodeData, above_of, add_attributes, data_of, element_name}
+use Rattle.markup.specs.Forest.{holds_children, node_count, remove, with_attributes}
+use Rattle.markup.specs.Forest.NodeData.{Comment, Contents, Doctype as DoctypeNode, Document, Element as ElementNode}
+use Rattle.markup.specs.Forest.NodeData.{ProcessingInstruction, Text}
 use Rattle.markup.specs.Named.{IsTree}
 use Rattle.markup.specs.TreeLaws.{with_errors}
 use Rattle.markup.specs.declared.attributes.Attribute.{Attribute}
@@ -15,21 +18,29 @@ use Rattle.markup.proofs.Trees.{IsTree-add_attributes, IsTree-remove}
 use Rattle.markup.proofs.Walks.{Above-less}
 use Rattle.markup.proofs.PutTexts.{IsInPlace-add_attributes, IsParent-document, element-IsNode, element_name-with_attributes}
 use Rattle.html_tokens.specs.declared.tags.Tag.{Tag}
-use Rattle.html_rules.specs.Actions.{append_in_body, frameset_not_ok_unless_white, push_head, remove_from_stack_if, set_foster_parenting, set_quirks_mode, insert_pending_text, insert_table_text}
+use Rattle.html_rules.specs.Actions.{append_in_body, frameset_not_ok_unless_white, push_head, remove_from_stack_if}
+use Rattle.html_rules.specs.Actions.{set_foster_parenting, set_quirks_mode, insert_pending_text, insert_table_text}
 use Rattle.html_rules.specs.Choice.{choose}
-use Rattle.html_rules.specs.ForeignContent.{ForeignEnd, Dropped, AsInMode, Closed, close_foreign, close_foreign_by, ends_foreign, enter_foreign, foreign_end, foreign_end_from, foreign_start, foreign_start_at, is_html_element, is_named_any_case, pop_foreign}
+use Rattle.html_rules.specs.ForeignContent.{ForeignEnd, Dropped, AsInMode, Closed, close_foreign, close_foreign_by}
+use Rattle.html_rules.specs.ForeignContent.{ends_foreign, enter_foreign, foreign_end, foreign_end_from, foreign_start}
+use Rattle.html_rules.specs.ForeignContent.{foreign_start_at, is_html_element, is_named_any_case, pop_foreign}
 use Rattle.html_rules.specs.Formatting.{reconstruct_active_formatting_elements}
 use Rattle.html_rules.specs.Names.{Namespace, Html, element_name_of}
 use Rattle.html_rules.specs.Places.{insert_element_for, open_element}
 use Rattle.html_rules.specs.Renames.{adjust_attributes, adjust_tag_name}
-use Rattle.html_rules.specs.Stack.{add_attributes_to, add_attributes_to_body, add_attributes_to_root, body_elem, if_body, pop, remove_body, remove_if, root_number, second_of}
+use Rattle.html_rules.specs.Stack.{add_attributes_to, add_attributes_to_body, add_attributes_to_root, body_elem, if_body, pop}
+use Rattle.html_rules.specs.Stack.{remove_body, remove_if, root_number, second_of}
 use Rattle.html_rules.specs.State.{Open, State, adjusted_by, adjusted_current_node, current_number, is_in}
 use Rattle.html_rules.specs.Templates.{attach_shadow_root, insert_template, may_be_shadow_root, number_of}
 use Rattle.html_rules.specs.Tokens.{is_white}
 use Rattle.html_rules.specs.declared.tag_set.TagSet.TheVariants as set
 use Rattle.html_rules_laws.specs.Soundness.{AreOpened, IsClear, IsOwn, Standing}
 use Rattle.html_rules_laws.proofs.TreePreserved.Standing.{IsPart, Stays, changed-Standing, fewer-Standing, gone, opened-Standing, part-same}
-use Rattle.html_rules_laws.proofs.TreePreserved.StandingSteps.{Keeps, append_text-Standing, choose-Standing, insert_element-Standing, insert_element_for-Standing, open_element-Standing, parse_error-Standing, pop-Standing, pop_until_current-Standing, put_element-Standing, reconstruct-Standing, remove_from_stack-Standing}
+use Rattle.html_rules_laws.proofs.TreePreserved.StandingSteps.{Keeps, append_text-Standing, choose-Standing}
+use Rattle.html_rules_laws.proofs.TreePreserved.StandingSteps.{insert_element-Standing, insert_element_for-Standing}
+use Rattle.html_rules_laws.proofs.TreePreserved.StandingSteps.{open_element-Standing, parse_error-Standing, pop-Standing}
+use Rattle.html_rules_laws.proofs.TreePreserved.StandingSteps.{pop_until_current-Standing, put_element-Standing}
+use Rattle.html_rules_laws.proofs.TreePreserved.StandingSteps.{reconstruct-Standing, remove_from_stack-Standing}
 use Rattle.html_rules_laws.proofs.TreePreserved.StandingTrees.{root-Parent, stays-nodes}
 
 -- attributes
@@ -48,11 +59,13 @@ same-Above f g e a n Above.here = Above.here
 same-Above f g e a n (Above.further {n = k} {m} is up) = Above.further (sym (e k) ∙ is) (same-Above f g e a m up)
 
 -- what is known of the data of a node stays so
-attributes-data : {R : Type 0} (f : Forest) (n : ℕ) (others : List Attribute) (what : NodeData → R) → IsForest f → n < node_count f → what (with_attributes (data_of f n) others) ≡ what (data_of f n)
+attributes-data : {R : Type 0} (f : Forest) (n : ℕ) (others : List Attribute) (what : NodeData → R) → IsForest f
+    → n < node_count f → what (with_attributes (data_of f n) others) ≡ what (data_of f n)
     → (k : ℕ) → what (data_of (add_attributes f n others) k) ≡ what (data_of f k)
 attributes-data f n others what is there e k =
     elim (cases_eq k n) [
-      | inl same ↦ subst (λ k. what (data_of (add_attributes f n others) k) ≡ what (data_of f k)) (sym same) (ap what (data_of-with_data f n (with_attributes (data_of f n) others) there) ∙ e)
+      | inl same ↦ subst (λ k. what (data_of (add_attributes f n others) k) ≡ what (data_of f k)) (sym same)
+          (ap what (data_of-with_data f n (with_attributes (data_of f n) others) there) ∙ e)
       | inr other ↦ ap what (data_of-with_data_other f n (with_attributes (data_of f n) others) k other)
     ]
 
@@ -63,7 +76,8 @@ stays-attributes f n others tree there =
     record {
       tree = IsTree-add_attributes f n others tree there;
       names = record {
-        names = λ k name e. attributes-data f n others element_name tree.forest there (element_name-with_attributes (data_of f n) others) k ∙ e;
+        names = λ k name e. attributes-data f n others element_name tree.forest there
+            (element_name-with_attributes (data_of f n) others) k ∙ e;
         holds = λ k at. record {
           there = let there' = at.there in let count = is.count in omega arith;
           holds = attributes-data f n others holds_children tree.forest there (holds-with_attributes (data_of f n) others) k ∙ at.holds;
@@ -76,7 +90,8 @@ pub root_attributes-Standing : (attributes : List Attribute) → Keeps (add_attr
 unfolding add_attributes_to_root
 root_attributes-Standing attributes s is =
     changed-Standing s.forest (add_attributes s.forest (root_number s.open_elems) attributes) s.open_elems s.active_formatting
-    (stays-attributes s.forest (root_number s.open_elems) attributes is.tree (root-Parent s.forest s.open_elems 0 (IsParent-document s.forest is.tree.forest) is.opened).there) is
+    (stays-attributes s.forest (root_number s.open_elems) attributes is.tree
+    (root-Parent s.forest s.open_elems 0 (IsParent-document s.forest is.tree.forest) is.opened).there) is
 
 -- the body is one of the open elements
 
@@ -92,7 +107,8 @@ nodes-append f (x ∷ xs) ys h k = (h.0, nodes-append f xs ys h.1 k)
 nodes-reverse : (f : Forest) (xs : List Open) → AreNodes f xs → AreNodes f (reverse xs)
 unfolding AreNodes
 nodes-reverse f [] h = tt
-nodes-reverse f (x ∷ xs) h = subst (λ ys. AreNodes f ys) (sym (reverse_onto xs x [])) (nodes-append f (reverse xs) (x ∷ []) (nodes-reverse f xs h.1) (h.0, tt))
+nodes-reverse f (x ∷ xs) h = subst (λ ys. AreNodes f ys) (sym (reverse_onto xs x []))
+    (nodes-append f (reverse xs) (x ∷ []) (nodes-reverse f xs h.1) (h.0, tt))
 
 nodes-opened : (f : Forest) (xs : List Open) → AreOpened f xs → AreNodes f xs
 unfolding AreNodes
@@ -110,11 +126,14 @@ body-IsNode f (x ∷ y ∷ ys) h = by (is_in set.Body y) where
 
 -- the body is a node
 pub body-there : (s : State) → Standing s → IfSome (body_elem s.open_elems) (λ n. n < node_count s.forest)
-body-there s is = body-IsNode s.forest (reverse s.open_elems) (nodes-reverse s.forest s.open_elems (nodes-opened s.forest s.open_elems is.opened))
+body-there s is = body-IsNode s.forest (reverse s.open_elems)
+    (nodes-reverse s.forest s.open_elems (nodes-opened s.forest s.open_elems is.opened))
 
-add_to-Standing : (o : Option ℕ) (attributes : List Attribute) (s : State) → IfSome o (λ n. n < node_count s.forest) → Standing s → Standing (add_attributes_to o attributes s)
+add_to-Standing : (o : Option ℕ) (attributes : List Attribute) (s : State) → IfSome o (λ n. n < node_count s.forest)
+    → Standing s → Standing (add_attributes_to o attributes s)
 add_to-Standing None attributes s h is = is
-add_to-Standing (Some n) attributes s h is = changed-Standing s.forest (add_attributes s.forest n attributes) s.open_elems s.active_formatting (stays-attributes s.forest n attributes is.tree h) is
+add_to-Standing (Some n) attributes s h is = changed-Standing s.forest (add_attributes s.forest n attributes)
+    s.open_elems s.active_formatting (stays-attributes s.forest n attributes is.tree h) is
 
 pub body_attributes-Standing : (attributes : List Attribute) → Keeps (add_attributes_to_body attributes)
 unfolding add_attributes_to_body
@@ -129,14 +148,18 @@ stays-removed f n tree =
       tree = IsTree-remove f n tree;
       names = record {
         names = λ k name e. ap element_name (is.same_data k) ∙ e;
-        holds = λ k at. record { there = let there' = at.there in let count = is.count in omega arith; holds = ap holds_children (is.same_data k) ∙ at.holds };
+        holds = λ k at. record {
+          there = let there' = at.there in let count = is.count in omega arith;
+          holds = ap holds_children (is.same_data k) ∙ at.holds;
+        };
       };
       above = λ a k less up. Above-less f g is.less a k up;
     }
 
 pub remove_if-Standing : (o : Option ℕ) → Keeps (remove_if o)
 remove_if-Standing None s is = is
-remove_if-Standing (Some n) s is = changed-Standing s.forest (remove s.forest n) s.open_elems s.active_formatting (stays-removed s.forest n is.tree) is
+remove_if-Standing (Some n) s is = changed-Standing s.forest (remove s.forest n) s.open_elems s.active_formatting
+    (stays-removed s.forest n is.tree) is
 
 pub remove_body-Standing : Keeps remove_body
 unfolding remove_body
@@ -146,27 +169,33 @@ remove_body-Standing s is = pop_until_current-Standing (is_in set.Html) _ (remov
 
 pub quirks-Standing : (mode : QuirksMode) → Keeps (set_quirks_mode mode)
 unfolding set_quirks_mode
-quirks-Standing mode s is = changed-Standing s.forest (record s.forest { quirks = mode }) s.open_elems s.active_formatting (stays-nodes s.forest mode s.forest.errors is.tree) is
+quirks-Standing mode s is = changed-Standing s.forest (record s.forest { quirks = mode }) s.open_elems
+    s.active_formatting (stays-nodes s.forest mode s.forest.errors is.tree) is
 
 pub remove_from_stack_if-Standing : (o : Option ℕ) → Keeps (remove_from_stack_if o)
 remove_from_stack_if-Standing None s is = is
 remove_from_stack_if-Standing (Some n) s is = remove_from_stack-Standing n s is
 
 -- a head that is an element and stands above none that is open is opened again
-pub push_head-Standing : (s : State) (n : ℕ) → Standing s → element_name (data_of s.forest n) ≡ Some (element_name_of Html (codes "head")) → IsClear s.forest n s.open_elems → Standing (push_head (Some n) s)
-push_head-Standing s n is named clear = opened-Standing s.forest (record { number = n; namespace = Html; name = codes "head" }) s.open_elems s.active_formatting (record { named = named; own = tt }) clear is
+pub push_head-Standing : (s : State) (n : ℕ) → Standing s → element_name (data_of s.forest n) ≡ Some
+    (element_name_of Html (codes "head")) → IsClear s.forest n s.open_elems → Standing (push_head (Some n) s)
+push_head-Standing s n is named clear = opened-Standing s.forest
+    (record { number = n; namespace = Html; name = codes "head" }) s.open_elems s.active_formatting
+    (record { named = named; own = tt }) clear is
 
 -- text of tables
 
 pub append_in_body-Standing : (text : List ℕ) → Keeps (append_in_body text)
 unfolding frameset_not_ok_unless_white
 append_in_body-Standing text s is = append_text-Standing text _ (relabel (reconstruct-Standing s is)) where
-  relabel : Standing (reconstruct_active_formatting_elements s) → Standing (frameset_not_ok_unless_white text (reconstruct_active_formatting_elements s))
+  relabel : Standing (reconstruct_active_formatting_elements s)
+      → Standing (frameset_not_ok_unless_white text (reconstruct_active_formatting_elements s))
   relabel h = h
 
 pub insert_table_text-Standing : (text : List ℕ) → Keeps (insert_table_text text)
 unfolding set_foster_parenting
-insert_table_text-Standing text s is = choose-Standing (is_white text) _ _ (append_text-Standing text s is) (append_in_body-Standing text _ (parse_error-Standing s is))
+insert_table_text-Standing text s is = choose-Standing (is_white text) _ _ (append_text-Standing text s is)
+    (append_in_body-Standing text _ (parse_error-Standing s is))
 
 pub tell_pending-Standing : Keeps insert_pending_text
 unfolding insert_pending_text
@@ -182,7 +211,8 @@ enter_foreign-Standing namespace tag own s is =
     (insert_element-Standing namespace tag.name (adjust_attributes namespace tag.attrs) tag.had_duplicate_attributes own s is)
 
 -- the namespace of the adjusted current node is one of the three, or no name of theirs
-pub own-by : (f : Forest) (context : Option Open) (xs : List Open) → IfSome context (λ c. IsOwn c.namespace) → AreOpened f xs → IfSome (adjusted_by context xs) (λ x. IsOwn x.namespace)
+pub own-by : (f : Forest) (context : Option Open) (xs : List Open) → IfSome context (λ c. IsOwn c.namespace)
+    → AreOpened f xs → IfSome (adjusted_by context xs) (λ x. IsOwn x.namespace)
 own-by f context [] c h = tt
 own-by f None (x ∷ xs) c h = h.0.own
 own-by f (Some context) (x ∷ []) c h = c
@@ -190,11 +220,14 @@ own-by f (Some context) (x ∷ y ∷ ys) c h = h.0.own
 
 foreign_start_at-Standing : (o : Option Open) (tag : Tag) → IfSome o (λ x. IsOwn x.namespace) → Keeps (foreign_start_at o tag)
 foreign_start_at-Standing None tag own s is = is
-foreign_start_at-Standing (Some x) tag own s is = enter_foreign-Standing x.namespace (record tag { name = adjust_tag_name x.namespace tag.name }) own s is
+foreign_start_at-Standing (Some x) tag own s is = enter_foreign-Standing x.namespace
+    (record tag { name = adjust_tag_name x.namespace tag.name }) own s is
 
-pub foreign_start-Standing : (tag : Tag) (s : State) → IfSome s.context_elem (λ c. IsOwn c.namespace) → Standing s → Standing (foreign_start tag s)
+pub foreign_start-Standing : (tag : Tag) (s : State) → IfSome s.context_elem (λ c. IsOwn c.namespace) → Standing s
+    → Standing (foreign_start tag s)
 unfolding foreign_start
-foreign_start-Standing tag s own is = foreign_start_at-Standing (adjusted_current_node s) tag (own-by s.forest s.context_elem s.open_elems own is.opened) s is
+foreign_start-Standing tag s own is = foreign_start_at-Standing (adjusted_current_node s) tag
+    (own-by s.forest s.context_elem s.open_elems own is.opened) s is
 
 pub pop_foreign-Standing : Keeps pop_foreign
 unfolding pop_foreign
@@ -206,7 +239,8 @@ LeavesPart xs Dropped = Unit {0}
 LeavesPart xs AsInMode = Unit {0}
 LeavesPart xs (Closed left) = IsPart left xs
 
-leaves-choose : (xs : List Open) (b : Bool) (e e' : ForeignEnd) → LeavesPart xs e → LeavesPart xs e' → LeavesPart xs (choose b (λ _. e) (λ _. e'))
+leaves-choose : (xs : List Open) (b : Bool) (e e' : ForeignEnd) → LeavesPart xs e → LeavesPart xs e'
+    → LeavesPart xs (choose b (λ _. e) (λ _. e'))
 leaves-choose xs true e e' h k = h
 leaves-choose xs false e e' h k = k
 
@@ -220,7 +254,8 @@ foreign_end-part first name [] = tt
 foreign_end-part first name (x ∷ []) = tt
 foreign_end-part first name (x ∷ y ∷ ys) =
     leaves-choose (x ∷ y ∷ ys) (not first && is_html_element x) AsInMode _ tt
-    (leaves-choose (x ∷ y ∷ ys) (is_named_any_case name x) (Closed (y ∷ ys)) (foreign_end_from false name (y ∷ ys)) (gone x (y ∷ ys) (y ∷ ys) (part-same (y ∷ ys)))
+    (leaves-choose (x ∷ y ∷ ys) (is_named_any_case name x) (Closed (y ∷ ys)) (foreign_end_from false name (y ∷ ys))
+    (gone x (y ∷ ys) (y ∷ ys) (part-same (y ∷ ys)))
     (leaves-gone x (y ∷ ys) (foreign_end_from false name (y ∷ ys)) (foreign_end-part false name (y ∷ ys))))
 
 close_by-Standing : (e : ForeignEnd) (s : State) → LeavesPart s.open_elems e → Standing s → Standing (close_foreign_by e s)
@@ -236,12 +271,15 @@ close_foreign-Standing name s is = close_by-Standing (foreign_end name s) s (for
 
 attach-Standing : (tag : Tag) (host : ℕ) → Keeps (attach_shadow_root tag host)
 attach-Standing tag host s is =
-    choose-Standing (s.answers.attaches_shadow (with_errors 0 s.forest) host (current_number s.open_elems) tag.attrs) s _ is (insert_element_for-Standing tag (pop s) (pop-Standing s is))
+    choose-Standing (s.answers.attaches_shadow (with_errors 0 s.forest) host (current_number s.open_elems)
+    tag.attrs) s _ is (insert_element_for-Standing tag (pop s) (pop-Standing s is))
 
 pub insert_template-Standing : (tag : Tag) → Keeps (insert_template tag)
 unfolding insert_template
 insert_template-Standing tag s is =
     let opened : State = open_element Html tag.name tag.attrs tag.had_duplicate_attributes s in
-    choose-Standing (may_be_shadow_root tag s) (attach_shadow_root tag (number_of (adjusted_current_node s)) opened) (insert_element_for tag s)
-    (attach-Standing tag (number_of (adjusted_current_node s)) opened (open_element-Standing Html tag.name tag.attrs tag.had_duplicate_attributes tt s is))
+    choose-Standing (may_be_shadow_root tag s) (attach_shadow_root tag (number_of (adjusted_current_node s)) opened)
+    (insert_element_for tag s)
+    (attach-Standing tag (number_of (adjusted_current_node s)) opened
+    (open_element-Standing Html tag.name tag.attrs tag.had_duplicate_attributes tt s is))
     (insert_element_for-Standing tag s is)

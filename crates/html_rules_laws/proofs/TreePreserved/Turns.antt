@@ -6,7 +6,8 @@ use Rattle.html_tokens.specs.declared.tags.Tag.{Tag}
 use Rattle.html_tokens.specs.declared.tags.TagKind.{TagKind}
 use Rattle.html_tokens.specs.declared.tags.TagKind.TheVariants.{StartTag, EndTag}
 use Rattle.html_tokens.specs.declared.token.Token.{Token}
-use Rattle.html_tokens.specs.declared.token.Token.TheVariants.{DoctypeToken, TagToken, CommentToken, CharacterTokens, NullCharacterToken, EOFToken, ParseError as ErrorToken}
+use Rattle.html_tokens.specs.declared.token.Token.TheVariants.{DoctypeToken, TagToken, CommentToken, CharacterTokens}
+use Rattle.html_tokens.specs.declared.token.Token.TheVariants.{NullCharacterToken, EOFToken, ParseError as ErrorToken}
 use Rattle.html_rules.specs.Actions.{act, set_mode}
 use Rattle.html_rules.specs.Choice.{choose}
 use Rattle.html_rules.specs.ForeignContent.{ends_foreign, foreign_start, is_end_tag, is_foreign, is_html_element, is_start_tag, pop_foreign}
@@ -17,7 +18,8 @@ use Rattle.html_rules.specs.Sets.{is_among, mathml_names_of, names_of, svg_names
 use Rattle.html_rules.specs.Shape.{is_at_root}
 use Rattle.html_rules.specs.Stack.{left_from, parse_error, pop_until_current}
 use Rattle.html_rules.specs.State.{Open, State, adjusted_by, adjusted_current_node, current_number, is_in}
-use Rattle.html_rules.specs.Table.{Row, Action, Then, ParseError, CreateRoot, CreateNewRoot, InsertForeign, PopForeign, SwitchTo, Conclusion, Done, Acknowledged, Reprocess, UsingCurrentMode}
+use Rattle.html_rules.specs.Table.{Row, Action, Then, ParseError, CreateRoot, CreateNewRoot, InsertForeign, PopForeign}
+use Rattle.html_rules.specs.Table.{SwitchTo, Conclusion, Done, Acknowledged, Reprocess, UsingCurrentMode}
 use Rattle.html_rules.specs.Tokens.{attributes_of}
 use Rattle.html_rules.specs.declared.insertion_mode.InsertionMode.{InsertionMode}
 use Rattle.html_rules.specs.declared.insertion_mode.InsertionMode.TheVariants as mode
@@ -38,7 +40,8 @@ use Rattle.html_rules_laws.proofs.Soundness.Tokens.{is_insert_foreign}
 use Rattle.html_rules_laws.proofs.TreePreserved.StandingActions.{foreign_start-Standing, own-by}
 use Rattle.html_rules_laws.proofs.Frames.Tame.{foreign-tame}
 use Rattle.html_rules_laws.proofs.TreePreserved.Again.{turn-next}
-use Rattle.html_rules_laws.proofs.TreePreserved.Poised.{Poised, act-poised, eased-Upright, is_first_original, no_first, poised_in, tame-upright}
+use Rattle.html_rules_laws.proofs.TreePreserved.Poised.{Poised, act-poised, eased-Upright, is_first_original, no_first}
+use Rattle.html_rules_laws.proofs.TreePreserved.Poised.{poised_in, tame-upright}
 use Rattle.html_rules_laws.proofs.TreePreserved.Roots.{rooted-Upright}
 use Rattle.html_rules_laws.proofs.TreePreserved.Rows.{each_kind, head_contents, mode-poised, mode_poised, named_apart, uses_poised}
 use Rattle.html_rules_laws.proofs.TreePreserved.Steps.{foreign_start_at-eased}
@@ -48,7 +51,10 @@ use Rattle.html_rules_laws.proofs.Frames.KeptBySteps.{foreign-keeps}
 -- the kind of a token
 
 module _ (p : Kind → Bool) (all : each_kind p ≡ true) where
-  tests : (p (Starts (codes "html" ∷ [])) ≡ true) × ((p (Starts (codes "head" ∷ [])) ≡ true) × ((p (Starts head_contents) ≡ true) × ((p (StartsBut named_apart) ≡ true) × ((p (EndsBut []) && (p Texts && (p Nulls && (p TheEnd && p Others)))) ≡ true))))
+  tests : (p (Starts (codes "html" ∷ [])) ≡ true)
+      × ((p (Starts (codes "head" ∷ [])) ≡ true)
+      × ((p (Starts head_contents) ≡ true)
+      × ((p (StartsBut named_apart) ≡ true) × ((p (EndsBut []) && (p Texts && (p Nulls && (p TheEnd && p Others)))) ≡ true))))
   tests =
       let one = and_parts (p (Starts (codes "html" ∷ []))) _ all in
       let two = and_parts (p (Starts (codes "head" ∷ []))) _ one.1 in
@@ -71,12 +77,14 @@ module _ (p : Kind → Bool) (all : each_kind p ≡ true) where
   apart false false false h k l = refl
 
   start-kind : (tag : Tag) → is_start_tag tag.kind ≡ true → (kind : Kind) × ((p kind ≡ true) × (is_of kind (TagToken tag) ≡ true))
-  start-kind tag s = by (is_among tag.name (codes "html" ∷ [])) (is_among tag.name (codes "head" ∷ [])) (is_among tag.name head_contents) refl refl refl where
-    by : (a b c : Bool) → is_among tag.name (codes "html" ∷ []) ≡ a → is_among tag.name (codes "head" ∷ []) ≡ b → is_among tag.name head_contents ≡ c → (kind : Kind) × ((p kind ≡ true) × (is_of kind (TagToken tag) ≡ true))
-    by true b c ea eb ec = (Starts (codes "html" ∷ []), (tests.0, both _ _ s ea))
-    by false true c ea eb ec = (Starts (codes "head" ∷ []), (tests.1.0, both _ _ s eb))
-    by false false true ea eb ec = (Starts head_contents, (tests.1.1.0, both _ _ s ec))
-    by false false false ea eb ec = (StartsBut named_apart, (tests.1.1.1.0, both _ _ s (apart _ _ _ ea eb ec)))
+  start-kind tag s = by (is_among tag.name (codes "html" ∷ [])) (is_among tag.name (codes "head" ∷ []))
+      (is_among tag.name head_contents) refl refl refl where
+        by : (a b c : Bool) → is_among tag.name (codes "html" ∷ []) ≡ a → is_among tag.name (codes "head" ∷ []) ≡ b
+            → is_among tag.name head_contents ≡ c → (kind : Kind) × ((p kind ≡ true) × (is_of kind (TagToken tag) ≡ true))
+        by true b c ea eb ec = (Starts (codes "html" ∷ []), (tests.0, both _ _ s ea))
+        by false true c ea eb ec = (Starts (codes "head" ∷ []), (tests.1.0, both _ _ s eb))
+        by false false true ea eb ec = (Starts head_contents, (tests.1.1.0, both _ _ s ec))
+        by false false false ea eb ec = (StartsBut named_apart, (tests.1.1.1.0, both _ _ s (apart _ _ _ ea eb ec)))
 
   tag-kind : (tag : Tag) (kind : TagKind) → tag.kind ≡ kind → (kind : Kind) × ((p kind ≡ true) × (is_of kind (TagToken tag) ≡ true))
   tag-kind tag StartTag e = start-kind tag (ap is_start_tag e)
@@ -110,23 +118,36 @@ moved-Upright : (m : InsertionMode) (s : State) → Upright s → Upright (set_m
 unfolding set_mode
 moved-Upright m s h = record { standing = h.standing; rooted = h.rooted; head = h.head; context = h.context }
 
-first-ends : (using : InsertionMode → Token → State → Turn) (e : Conclusion) → to_html e ≡ true → (t : Token) (script : ℕ) (s : State) → s.open_elems ≡ [] → Upright s → IsLeft (concluded using e t script s).state
+first-ends : (using : InsertionMode → Token → State → Turn) (e : Conclusion) → to_html e ≡ true
+    → (t : Token) (script : ℕ) (s : State) → s.open_elems ≡ [] → Upright s → IsLeft (concluded using e t script s).state
 unfolding set_mode
 first-ends using Done h t script s empty is = record { upright = is; empty = λ _. empty }
-first-ends using (Reprocess mode.BeforeHtml) h t script s empty is = record { upright = moved-Upright mode.BeforeHtml s is; empty = λ _. empty }
+first-ends using (Reprocess mode.BeforeHtml) h t script s empty is =
+    record { upright = moved-Upright mode.BeforeHtml s is; empty = λ _. empty }
 first-ends using e h t script s empty is = no h
 
-rooted-ends : (using : InsertionMode → Token → State → Turn) (a : Action) (e : Conclusion) → before_html_ok a e ≡ true → (t : Token) (script : ℕ) (s : State) → s.open_elems ≡ [] → Upright s → IsLeft (concluded using e t script (act a t s)).state
+rooted-ends : (using : InsertionMode → Token → State → Turn) (a : Action) (e : Conclusion)
+    → before_html_ok a e ≡ true → (t : Token) (script : ℕ) (s : State) → s.open_elems ≡ [] → Upright s
+    → IsLeft (concluded using e t script (act a t s)).state
 unfolding set_mode
-rooted-ends using (Then CreateRoot (SwitchTo mode.BeforeHead)) Done h t script s empty is = record { upright = moved-Upright mode.BeforeHead (create_root (attributes_of t) s) (rooted-Upright (attributes_of t) s empty is); empty = λ e. no e }
-rooted-ends using CreateNewRoot (Reprocess mode.BeforeHead) h t script s empty is = record { upright = moved-Upright mode.BeforeHead (create_root [] s) (rooted-Upright [] s empty is); empty = λ e. no e }
+rooted-ends using (Then CreateRoot (SwitchTo mode.BeforeHead)) Done h t script s empty is =
+    record {
+      upright = moved-Upright mode.BeforeHead (create_root (attributes_of t) s)
+          (rooted-Upright (attributes_of t) s empty is);
+      empty = λ e. no e;
+    }
+rooted-ends using CreateNewRoot (Reprocess mode.BeforeHead) h t script s empty is =
+    record { upright = moved-Upright mode.BeforeHead (create_root [] s) (rooted-Upright [] s empty is); empty = λ e. no e }
 rooted-ends using a e h t script s empty is = no h
 
-first-row : (using : InsertionMode → Token → State → Turn) (kind : Kind) (r : Row) → first_row kind r ≡ true → (t : Token) → is_of kind t ≡ true → (s : State) → s.open_elems ≡ [] → are_formatting s.active_formatting ≡ true → Upright s → IsLeft (turn_by_row using r t s).state
+first-row : (using : InsertionMode → Token → State → Turn) (kind : Kind) (r : Row) → first_row kind r ≡ true
+    → (t : Token) → is_of kind t ≡ true → (s : State) → s.open_elems ≡ []
+    → are_formatting s.active_formatting ≡ true → Upright s → IsLeft (turn_by_row using r t s).state
 first-row using kind r h t f s empty l is =
     or_by (quiet r.does && (is_plain_action r.does && to_html r.ends)) _ h
     (λ k. let parts = and_parts (quiet r.does) _ k in let more = and_parts (is_plain_action r.does) _ parts.1 in
-    first-ends using r.ends more.1 t (current_number s.open_elems) (act r.does t s) (quiet-same r.does parts.0 t s ∙ empty) (tame-upright kind r.does (quiet-tame kind r.does parts.0) more.0 t f s l is))
+    first-ends using r.ends more.1 t (current_number s.open_elems) (act r.does t s)
+    (quiet-same r.does parts.0 t s ∙ empty) (tame-upright kind r.does (quiet-tame kind r.does parts.0) more.0 t f s l is))
     (λ k. rooted-ends using r.does r.ends k t (current_number s.open_elems) s empty is)
 
 mode_first : Kind → InsertionMode → Bool
@@ -138,7 +159,8 @@ modes_first mode.Initial e = refl
 modes_first mode.BeforeHtml e = refl
 modes_first m e = no e
 
-first-left : (t : Token) (m : InsertionMode) → is_first m ≡ true → (s : State) → s.open_elems ≡ [] → are_formatting s.active_formatting ≡ true → Upright s → IsLeft (using_rules_for 4 m t s).state
+first-left : (t : Token) (m : InsertionMode) → is_first m ≡ true → (s : State) → s.open_elems ≡ []
+    → are_formatting s.active_formatting ≡ true → Upright s → IsLeft (using_rules_for 4 m t s).state
 unfolding using_rules_for mode_first
 first-left t m e s empty l is =
     let kind = kind-of (λ kind. mode_first kind m) (modes_first m e) t in
@@ -158,7 +180,8 @@ template-first m h = refl
 
 templates-first : (modes : List InsertionMode) → are_template_modes modes ≡ true → no_first modes ≡ true
 templates-first [] h = refl
-templates-first (m ∷ modes) h = let parts = and_parts (is_template_mode m) (are_template_modes modes) h in both _ _ (template-first m parts.0) (templates-first modes parts.1)
+templates-first (m ∷ modes) h = let parts = and_parts (is_template_mode m) (are_template_modes modes) h in
+    both _ _ (template-first m parts.0) (templates-first modes parts.1)
 
 later-first : (o : Option InsertionMode) → is_later_original o ≡ true → is_first_original o ≡ false
 later-first None h = refl
@@ -167,7 +190,13 @@ later-first (Some mode.BeforeHtml) h = no h
 later-first (Some m) h = refl
 
 pub poised-of : (s : State) → Held s → Upright s → is_first s.mode ≡ false → Poised s
-poised-of s held h e = record { upright = h; listed = held.listed; mode = e; original = later-first s.orig_mode held.original; modes = templates-first s.template_modes held.modes }
+poised-of s held h e = record {
+  upright = h;
+  listed = held.listed;
+  mode = e;
+  original = later-first s.orig_mode held.original;
+  modes = templates-first s.template_modes held.modes;
+}
 
 -- foreign content
 
@@ -190,11 +219,14 @@ foreign_row m kind r = foreign_ends m kind r.does r.ends
 root-stays : (xs : List Open) → is_at_root xs ≡ true → is_at_root (left_from ends_foreign xs) ≡ true
 root-stays [] h = h
 root-stays (x ∷ xs) h = by (is_html_element x) (html-root x h) where
-  by : (b : Bool) → b ≡ true → is_at_root (choose (b || is_in set.MathmlTextIntegrationPoint x || is_in set.SvgHtmlIntegrationPoint x) (λ _. x ∷ xs) (λ _. left_from ends_foreign xs)) ≡ true
+  by : (b : Bool) → b ≡ true
+      → is_at_root (choose (b || is_in set.MathmlTextIntegrationPoint x || is_in set.SvgHtmlIntegrationPoint x)
+      (λ _. x ∷ xs) (λ _. left_from ends_foreign xs)) ≡ true
   by true e = h
   by false e = no e
 
-pub popped-root : (a : Action) → is_pop a ≡ true → (t : Token) (s : State) → is_at_root s.open_elems ≡ true → is_at_root (act a t s).open_elems ≡ true
+pub popped-root : (a : Action) → is_pop a ≡ true → (t : Token) (s : State) → is_at_root s.open_elems ≡ true
+    → is_at_root (act a t s).open_elems ≡ true
 unfolding pop_foreign pop_until_current parse_error
 popped-root (Then ParseError PopForeign) h t s root = root-stays s.open_elems root
 popped-root ParseError h t s root = root
@@ -206,7 +238,8 @@ popped-mode (Then ParseError PopForeign) h t s = refl
 popped-mode ParseError h t s = refl
 popped-mode a h t s = no h
 
-pub popped-poised : (a : Action) → is_pop a ≡ true → (t : Token) (kind : Kind) → is_of kind t ≡ true → (s : State) → Poised s → Poised (act a t s)
+pub popped-poised : (a : Action) → is_pop a ≡ true → (t : Token) (kind : Kind) → is_of kind t ≡ true → (s : State)
+    → Poised s → Poised (act a t s)
 popped-poised (Then ParseError PopForeign) h t kind f s is = act-poised kind (Then ParseError PopForeign) refl t f s is
 popped-poised ParseError h t kind f s is = act-poised kind ParseError refl t f s is
 popped-poised a h t kind f s is = no h
@@ -216,7 +249,9 @@ unfolding foreign_start
 foreign-upright tag s f is =
     let aside = foreign-keeps aside_kept (adjusted_current_node s) tag s in
     eased-Upright s (foreign_start tag s) is (foreign_start-Standing tag s is.context is.standing)
-    (foreign_start_at-eased (adjusted_current_node s) tag (own-by s.forest s.context_elem s.open_elems is.context is.standing.opened) (foreign-there s (TagToken tag) f) s is.standing) aside.head aside.context
+    (foreign_start_at-eased (adjusted_current_node s) tag
+    (own-by s.forest s.context_elem s.open_elems is.context is.standing.opened)
+    (foreign-there s (TagToken tag) f) s is.standing) aside.head aside.context
 
 pub foreign-poised : (tag : Tag) (s : State) → is_foreign s (TagToken tag) ≡ true → Poised s → Poised (foreign_start tag s)
 unfolding foreign_start
@@ -230,19 +265,23 @@ foreign-poised tag s f is =
       modes = rw aside.modes is.modes;
     }
 
-inserted-foreign : (a : Action) → is_insert_foreign a ≡ true → (t : Token) (s : State) → is_foreign s t ≡ true → Poised s → Poised (act a t s)
+inserted-foreign : (a : Action) → is_insert_foreign a ≡ true → (t : Token) (s : State) → is_foreign s t ≡ true
+    → Poised s → Poised (act a t s)
 inserted-foreign InsertForeign h (TagToken tag) s f is = foreign-poised tag s f is
 inserted-foreign InsertForeign h t s f is = is
 inserted-foreign a h t s f is = no h
 
-foreign-ends : (m : InsertionMode) (t : Token) (kind : Kind) (a : Action) (e : Conclusion) → foreign_ends m kind a e ≡ true → is_of kind t ≡ true → (s : State) → is_foreign s t ≡ true → Poised s → s.mode ≡ m
-    → (is_head_start t ≡ true → m ≡ mode.AfterHead → is_at_root s.open_elems ≡ true) → (script : ℕ) → Poised (concluded (using_rules_for 4) e t script (act a t s)).state
+foreign-ends : (m : InsertionMode) (t : Token) (kind : Kind) (a : Action) (e : Conclusion)
+    → foreign_ends m kind a e ≡ true → is_of kind t ≡ true → (s : State) → is_foreign s t ≡ true → Poised s → s.mode ≡ m
+    → (is_head_start t ≡ true → m ≡ mode.AfterHead → is_at_root s.open_elems ≡ true) → (script : ℕ)
+    → Poised (concluded (using_rules_for 4) e t script (act a t s)).state
 foreign-ends m t kind a Done h k s f is at root script = act-poised kind a h t k s is
 foreign-ends m t kind a Acknowledged h k s f is at root script = inserted-foreign a h t s f is
 foreign-ends m t kind a UsingCurrentMode h k s f is at root script =
     let parts = and_parts (is_pop a) (mode_poised kind m) h in
     let same : (act a t s).mode ≡ m = popped-mode a parts.0 t s ∙ at in
-    mode-poised t kind (act a t s).mode (subst (λ m. mode_poised kind m ≡ true) (sym same) parts.1) k (act a t s) (λ h e. popped-root a parts.0 t s (root h (sym same ∙ e))) (popped-poised a parts.0 t kind k s is)
+    mode-poised t kind (act a t s).mode (subst (λ m. mode_poised kind m ≡ true) (sym same) parts.1) k (act a t s)
+    (λ h e. popped-root a parts.0 t s (root h (sym same ∙ e))) (popped-poised a parts.0 t kind k s is)
 foreign-ends m t kind a e h k s f is at root script = no h
 
 mode_upright : InsertionMode → Kind → Bool
@@ -274,7 +313,8 @@ modes_upright mode.AfterAfterFrameset e = refl
 
 -- one turn
 
-later-turn : (t : Token) (s : State) → (is_head_start t ≡ true → s.mode ≡ mode.AfterHead → is_at_root s.open_elems ≡ true) → Poised s → Poised (turn t s).state
+later-turn : (t : Token) (s : State)
+    → (is_head_start t ≡ true → s.mode ≡ mode.AfterHead → is_at_root s.open_elems ≡ true) → Poised s → Poised (turn t s).state
 unfolding turn mode_upright
 later-turn t s root is = by (is_foreign s t) refl where
   kind : (kind : Kind) × ((mode_upright s.mode kind ≡ true) × (is_of kind t ≡ true))
@@ -283,7 +323,9 @@ later-turn t s root is = by (is_foreign s t) refl where
   parts : (mode_poised kind.0 s.mode ≡ true) × (scan (foreign_row s.mode) kind.0 in_foreign_content ≡ true)
   parts = and_parts (mode_poised kind.0 s.mode) _ kind.1.0
 
-  by : (b : Bool) → is_foreign s t ≡ b → Poised (choose b (λ _. turn_by_row (using_rules_for most_modes) (first_fit in_foreign_content t s) t s) (λ _. using_rules_for most_modes s.mode t s)).state
+  by : (b : Bool) → is_foreign s t ≡ b
+      → Poised (choose b (λ _. turn_by_row (using_rules_for most_modes) (first_fit in_foreign_content t s) t s)
+      (λ _. using_rules_for most_modes s.mode t s)).state
   by true f =
       scan-holds (foreign_row s.mode) (λ r. Poised (turn_by_row (using_rules_for 4) r t s).state) t s
       (λ inner r k g of fits. foreign-ends s.mode t inner r.does r.ends k g s f is refl root (current_number s.open_elems))
@@ -294,10 +336,13 @@ empty-adjusted : (context : Option Open) (xs : List Open) → xs ≡ [] → adju
 empty-adjusted context [] e = refl
 empty-adjusted context (x ∷ xs) e = absurd (cc)
 
-first-turn : (t : Token) (s : State) → is_first s.mode ≡ true → s.open_elems ≡ [] → are_formatting s.active_formatting ≡ true → Upright s → IsLeft (turn t s).state
+first-turn : (t : Token) (s : State) → is_first s.mode ≡ true → s.open_elems ≡ []
+    → are_formatting s.active_formatting ≡ true → Upright s → IsLeft (turn t s).state
 unfolding turn
 first-turn t s e empty l is = by (is_foreign s t) refl where
-  by : (b : Bool) → is_foreign s t ≡ b → IsLeft (choose b (λ _. turn_by_row (using_rules_for most_modes) (first_fit in_foreign_content t s) t s) (λ _. using_rules_for most_modes s.mode t s)).state
+  by : (b : Bool) → is_foreign s t ≡ b
+      → IsLeft (choose b (λ _. turn_by_row (using_rules_for most_modes) (first_fit in_foreign_content t s) t s)
+      (λ _. using_rules_for most_modes s.mode t s)).state
   by true f = absurd (foreign-some s t f (empty-adjusted s.context_elem s.open_elems empty))
   by false f = first-left t s.mode e s empty l is
 

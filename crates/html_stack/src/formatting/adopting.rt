@@ -19,7 +19,8 @@ use std::alloc::Global;
 
 /// The node of the first copy, if there is one.
 fn first_of<Handle: Copy>(copies: &[OpenElement<Handle>]) -> Option<Handle>
-    ensures { MatchOption result (copies.now ≡ []) (λ first. (x : OpenElement Handle) × (xs : List (OpenElement Handle)) × (copies.now ≡ x ∷ xs) × (first ≡ x.handle)) }
+    ensures { MatchOption result (copies.now ≡ [])
+        (λ first. (x : OpenElement Handle) × (xs : List (OpenElement Handle)) × (copies.now ≡ x ∷ xs) × (first ≡ x.handle)) }
 {
     if copies.is_empty() {
         None
@@ -44,9 +45,17 @@ pub(crate) fn adopt<Sink: TreeSink>(
     requires order { from < to }
     requires within { to < length elements.old.items }
     requires standing { IsStanding (Sink.forest sink.old) (opens_of Sink.node elements.old.items) (entries_of Sink.node entries.old.items) }
-    requires turn { (d : OpenElement Sink.Handle) → IsTurn Sink.node elements.old.items (entries_of Sink.node entries.old.items) from to tag d }
-    ensures ok { OnOk result ((s : State) (d : OpenElement Sink.Handle) → s.foster_parenting ≡ foster → with_all s (Sink.forest sink.new) (opens_of Sink.node elements.new.items) (entries_of Sink.node entries.new.items) ≡ turned (with_all s (Sink.forest sink.old) (opens_of Sink.node elements.old.items) (entries_of Sink.node entries.old.items)) (record { number = Sink.node (slice_index_or elements.old.items from d).handle; tag = tag }) (open_of Sink.node (slice_index_or elements.old.items to d))) }
-    ensures kept { OnErr result (IsStanding (Sink.forest sink.new) (opens_of Sink.node elements.new.items) (entries_of Sink.node entries.new.items)) }
+    requires turn { (d : OpenElement Sink.Handle) → IsTurn Sink.node elements.old.items
+        (entries_of Sink.node entries.old.items) from to tag d }
+    ensures ok { OnOk result ((s : State) (d : OpenElement Sink.Handle) → s.foster_parenting ≡ foster
+        → with_all s (Sink.forest sink.new) (opens_of Sink.node elements.new.items)
+        (entries_of Sink.node entries.new.items) ≡ turned
+        (with_all s (Sink.forest sink.old) (opens_of Sink.node elements.old.items)
+        (entries_of Sink.node entries.old.items))
+        (record { number = Sink.node (slice_index_or elements.old.items from d).handle; tag = tag })
+        (open_of Sink.node (slice_index_or elements.old.items to d))) }
+    ensures kept { OnErr result (IsStanding (Sink.forest sink.new) (opens_of Sink.node elements.new.items)
+        (entries_of Sink.node entries.new.items)) }
     ensures grows { node_count (Sink.forest sink.old) ≤ node_count (Sink.forest sink.new) }
     ensures below { take from elements.new.items ≡ take from elements.old.items }
     ensures fault { IfErr result (λ fault. fault ≡ Memory) }

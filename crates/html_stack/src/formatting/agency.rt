@@ -23,7 +23,8 @@ impl<Sink: TreeSink> Stack<Sink> {
     /// Whether the current node is an HTML element of a name, and is not listed. The name comes with its class.
     fn is_current_unlisted(&self, sink: &Sink, class: ElementClass, name: &LocalName) -> bool
         requires { IsClassOf Html name.now class }
-        ensures { result ≡ (current_is (is_named name.now) self.now.open_elems && not (is_listed (current_number self.now.open_elems) self.now.active_formatting)) }
+        ensures { result ≡ (current_is (is_named name.now) self.now.open_elems
+            && not (is_listed (current_number self.now.open_elems) self.now.active_formatting)) }
     {
         if !self.current_is(Wanted::Named(class, name)) {
             return false;
@@ -42,7 +43,9 @@ impl<Sink: TreeSink> Stack<Sink> {
     ) -> Result<bool, ParseFault>
         requires class { IsClassOf Html name.now class }
         requires standing { StandsIn (Sink.forest sink.old) self.old }
-        ensures ok { IfOk result (λ goes_on. (s : State) → s.foster_parenting ≡ foster → came_to goes_on (joined s self.new (Sink.forest sink.new)) ≡ adoption_turn name.now (joined s self.old (Sink.forest sink.old))) }
+        ensures ok { IfOk result (λ goes_on. (s : State) → s.foster_parenting ≡ foster
+            → came_to goes_on (joined s self.new (Sink.forest sink.new)) ≡ adoption_turn name.now
+            (joined s self.old (Sink.forest sink.old))) }
         ensures kept { StandsIn (Sink.forest sink.new) self.new }
         ensures grows { node_count (Sink.forest sink.old) ≤ node_count (Sink.forest sink.new) }
         ensures fault { IfErr result (λ fault. fault ≡ Memory) }
@@ -73,7 +76,8 @@ impl<Sink: TreeSink> Stack<Sink> {
     ) -> Result<(), ParseFault>
         requires class { IsClassOf Html name.now class }
         requires standing { StandsIn (Sink.forest sink.old) self.old }
-        ensures ok { OnOk result (PerformsWith foster (adoption_turns 8 name.now) self.old self.new (Sink.forest sink.old) (Sink.forest sink.new)) }
+        ensures ok { OnOk result (PerformsWith foster (adoption_turns 8 name.now) self.old self.new
+            (Sink.forest sink.old) (Sink.forest sink.new)) }
         ensures kept { StandsIn (Sink.forest sink.new) self.new }
         ensures grows { node_count (Sink.forest sink.old) ≤ node_count (Sink.forest sink.new) }
         ensures fault { IfErr result (λ fault. fault ≡ Memory) }
@@ -90,11 +94,11 @@ impl<Sink: TreeSink> Stack<Sink> {
 
     /// What an end tag of a formatting element does, and a start tag that such an element ends at ("the adoption agency algorithm", HTML
     /// Standard, section 13.2.6.4.7). The name comes with its class. The sink is told of a current node that is popped without a turn; of
-    /// elements that turns take from the stack it is told as by "any other end tag" alone. There are eight turns at most. Each copies, for the
-    /// elements that it makes, the tag of the formatting element, once, and those of up to three elements that were opened between it and the
-    /// furthest block; without a furthest block nothing is copied. The time of a turn grows with the number of elements opened since the
-    /// formatting element, times the number of entries. On [`ParseFault::Memory`], the only fault, some turns, or a part of one, may have been
-    /// done.
+    /// elements that turns take from the stack it is told as by "any other end tag" alone. There are eight turns at most. Each copies,
+    /// for the elements that it makes, the tag of the formatting element, once, and those of up to three elements that were opened
+    /// between it and the furthest block; without a furthest block nothing is copied. The time of a turn grows with the number of
+    /// elements opened since the formatting element, times the number of entries. On [`ParseFault::Memory`], the only fault, some turns,
+    /// or a part of one, may have been done.
     pub fn adoption_agency(
         &mut self,
         sink: &mut Sink,
@@ -104,7 +108,8 @@ impl<Sink: TreeSink> Stack<Sink> {
     ) -> Result<(), ParseFault>
         requires class { IsClassOf Html name.now class }
         requires standing { StandsIn (Sink.forest sink.old) self.old }
-        ensures ok { OnOk result (PerformsWith foster (adoption_agency name.now) self.old self.new (Sink.forest sink.old) (Sink.forest sink.new)) }
+        ensures ok { OnOk result (PerformsWith foster (adoption_agency name.now) self.old self.new
+            (Sink.forest sink.old) (Sink.forest sink.new)) }
         ensures kept { StandsIn (Sink.forest sink.new) self.new }
         ensures grows { node_count (Sink.forest sink.old) ≤ node_count (Sink.forest sink.new) }
         ensures fault { IfErr result (λ fault. fault ≡ Memory) }
@@ -116,17 +121,18 @@ impl<Sink: TreeSink> Stack<Sink> {
         self.adoption_turns(sink, class, name, foster)
     }
 
-    /// Ends the `a` that is listed since the last marker, if there is one: an error, the adoption agency for `a`, and then the element leaves
-    /// the list and the stack, and the sink is told (HTML Standard, section 13.2.6.4.7, a start tag `a`). Where no `a` is listed the list is
-    /// gone through up to the last marker, and nothing else is done. On [`ParseFault::Memory`], the only fault, a part of that may have been
-    /// done.
+    /// Ends the `a` that is listed since the last marker, if there is one: an error, the adoption agency for `a`, and then the element
+    /// leaves the list and the stack, and the sink is told (HTML Standard, section 13.2.6.4.7, a start tag `a`). Where no `a` is listed
+    /// the list is gone through up to the last marker, and nothing else is done. On [`ParseFault::Memory`], the only fault, a part of
+    /// that may have been done.
     pub fn handle_misnested_a_tags(
         &mut self,
         sink: &mut Sink,
         foster: bool,
     ) -> Result<(), ParseFault>
         requires standing { StandsIn (Sink.forest sink.old) self.old }
-        ensures ok { OnOk result (PerformsWith foster handle_misnested_a_tags self.old self.new (Sink.forest sink.old) (Sink.forest sink.new)) }
+        ensures ok { OnOk result (PerformsWith foster handle_misnested_a_tags self.old self.new
+            (Sink.forest sink.old) (Sink.forest sink.new)) }
         ensures kept { StandsIn (Sink.forest sink.new) self.new }
         ensures grows { node_count (Sink.forest sink.old) ≤ node_count (Sink.forest sink.new) }
         ensures fault { IfErr result (λ fault. fault ≡ Memory) }
@@ -144,7 +150,8 @@ impl<Sink: TreeSink> Stack<Sink> {
     ) -> Result<(), ParseFault>
         requires name { name.now ≡ codes "a" }
         requires standing { StandsIn (Sink.forest sink.old) self.old }
-        ensures ok { OnOk result (PerformsWith foster handle_misnested_a_tags self.old self.new (Sink.forest sink.old) (Sink.forest sink.new)) }
+        ensures ok { OnOk result (PerformsWith foster handle_misnested_a_tags self.old self.new
+            (Sink.forest sink.old) (Sink.forest sink.new)) }
         ensures kept { StandsIn (Sink.forest sink.new) self.new }
         ensures grows { node_count (Sink.forest sink.old) ≤ node_count (Sink.forest sink.new) }
         ensures fault { IfErr result (λ fault. fault ≡ Memory) }

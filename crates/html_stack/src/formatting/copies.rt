@@ -57,7 +57,9 @@ fn copy_over<Sink: TreeSink>(
 ) -> Result<OpenElement<Sink::Handle>, ParseFault>
     requires { IsMovable (Sink.forest sink.old) (Sink.node last.now) }
     ensures opened { IfOk result (λ copy. open_of Sink.node copy ≡ opened_for (Sink.forest sink.old) tag) }
-    ensures ok { OnOk result (Sink.forest sink.new ≡ put (remove (with_copy (Sink.forest sink.old) tag) (Sink.node last.now)) (Last (node_count (Sink.forest sink.old))) (Sink.node last.now)) }
+    ensures ok { OnOk result (Sink.forest sink.new ≡ put
+        (remove (with_copy (Sink.forest sink.old) tag) (Sink.node last.now))
+        (Last (node_count (Sink.forest sink.old))) (Sink.node last.now)) }
     ensures kept { OnErr result (LeavesStanding (Sink.forest sink.old) (Sink.forest sink.new)) }
     ensures grows { node_count (Sink.forest sink.old) ≤ node_count (Sink.forest sink.new) }
     ensures fault { IfErr result (λ fault. fault ≡ Memory) }
@@ -77,8 +79,11 @@ fn copy_node<Sink: TreeSink>(
     node: &Sink::Handle,
 ) -> Result<(), ParseFault>
     requires { IsMovable (Sink.forest sink.old) (Sink.node copies.old.last) }
-    ensures ok { OnOk result (walk_of Sink.node (Sink.forest sink.new) entries.new.items copies.new ≡ copy_if (listed_as (Sink.node node.now) (entries_of Sink.node entries.old.items)) (walk_of Sink.node (Sink.forest sink.old) entries.old.items copies.old)) }
-    ensures kept { OnErr result (KeepsStanding (Sink.forest sink.old) (entries_of Sink.node entries.old.items) (Sink.forest sink.new) (entries_of Sink.node entries.new.items)) }
+    ensures ok { OnOk result (walk_of Sink.node (Sink.forest sink.new) entries.new.items copies.new ≡ copy_if
+        (listed_as (Sink.node node.now) (entries_of Sink.node entries.old.items))
+        (walk_of Sink.node (Sink.forest sink.old) entries.old.items copies.old)) }
+    ensures kept { OnErr result (KeepsStanding (Sink.forest sink.old) (entries_of Sink.node entries.old.items)
+        (Sink.forest sink.new) (entries_of Sink.node entries.new.items)) }
     ensures grows { node_count (Sink.forest sink.old) ≤ node_count (Sink.forest sink.new) }
     ensures fault { IfErr result (λ fault. fault ≡ Memory) }
 {
@@ -97,8 +102,8 @@ fn copy_node<Sink: TreeSink>(
     Ok(())
 }
 
-/// The elements between the formatting element and the furthest block are gone through, from the block back: the first three are replaced by
-/// copies, where they are listed, and the others leave the list.
+/// The elements between the formatting element and the furthest block are gone through, from the block back: the first three are replaced
+/// by copies, where they are listed, and the others leave the list.
 pub(crate) fn copy_between<Sink: TreeSink>(
     alloc: Global,
     sink: &mut Sink,
@@ -109,8 +114,16 @@ pub(crate) fn copy_between<Sink: TreeSink>(
     requires tree { IsTree (Sink.forest sink.old) }
     requires listed { AreListed (Sink.forest sink.old) (entries_of Sink.node entries.old.items) }
     requires block { IsOpened (Sink.forest sink.old) (open_of Sink.node block.now) }
-    ensures ok { IfOk result (λ copies. walk_of Sink.node (Sink.forest sink.new) entries.new.items copies ≡ walk 3 (opens_of Sink.node elements.now) (record { forest = Sink.forest sink.old; active_formatting = entries_of Sink.node entries.old.items; copies = []; last_node = Sink.node block.now.handle })) }
-    ensures kept { OnErr result (KeepsStanding (Sink.forest sink.old) (entries_of Sink.node entries.old.items) (Sink.forest sink.new) (entries_of Sink.node entries.new.items)) }
+    ensures ok { IfOk result (λ copies. walk_of Sink.node (Sink.forest sink.new) entries.new.items copies ≡ walk 3
+        (opens_of Sink.node elements.now)
+        (record {
+          forest = Sink.forest sink.old;
+          active_formatting = entries_of Sink.node entries.old.items;
+          copies = [];
+          last_node = Sink.node block.now.handle;
+        })) }
+    ensures kept { OnErr result (KeepsStanding (Sink.forest sink.old) (entries_of Sink.node entries.old.items)
+        (Sink.forest sink.new) (entries_of Sink.node entries.new.items)) }
     ensures grows { node_count (Sink.forest sink.old) ≤ node_count (Sink.forest sink.new) }
     ensures fault { IfErr result (λ fault. fault ≡ Memory) }
 {
@@ -164,7 +177,8 @@ pub(crate) fn copy_under<Sink: TreeSink>(
     requires block { IsMovable (Sink.forest sink.old) (Sink.node block.now) }
     requires parent { IsParent (Sink.forest sink.old) (Sink.node block.now) }
     ensures opened { IfOk result (λ copy. open_of Sink.node copy ≡ opened_for (Sink.forest sink.old) tag) }
-    ensures ok { OnOk result (Sink.forest sink.new ≡ put (reparent_children (with_copy (Sink.forest sink.old) tag) (Sink.node block.now) (node_count (Sink.forest sink.old))) (Last (Sink.node block.now)) (node_count (Sink.forest sink.old))) }
+    ensures ok { OnOk result (Sink.forest sink.new ≡ put (reparent_children (with_copy (Sink.forest sink.old) tag)
+        (Sink.node block.now) (node_count (Sink.forest sink.old))) (Last (Sink.node block.now)) (node_count (Sink.forest sink.old))) }
     ensures kept { OnErr result (LeavesStanding (Sink.forest sink.old) (Sink.forest sink.new)) }
     ensures grows { node_count (Sink.forest sink.old) ≤ node_count (Sink.forest sink.new) }
     ensures fault { IfErr result (λ fault. fault ≡ Memory) }

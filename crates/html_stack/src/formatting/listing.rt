@@ -1,5 +1,6 @@
 //! Entries leave the list, or give way to others (HTML Standard, section 13.2.4.3).
-ghost use Rattle.std.specs.Prelude.{◌≢◌, Some, insert, vec_len, vec_capacity, ◌≡◌, ◌<◌, ◌≤◌, ℕ, length, slice_index_or, slice_set, remove, MatchOption};
+ghost use Rattle.std.specs.Prelude.{◌≢◌, Some, insert, vec_len, vec_capacity, ◌≡◌, ◌<◌, ◌≤◌, ℕ, length, slice_index_or};
+ghost use Rattle.std.specs.Prelude.{slice_set, remove, MatchOption};
 ghost use Rattle.html_rules.specs.Adoption.{listed_as};
 ghost use Rattle.html_tokens.specs.declared.tags.Tag.{Tag};
 ghost use Rattle.html_rules.specs.Formatting.{is_equiv_modulo_attr_order, with_room, without_entry};
@@ -32,7 +33,8 @@ pub(crate) fn rename<Handle: Copy>(
     node: Handle,
 )
     requires { place < length entries.old.items }
-    ensures { (d : FormatEntry Handle) → entries.new.items ≡ slice_set entries.old.items place (renamed node (slice_index_or entries.old.items place d)) }
+    ensures { (d : FormatEntry Handle) → entries.new.items ≡ slice_set entries.old.items place
+        (renamed node (slice_index_or entries.old.items place d)) }
 {
     let entry = &mut entries[place];
     if let FormatEntry::Element(handle, _) = entry {
@@ -57,7 +59,8 @@ fn if_three(count: usize, place: usize) -> Option<usize>
 /// The place of the entry that makes room for another one with this tag: of those since the last marker that are equal to it the earliest,
 /// where there are three or more.
 pub(crate) fn without_room<Handle>(entries: &[FormatEntry<Handle>], tag: &Tag) -> Option<usize>
-    ensures { (node : Handle → ℕ) → MatchOption result (with_room tag.now (entries_of node entries.now) ≡ entries_of node entries.now) (IsRoom node tag.now entries.now) }
+    ensures { (node : Handle → ℕ) → MatchOption result
+        (with_room tag.now (entries_of node entries.now) ≡ entries_of node entries.now) (IsRoom node tag.now entries.now) }
 {
     let mut count: usize = 0;
     let mut earliest = 0;
@@ -107,7 +110,10 @@ pub(crate) fn relist<Sink: TreeSink>(
     new: Sink::Handle,
     first: Option<Sink::Handle>,
 )
-    ensures { (number : ℕ) (tag : Tag) → listed_as (Sink.node formatting_element.now) (entries_of Sink.node entries.old.items) ≡ Some (record { number = number; tag = tag }) → Sink.node new ≢ Sink.node formatting_element.now → IsRelisted Sink.node (Sink.node formatting_element.now) (Sink.node new) tag first (entries_of Sink.node entries.old.items) (entries_of Sink.node entries.new.items) }
+    ensures { (number : ℕ) (tag : Tag) → listed_as (Sink.node formatting_element.now)
+        (entries_of Sink.node entries.old.items) ≡ Some (record { number = number; tag = tag })
+        → Sink.node new ≢ Sink.node formatting_element.now → IsRelisted Sink.node (Sink.node formatting_element.now)
+        (Sink.node new) tag first (entries_of Sink.node entries.old.items) (entries_of Sink.node entries.new.items) }
 {
     let Some(from) = positions::in_list(sink, entries.as_slice(), formatting_element) else {
         return;

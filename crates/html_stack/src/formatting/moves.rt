@@ -5,7 +5,8 @@ ghost use Rattle.std.specs.Prelude.{◌≡◌, ◌++◌, ◌∷◌, ◌+◌, ◌
 pub(crate) fn move_up<T>(items: &mut [T], from: usize, to: usize)
     requires order { from ≤ to }
     requires within { to < length items.old }
-    ensures { (d : T) → items.new ≡ take from items.old ++ (slice_range items.old (from + 1) (to + 1) ++ slice_index_or items.old from d ∷ drop (to + 1) items.old) }
+    ensures { (d : T) → items.new ≡ take from items.old
+        ++ (slice_range items.old (from + 1) (to + 1) ++ slice_index_or items.old from d ∷ drop (to + 1) items.old) }
 {
     items[from..to + 1].rotate_left(1);
 }
@@ -14,7 +15,8 @@ pub(crate) fn move_up<T>(items: &mut [T], from: usize, to: usize)
 pub(crate) fn move_down<T>(items: &mut [T], from: usize, to: usize)
     requires order { to ≤ from }
     requires within { from < length items.old }
-    ensures { (d : T) → items.new ≡ take to items.old ++ (slice_index_or items.old from d ∷ (slice_range items.old to from ++ drop (from + 1) items.old)) }
+    ensures { (d : T) → items.new ≡ take to items.old
+        ++ (slice_index_or items.old from d ∷ (slice_range items.old to from ++ drop (from + 1) items.old)) }
 {
     items[to..from + 1].rotate_right(1);
 }
@@ -41,7 +43,8 @@ pub(crate) fn restack<T: Drop>(
 )
     requires room { from + length others.items < to }
     requires within { to < length items.old.items }
-    ensures { (d : T) → items.new.items ≡ take from items.old.items ++ (reverse others.items ++ slice_index_or items.old.items to d ∷ last ∷ drop (to + 1) items.old.items) }
+    ensures { (d : T) → items.new.items ≡ take from items.old.items
+        ++ (reverse others.items ++ slice_index_or items.old.items to d ∷ last ∷ drop (to + 1) items.old.items) }
 {
     let mut at = from;
     while let Some(other) = others.pop() {

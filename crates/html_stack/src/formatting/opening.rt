@@ -72,10 +72,10 @@ pub(crate) fn tag_at<Handle>(
 
 impl<Sink: TreeSink> Stack<Sink> {
     /// Inserts the HTML element that a tag makes, opens it, and lists it with the tag (HTML Standard, section 13.2.4.3, "push onto the list
-    /// of active formatting elements"). The tag's name comes with its class. Before it, where three or more entries since the last marker are
-    /// equal to the tag, up to the order of attributes, the earliest of them leaves. The element and its entry need attributes of their own,
-    /// so the tag is copied once. On [`ParseFault::Memory`], the only fault, the element may have been made, or inserted without being
-    /// listed, and the earliest entry may have left. Time grows with the number of entries since the marker.
+    /// of active formatting elements"). The tag's name comes with its class. Before it, where three or more entries since the last marker
+    /// are equal to the tag, up to the order of attributes, the earliest of them leaves. The element and its entry need attributes of
+    /// their own, so the tag is copied once. On [`ParseFault::Memory`], the only fault, the element may have been made, or inserted
+    /// without being listed, and the earliest entry may have left. Time grows with the number of entries since the marker.
     pub fn create_formatting_element_for(
         &mut self,
         sink: &mut Sink,
@@ -86,7 +86,8 @@ impl<Sink: TreeSink> Stack<Sink> {
         requires class { IsClassOf Html tag.name class }
         requires standing { StandsIn (Sink.forest sink.old) self.old }
         ensures named { MakesNext Sink.node (Sink.forest sink.old) result }
-        ensures ok { OnOk result (PerformsWith foster (create_formatting_element_for tag) self.old self.new (Sink.forest sink.old) (Sink.forest sink.new)) }
+        ensures ok { OnOk result (PerformsWith foster (create_formatting_element_for tag) self.old self.new
+            (Sink.forest sink.old) (Sink.forest sink.new)) }
         ensures kept { StandsIn (Sink.forest sink.new) self.new }
         ensures fault { IfErr result (λ fault. fault ≡ Memory) }
     {
@@ -99,7 +100,10 @@ impl<Sink: TreeSink> Stack<Sink> {
 
     /// Lists an element with the tag that it was made for.
     fn list(&mut self, element: Sink::Handle, tag: Tag) -> Result<(), ParseFault>
-        ensures ok { OnOk result (self.new ≡ record self.old { active_formatting = Listed (Sink.node element) tag ∷ self.old.active_formatting }) }
+        ensures ok { OnOk result (self.new ≡ record self.old {
+          active_formatting = Listed (Sink.node element) tag ∷
+              self.old.active_formatting;
+        }) }
         ensures err { OnErr result (self.new ≡ self.old) }
         ensures fault { IfErr result (λ fault. fault ≡ Memory) }
     {
@@ -129,7 +133,9 @@ impl<Sink: TreeSink> Stack<Sink> {
     /// The entry at a place stands for another element from now on.
     fn relist_at(&mut self, place: usize, element: Sink::Handle)
         requires { place < length self.old.active_formatting }
-        ensures { (newer older : List Entry) (n : ℕ) (tag : Tag) → self.old.active_formatting ≡ newer ++ Listed n tag ∷ older → length older ≡ place → self.new ≡ record self.old { active_formatting = newer ++ Listed (Sink.node element) tag ∷ older } }
+        ensures { (newer older : List Entry) (n : ℕ) (tag : Tag) → self.old.active_formatting ≡ newer
+            ++ Listed n tag ∷ older → length older ≡ place → self.new ≡ record self.old
+            { active_formatting = newer ++ Listed (Sink.node element) tag ∷ older } }
     {
         listing::rename(&mut self.active_formatting, place, element);
     }
@@ -148,7 +154,9 @@ impl<Sink: TreeSink> Stack<Sink> {
     fn open_again(&mut self, sink: &mut Sink, place: usize, foster: bool) -> Result<(), ParseFault>
         requires place { place < length self.old.active_formatting }
         requires standing { StandsIn (Sink.forest sink.old) self.old }
-        ensures ok { OnOk result ((newer older : List Entry) (n : ℕ) (tag : Tag) → self.old.active_formatting ≡ newer ++ Listed n tag ∷ older → length older ≡ place → IsAgain foster self.old self.new (Sink.forest sink.old) (Sink.forest sink.new) newer tag older) }
+        ensures ok { OnOk result ((newer older : List Entry) (n : ℕ) (tag : Tag)
+            → self.old.active_formatting ≡ newer ++ Listed n tag ∷ older → length older ≡ place
+            → IsAgain foster self.old self.new (Sink.forest sink.old) (Sink.forest sink.new) newer tag older) }
         ensures kept { StandsIn (Sink.forest sink.new) self.new }
         ensures fault { IfErr result (λ fault. fault ≡ Memory) }
     {
@@ -162,16 +170,18 @@ impl<Sink: TreeSink> Stack<Sink> {
     }
 
     /// "Reconstruct the active formatting elements" (HTML Standard, section 13.2.4.3): the elements of the entries after the last one that
-    /// is a marker or open are inserted again, in order, and the entries stand for the new ones. Each of these takes a copy of its tag's name
-    /// and attributes, since its entry keeps the tag. On [`ParseFault::Memory`], the only fault, some of them, the first ones, may have been
-    /// inserted. Each entry that is looked at is looked for among the open elements; where nothing has to be opened, that is one.
+    /// is a marker or open are inserted again, in order, and the entries stand for the new ones. Each of these takes a copy of its tag's
+    /// name and attributes, since its entry keeps the tag. On [`ParseFault::Memory`], the only fault, some of them, the first ones, may
+    /// have been inserted. Each entry that is looked at is looked for among the open elements; where nothing has to be opened, that is
+    /// one.
     pub fn reconstruct_active_formatting_elements(
         &mut self,
         sink: &mut Sink,
         foster: bool,
     ) -> Result<(), ParseFault>
         requires { StandsIn (Sink.forest sink.old) self.old }
-        ensures ok { OnOk result (PerformsWith foster reconstruct_active_formatting_elements self.old self.new (Sink.forest sink.old) (Sink.forest sink.new)) }
+        ensures ok { OnOk result (PerformsWith foster reconstruct_active_formatting_elements self.old self.new
+            (Sink.forest sink.old) (Sink.forest sink.new)) }
         ensures kept { StandsIn (Sink.forest sink.new) self.new }
         ensures fault { IfErr result (λ fault. fault ≡ Memory) }
     {

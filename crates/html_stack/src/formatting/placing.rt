@@ -22,7 +22,8 @@ pub(crate) fn place_before<Sink: TreeSink>(
 ) -> InsertionPoint<Sink::Handle>
     requires within { from ≤ length elements.now }
     requires opened { AreOpened (Sink.forest sink.old) (opens_of Sink.node elements.now) }
-    ensures place { (f : Forest) → place_at Sink.node f result ≡ place_for foster f (opens_of Sink.node elements.now) (current_node (opens_of Sink.node (take from elements.now))) }
+    ensures place { (f : Forest) → place_at Sink.node f result ≡ place_for foster f
+        (opens_of Sink.node elements.now) (current_node (opens_of Sink.node (take from elements.now))) }
     ensures is_point { (f : Forest) → IsTree f → AreOpened f (opens_of Sink.node elements.now) → IsPoint Sink.node f result }
     ensures same { Sink.forest sink.new ≡ Sink.forest sink.old }
 {
@@ -41,8 +42,10 @@ pub(crate) fn put_last<Sink: TreeSink>(
 ) -> Result<(), ParseFault>
     requires node { IsNode (Sink.forest sink.old) (Sink.node last) }
     requires point { IsPoint Sink.node (remove (Sink.forest sink.old) (Sink.node last)) point }
-    requires loose { IsLoose (remove (Sink.forest sink.old) (Sink.node last)) (parent_at (place_at Sink.node (remove (Sink.forest sink.old) (Sink.node last)) point)) (Sink.node last) }
-    ensures ok { OnOk result (Sink.forest sink.new ≡ put (remove (Sink.forest sink.old) (Sink.node last)) (place_at Sink.node (remove (Sink.forest sink.old) (Sink.node last)) point) (Sink.node last)) }
+    requires loose { IsLoose (remove (Sink.forest sink.old) (Sink.node last))
+        (parent_at (place_at Sink.node (remove (Sink.forest sink.old) (Sink.node last)) point)) (Sink.node last) }
+    ensures ok { OnOk result (Sink.forest sink.new ≡ put (remove (Sink.forest sink.old) (Sink.node last))
+        (place_at Sink.node (remove (Sink.forest sink.old) (Sink.node last)) point) (Sink.node last)) }
     ensures err { OnErr result (Sink.forest sink.new ≡ remove (Sink.forest sink.old) (Sink.node last)) }
     ensures grows { node_count (Sink.forest sink.old) ≤ node_count (Sink.forest sink.new) }
     ensures fault { IfErr result (λ fault. fault ≡ Memory) }

@@ -31,7 +31,8 @@ pub(crate) fn in_list<Sink: TreeSink>(
     entries: &[FormatEntry<Sink::Handle>],
     node: &Sink::Handle,
 ) -> Option<usize>
-    ensures { MatchOption result (is_listed (Sink.node node.now) (entries_of Sink.node entries.now) ≡ false) (IsNewest (entry_of Sink.node) (stands_for (Sink.node node.now)) entries.now) }
+    ensures { MatchOption result (is_listed (Sink.node node.now) (entries_of Sink.node entries.now) ≡ false)
+        (IsNewest (entry_of Sink.node) (stands_for (Sink.node node.now)) entries.now) }
 {
     let mut i = entries.len();
     while i > 0 {
@@ -49,7 +50,8 @@ pub(crate) fn on_stack<Sink: TreeSink>(
     elements: &[OpenElement<Sink::Handle>],
     node: &Sink::Handle,
 ) -> Option<usize>
-    ensures { MatchOption result (is_open (Sink.node node.now) (opens_of Sink.node elements.now) ≡ false) (IsNewest (open_of Sink.node) (is_number (Sink.node node.now)) elements.now) }
+    ensures { MatchOption result (is_open (Sink.node node.now) (opens_of Sink.node elements.now) ≡ false)
+        (IsNewest (open_of Sink.node) (is_number (Sink.node node.now)) elements.now) }
 {
     let mut i = elements.len();
     while i > 0 {
@@ -67,7 +69,8 @@ pub(crate) fn last_named<Sink: TreeSink>(
     entries: &[FormatEntry<Sink::Handle>],
     name: &LocalName,
 ) -> Option<usize>
-    ensures { MatchOption result (last_named name.now (entries_of Sink.node entries.now) ≡ None) (IsLastNamed Sink.node name.now entries.now) }
+    ensures { MatchOption result (last_named name.now (entries_of Sink.node entries.now) ≡ None)
+        (IsLastNamed Sink.node name.now entries.now) }
 {
     let mut i = entries.len();
     while i > 0 {

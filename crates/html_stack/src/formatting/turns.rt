@@ -39,7 +39,8 @@ pub(crate) struct FormattingElement<Handle> {
 /// The element that an entry stands for; none for a marker.
 fn node_at<Handle: Copy>(entries: &[FormatEntry<Handle>], place: usize) -> Option<Handle>
     requires { place < length entries.now }
-    ensures { MatchOption result (slice_index_or entries.now place Marker ≡ Marker) (λ node. (tag : Tag) × (slice_index_or entries.now place Marker ≡ Element node tag)) }
+    ensures { MatchOption result (slice_index_or entries.now place Marker ≡ Marker)
+        (λ node. (tag : Tag) × (slice_index_or entries.now place Marker ≡ Element node tag)) }
 {
     match &entries[place] {
         FormatEntry::Marker => None,
@@ -52,7 +53,8 @@ pub(crate) fn formatting_element<Sink: TreeSink>(
     entries: &[FormatEntry<Sink::Handle>],
     name: &LocalName,
 ) -> Option<FormattingElement<Sink::Handle>>
-    ensures { MatchOption result (last_named name.now (entries_of Sink.node entries.now) ≡ None) (λ found. (tag : Tag) × IsFormatting Sink.node name.now entries.now found.place found.node tag) }
+    ensures { MatchOption result (last_named name.now (entries_of Sink.node entries.now) ≡ None)
+        (λ found. (tag : Tag) × IsFormatting Sink.node name.now entries.now found.place found.node tag) }
 {
     let place = last_named::<Sink>(entries, name)?;
     let node = node_at(entries, place)?;
@@ -104,8 +106,11 @@ fn turn_open<Sink: TreeSink>(
     requires opened { IsNewest (open_of Sink.node) (is_number (Sink.node formatting.node)) elements.old.items from }
     requires scope { in_scope DefaultScope (is_number (Sink.node formatting.node)) (opens_of Sink.node elements.old.items) ≡ true }
     requires standing { IsStanding (Sink.forest sink.old) (opens_of Sink.node elements.old.items) (entries_of Sink.node entries.old.items) }
-    ensures ok { IfOk result (λ goes_on. IsTurnOf foster (Sink.node formatting.node) goes_on (Sink.forest sink.old) (opens_of Sink.node elements.old.items) (entries_of Sink.node entries.old.items) (Sink.forest sink.new) (opens_of Sink.node elements.new.items) (entries_of Sink.node entries.new.items)) }
-    ensures kept { OnErr result (IsStanding (Sink.forest sink.new) (opens_of Sink.node elements.new.items) (entries_of Sink.node entries.new.items)) }
+    ensures ok { IfOk result (λ goes_on. IsTurnOf foster (Sink.node formatting.node) goes_on (Sink.forest sink.old)
+        (opens_of Sink.node elements.old.items) (entries_of Sink.node entries.old.items) (Sink.forest sink.new)
+        (opens_of Sink.node elements.new.items) (entries_of Sink.node entries.new.items)) }
+    ensures kept { OnErr result (IsStanding (Sink.forest sink.new) (opens_of Sink.node elements.new.items)
+        (entries_of Sink.node entries.new.items)) }
     ensures grows { node_count (Sink.forest sink.old) ≤ node_count (Sink.forest sink.new) }
     ensures below { take from elements.new.items ≡ take from elements.old.items }
     ensures fault { IfErr result (λ fault. fault ≡ Memory) }
@@ -133,8 +138,8 @@ fn turn_open<Sink: TreeSink>(
     Ok(true)
 }
 
-/// A turn with a formatting element, which stands at a place of the stack, if it is open; whether another turn follows. Where the element is
-/// not open, its entry leaves the list; where it is not in scope, nothing is done.
+/// A turn with a formatting element, which stands at a place of the stack, if it is open; whether another turn follows. Where the element
+/// is not open, its entry leaves the list; where it is not in scope, nothing is done.
 fn turn_placed<Sink: TreeSink>(
     alloc: Global,
     sink: &mut Sink,
@@ -145,12 +150,18 @@ fn turn_placed<Sink: TreeSink>(
     foster: bool,
 ) -> Result<bool, ParseFault>
     requires listed { (tag : Tag) × IsListedAt Sink.node entries.old.items formatting.place formatting.node tag }
-    requires place { MatchOption place (is_open (Sink.node formatting.node) (opens_of Sink.node elements.old.items) ≡ false) (IsNewest (open_of Sink.node) (is_number (Sink.node formatting.node)) elements.old.items) }
+    requires place { MatchOption place
+        (is_open (Sink.node formatting.node) (opens_of Sink.node elements.old.items) ≡ false)
+        (IsNewest (open_of Sink.node) (is_number (Sink.node formatting.node)) elements.old.items) }
     requires standing { IsStanding (Sink.forest sink.old) (opens_of Sink.node elements.old.items) (entries_of Sink.node entries.old.items) }
-    ensures ok { IfOk result (λ goes_on. IsTurnOf foster (Sink.node formatting.node) goes_on (Sink.forest sink.old) (opens_of Sink.node elements.old.items) (entries_of Sink.node entries.old.items) (Sink.forest sink.new) (opens_of Sink.node elements.new.items) (entries_of Sink.node entries.new.items)) }
-    ensures kept { OnErr result (IsStanding (Sink.forest sink.new) (opens_of Sink.node elements.new.items) (entries_of Sink.node entries.new.items)) }
+    ensures ok { IfOk result (λ goes_on. IsTurnOf foster (Sink.node formatting.node) goes_on (Sink.forest sink.old)
+        (opens_of Sink.node elements.old.items) (entries_of Sink.node entries.old.items) (Sink.forest sink.new)
+        (opens_of Sink.node elements.new.items) (entries_of Sink.node entries.new.items)) }
+    ensures kept { OnErr result (IsStanding (Sink.forest sink.new) (opens_of Sink.node elements.new.items)
+        (entries_of Sink.node entries.new.items)) }
     ensures grows { node_count (Sink.forest sink.old) ≤ node_count (Sink.forest sink.new) }
-    ensures below { MatchOption place (elements.new.items ≡ elements.old.items) (λ from. take from elements.new.items ≡ take from elements.old.items) }
+    ensures below { MatchOption place (elements.new.items ≡ elements.old.items)
+        (λ from. take from elements.new.items ≡ take from elements.old.items) }
     ensures fault { IfErr result (λ fault. fault ≡ Memory) }
 {
     let Some(from) = place else {
@@ -179,8 +190,11 @@ pub(crate) fn turn_listed<Sink: TreeSink>(
     requires listed { (tag : Tag) × IsListedAt Sink.node entries.old.items formatting.place formatting.node tag }
     requires noted { IsNoted (named elements.old.items) depths.old }
     requires standing { IsStanding (Sink.forest sink.old) (opens_of Sink.node elements.old.items) (entries_of Sink.node entries.old.items) }
-    ensures ok { IfOk result (λ goes_on. IsTurnOf foster (Sink.node formatting.node) goes_on (Sink.forest sink.old) (opens_of Sink.node elements.old.items) (entries_of Sink.node entries.old.items) (Sink.forest sink.new) (opens_of Sink.node elements.new.items) (entries_of Sink.node entries.new.items)) }
-    ensures kept { OnErr result (IsStanding (Sink.forest sink.new) (opens_of Sink.node elements.new.items) (entries_of Sink.node entries.new.items)) }
+    ensures ok { IfOk result (λ goes_on. IsTurnOf foster (Sink.node formatting.node) goes_on (Sink.forest sink.old)
+        (opens_of Sink.node elements.old.items) (entries_of Sink.node entries.old.items) (Sink.forest sink.new)
+        (opens_of Sink.node elements.new.items) (entries_of Sink.node entries.new.items)) }
+    ensures kept { OnErr result (IsStanding (Sink.forest sink.new) (opens_of Sink.node elements.new.items)
+        (entries_of Sink.node entries.new.items)) }
     ensures grows { node_count (Sink.forest sink.old) ≤ node_count (Sink.forest sink.new) }
     ensures noted { IsNoted (named elements.new.items) depths.new }
     ensures fault { IfErr result (λ fault. fault ≡ Memory) }

@@ -4,7 +4,8 @@ ghost use Rattle.markup.specs.Forest.{node_count, put, with_node};
 ghost use Rattle.markup.specs.Forest.NodeData.{Comment};
 ghost use Rattle.markup.specs.Named.{IsTree};
 ghost use Rattle.markup.specs.declared.fault.ParseFault.TheVariants.{Memory};
-ghost use Rattle.html_rules.specs.Places.{append_comment, append_comment_to_doc, append_comment_to_html, append_doctype_to_document, append_text, or_empty};
+ghost use Rattle.html_rules.specs.Places.{append_comment, append_comment_to_doc, append_comment_to_html};
+ghost use Rattle.html_rules.specs.Places.{append_doctype_to_document, append_text, or_empty};
 ghost use Rattle.html_rules.specs.State.{State};
 ghost use Rattle.html_stack.specs.Inserting.{IsPoint, LeavesStanding, place_at};
 ghost use Rattle.html_stack.specs.Stacks.{joined, StandsIn};
@@ -24,7 +25,8 @@ fn put_comment<Sink: TreeSink>(
 ) -> Result<(), ParseFault>
     requires tree { IsTree (Sink.forest sink.old) }
     requires point { IsPoint Sink.node (Sink.forest sink.old) point }
-    ensures ok { OnOk result (let made = with_node (Sink.forest sink.old) (Comment text) in Sink.forest sink.new ≡ put made (place_at Sink.node made point) (node_count (Sink.forest sink.old))) }
+    ensures ok { OnOk result (let made = with_node (Sink.forest sink.old) (Comment text) in
+        Sink.forest sink.new ≡ put made (place_at Sink.node made point) (node_count (Sink.forest sink.old))) }
     ensures kept { LeavesStanding (Sink.forest sink.old) (Sink.forest sink.new) }
     ensures grows { node_count (Sink.forest sink.old) ≤ node_count (Sink.forest sink.new) }
     ensures fault { IfErr result (λ fault. fault ≡ Memory) }
@@ -48,7 +50,8 @@ impl<Sink: TreeSink> Stack<Sink> {
     /// [`ParseFault::Memory`], the only fault, the tree is as it was.
     pub fn append_text(&self, sink: &mut Sink, text: Text, foster: bool) -> Result<(), ParseFault>
         requires { StandsIn (Sink.forest sink.old) self.now }
-        ensures ok { OnOk result ((s : State) → s.foster_parenting ≡ foster → joined s self.now (Sink.forest sink.new) ≡ append_text text (joined s self.now (Sink.forest sink.old))) }
+        ensures ok { OnOk result ((s : State) → s.foster_parenting ≡ foster
+            → joined s self.now (Sink.forest sink.new) ≡ append_text text (joined s self.now (Sink.forest sink.old))) }
         ensures err { OnErr result (Sink.forest sink.new ≡ Sink.forest sink.old) }
         ensures kept { StandsIn (Sink.forest sink.new) self.now }
         ensures grows { node_count (Sink.forest sink.old) ≤ node_count (Sink.forest sink.new) }
@@ -67,7 +70,8 @@ impl<Sink: TreeSink> Stack<Sink> {
         foster: bool,
     ) -> Result<(), ParseFault>
         requires { StandsIn (Sink.forest sink.old) self.now }
-        ensures ok { OnOk result ((s : State) → s.foster_parenting ≡ foster → joined s self.now (Sink.forest sink.new) ≡ append_comment text (joined s self.now (Sink.forest sink.old))) }
+        ensures ok { OnOk result ((s : State) → s.foster_parenting ≡ foster
+            → joined s self.now (Sink.forest sink.new) ≡ append_comment text (joined s self.now (Sink.forest sink.old))) }
         ensures kept { StandsIn (Sink.forest sink.new) self.now }
         ensures grows { node_count (Sink.forest sink.old) ≤ node_count (Sink.forest sink.new) }
         ensures fault { IfErr result (λ fault. fault ≡ Memory) }
@@ -79,7 +83,8 @@ impl<Sink: TreeSink> Stack<Sink> {
     /// Puts a comment last into the document. On [`ParseFault::Memory`], the only fault, it may have been made without being put anywhere.
     pub fn append_comment_to_doc(&self, sink: &mut Sink, text: Text) -> Result<(), ParseFault>
         requires { StandsIn (Sink.forest sink.old) self.now }
-        ensures ok { OnOk result ((s : State) → joined s self.now (Sink.forest sink.new) ≡ append_comment_to_doc text (joined s self.now (Sink.forest sink.old))) }
+        ensures ok { OnOk result ((s : State) → joined s self.now (Sink.forest sink.new) ≡ append_comment_to_doc
+            text (joined s self.now (Sink.forest sink.old))) }
         ensures kept { StandsIn (Sink.forest sink.new) self.now }
         ensures grows { node_count (Sink.forest sink.old) ≤ node_count (Sink.forest sink.new) }
         ensures fault { IfErr result (λ fault. fault ≡ Memory) }
@@ -91,7 +96,8 @@ impl<Sink: TreeSink> Stack<Sink> {
     /// Puts a comment last into the root. On [`ParseFault::Memory`], the only fault, it may have been made without being put anywhere.
     pub fn append_comment_to_html(&self, sink: &mut Sink, text: Text) -> Result<(), ParseFault>
         requires { StandsIn (Sink.forest sink.old) self.now }
-        ensures ok { OnOk result ((s : State) → joined s self.now (Sink.forest sink.new) ≡ append_comment_to_html text (joined s self.now (Sink.forest sink.old))) }
+        ensures ok { OnOk result ((s : State) → joined s self.now (Sink.forest sink.new) ≡ append_comment_to_html
+            text (joined s self.now (Sink.forest sink.old))) }
         ensures kept { StandsIn (Sink.forest sink.new) self.now }
         ensures grows { node_count (Sink.forest sink.old) ≤ node_count (Sink.forest sink.new) }
         ensures fault { IfErr result (λ fault. fault ≡ Memory) }
@@ -109,7 +115,8 @@ impl<Sink: TreeSink> Stack<Sink> {
         doctype: Doctype,
     ) -> Result<(), ParseFault>
         requires { StandsIn (Sink.forest sink.old) self.now }
-        ensures ok { OnOk result ((s : State) → joined s self.now (Sink.forest sink.new) ≡ append_doctype_to_document doctype (joined s self.now (Sink.forest sink.old))) }
+        ensures ok { OnOk result ((s : State)
+            → joined s self.now (Sink.forest sink.new) ≡ append_doctype_to_document doctype (joined s self.now (Sink.forest sink.old))) }
         ensures err { OnErr result (Sink.forest sink.new ≡ Sink.forest sink.old) }
         ensures kept { StandsIn (Sink.forest sink.new) self.now }
         ensures grows { node_count (Sink.forest sink.old) ≤ node_count (Sink.forest sink.new) }

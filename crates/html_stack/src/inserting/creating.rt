@@ -35,7 +35,8 @@ pub(crate) fn flags_of(
     attributes: &[Attribute],
     had_duplicate_attributes: bool,
 ) -> ElementFlags
-    ensures { (namespace : Namespace) (name : List ℕ) → IsClassOf namespace name class → result ≡ flags_of namespace name attributes.now had_duplicate_attributes }
+    ensures { (namespace : Namespace) (name : List ℕ) → IsClassOf namespace name class
+        → result ≡ flags_of namespace name attributes.now had_duplicate_attributes }
 {
     ElementFlags {
         template: class.is_in(TagSet::Template),
@@ -54,7 +55,8 @@ pub fn create_element<Sink: TreeSink>(
     attributes: Attributes,
 ) -> Result<Sink::Handle, ParseFault>
     ensures named { MakesNext Sink.node (Sink.forest sink.old) result }
-    ensures ok { OnOk result (Sink.forest sink.new ≡ create_element (Sink.forest sink.old) name attributes (flags_of (namespace_of name.ns) name.local attributes false)) }
+    ensures ok { OnOk result (Sink.forest sink.new ≡ create_element (Sink.forest sink.old) name attributes
+        (flags_of (namespace_of name.ns) name.local attributes false)) }
     ensures err { OnErr result (Sink.forest sink.new ≡ Sink.forest sink.old) }
     ensures fault { IfErr result (λ fault. fault ≡ Memory) }
 {
@@ -69,7 +71,8 @@ pub fn create_element_with_flags<Sink: TreeSink>(
     had_duplicate_attributes: bool,
 ) -> Result<Sink::Handle, ParseFault>
     ensures named { MakesNext Sink.node (Sink.forest sink.old) result }
-    ensures ok { OnOk result (Sink.forest sink.new ≡ create_element (Sink.forest sink.old) name attributes (flags_of (namespace_of name.ns) name.local attributes had_duplicate_attributes)) }
+    ensures ok { OnOk result (Sink.forest sink.new ≡ create_element (Sink.forest sink.old) name attributes
+        (flags_of (namespace_of name.ns) name.local attributes had_duplicate_attributes)) }
     ensures err { OnErr result (Sink.forest sink.new ≡ Sink.forest sink.old) }
     ensures fault { IfErr result (λ fault. fault ≡ Memory) }
 {

@@ -24,7 +24,8 @@ use markup::{Attribute, Attributes, KnownNamespace, LocalName, NodeOrText, Parse
 /// Whether an attribute says to which form the element belongs.
 #[tactic(auto, unfolding(markup::specs::Namespaces::name_of))]
 fn has_form_attribute(attributes: &[Attribute]) -> bool
-    ensures { result ≡ list_any (λ attribute. bytes_eq attribute.name.ns [] && bytes_eq attribute.name.local (codes "form")) attributes.now }
+    ensures { result ≡ list_any (λ attribute. bytes_eq attribute.name.ns [] && bytes_eq attribute.name.local
+        (codes "form")) attributes.now }
 {
     attributes.iter().any(|a| a.name.ns.is_known(KnownNamespace::NoNamespace)
         && a.name.local.is("form"))
@@ -119,7 +120,8 @@ impl<Sink: TreeSink> Stack<Sink> {
         requires owner { IfSome owner (λ form. IsNode (Sink.forest sink.old) (Sink.node form)) }
         ensures named { MakesNext Sink.node (Sink.forest sink.old) result }
         ensures ok { OnOk result (Sink.forest sink.new ≡ with_put Sink.node point (Sink.forest sink.old) element) }
-        ensures opened { OnOk result (self.new ≡ record self.old { open_elems = opened_as (Sink.forest sink.old) element ∷ self.old.open_elems }) }
+        ensures opened { OnOk result
+            (self.new ≡ record self.old { open_elems = opened_as (Sink.forest sink.old) element ∷ self.old.open_elems }) }
         ensures kept { StandsIn (Sink.forest sink.new) self.new }
         ensures grows { node_count (Sink.forest sink.old) ≤ node_count (Sink.forest sink.new) }
         ensures fault { IfErr result (λ fault. fault ≡ Memory) }
@@ -146,7 +148,8 @@ impl<Sink: TreeSink> Stack<Sink> {
         requires standing { StandsIn (Sink.forest sink.old) self.old }
         requires form { IfSome form (λ owner. IsNode (Sink.forest sink.old) (Sink.node owner)) }
         ensures named { MakesNext Sink.node (Sink.forest sink.old) result }
-        ensures ok { OnOk result (PerformsWith foster (inserted push element) self.old self.new (Sink.forest sink.old) (Sink.forest sink.new)) }
+        ensures ok { OnOk result (PerformsWith foster (inserted push element) self.old self.new
+            (Sink.forest sink.old) (Sink.forest sink.new)) }
         ensures kept { StandsIn (Sink.forest sink.new) self.new }
         ensures grows { node_count (Sink.forest sink.old) ≤ node_count (Sink.forest sink.new) }
         ensures fault { IfErr result (λ fault. fault ≡ Memory) }
@@ -173,7 +176,8 @@ impl<Sink: TreeSink> Stack<Sink> {
         requires standing { StandsIn (Sink.forest sink.old) self.old }
         requires form { IfSome form (λ owner. IsNode (Sink.forest sink.old) (Sink.node owner)) }
         ensures named { MakesNext Sink.node (Sink.forest sink.old) result }
-        ensures ok { OnOk result (PerformsWith foster (insert_element_for tag) self.old self.new (Sink.forest sink.old) (Sink.forest sink.new)) }
+        ensures ok { OnOk result (PerformsWith foster (insert_element_for tag) self.old self.new
+            (Sink.forest sink.old) (Sink.forest sink.new)) }
         ensures kept { StandsIn (Sink.forest sink.new) self.new }
         ensures grows { node_count (Sink.forest sink.old) ≤ node_count (Sink.forest sink.new) }
         ensures fault { IfErr result (λ fault. fault ≡ Memory) }
@@ -194,7 +198,8 @@ impl<Sink: TreeSink> Stack<Sink> {
         requires class { IsClassOf Html tag.name class }
         requires standing { StandsIn (Sink.forest sink.old) self.old }
         ensures named { MakesNext Sink.node (Sink.forest sink.old) result }
-        ensures ok { OnOk result (PerformsWith foster (insert_element_for tag) self.old self.new (Sink.forest sink.old) (Sink.forest sink.new)) }
+        ensures ok { OnOk result (PerformsWith foster (insert_element_for tag) self.old self.new
+            (Sink.forest sink.old) (Sink.forest sink.new)) }
         ensures kept { StandsIn (Sink.forest sink.new) self.new }
         ensures grows { node_count (Sink.forest sink.old) ≤ node_count (Sink.forest sink.new) }
         ensures fault { IfErr result (λ fault. fault ≡ Memory) }
@@ -216,7 +221,8 @@ impl<Sink: TreeSink> Stack<Sink> {
         requires standing { StandsIn (Sink.forest sink.old) self.old }
         requires form { IfSome form (λ owner. IsNode (Sink.forest sink.old) (Sink.node owner)) }
         ensures named { MakesNext Sink.node (Sink.forest sink.old) result }
-        ensures ok { OnOk result (PerformsWith foster (insert_and_pop_element_for tag) self.old self.new (Sink.forest sink.old) (Sink.forest sink.new)) }
+        ensures ok { OnOk result (PerformsWith foster (insert_and_pop_element_for tag) self.old self.new
+            (Sink.forest sink.old) (Sink.forest sink.new)) }
         ensures kept { StandsIn (Sink.forest sink.new) self.new }
         ensures grows { node_count (Sink.forest sink.old) ≤ node_count (Sink.forest sink.new) }
         ensures fault { IfErr result (λ fault. fault ≡ Memory) }
@@ -236,7 +242,8 @@ impl<Sink: TreeSink> Stack<Sink> {
         requires standing { StandsIn (Sink.forest sink.old) self.old }
         requires form { IfSome form (λ owner. IsNode (Sink.forest sink.old) (Sink.node owner)) }
         ensures named { MakesNext Sink.node (Sink.forest sink.old) result }
-        ensures ok { OnOk result (PerformsWith foster (insert_phantom name) self.old self.new (Sink.forest sink.old) (Sink.forest sink.new)) }
+        ensures ok { OnOk result (PerformsWith foster (insert_phantom name) self.old self.new (Sink.forest sink.old)
+            (Sink.forest sink.new)) }
         ensures kept { StandsIn (Sink.forest sink.new) self.new }
         ensures grows { node_count (Sink.forest sink.old) ≤ node_count (Sink.forest sink.new) }
         ensures fault { IfErr result (λ fault. fault ≡ Memory) }

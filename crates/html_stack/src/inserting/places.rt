@@ -43,8 +43,10 @@ fn foster_point<Sink: TreeSink>(
 ) -> InsertionPoint<Sink::Handle>
     requires document { Sink.node document ≡ 0 }
     requires opened { AreOpened (Sink.forest sink.now) (opens_of Sink.node elements.now) }
-    ensures place { (f : Forest) → place_at Sink.node f result ≡ foster_place f (root_number (opens_of Sink.node elements.now)) (opens_of Sink.node elements.now) }
-    ensures asked { asked_at Sink.node result ≡ foster_intended_parent (root_number (opens_of Sink.node elements.now)) (opens_of Sink.node elements.now) }
+    ensures place { (f : Forest) → place_at Sink.node f result ≡ foster_place f
+        (root_number (opens_of Sink.node elements.now)) (opens_of Sink.node elements.now) }
+    ensures asked { asked_at Sink.node result ≡ foster_intended_parent
+        (root_number (opens_of Sink.node elements.now)) (opens_of Sink.node elements.now) }
     ensures is_point { (f : Forest) → IsTree f → AreOpened f (opens_of Sink.node elements.now) → IsPoint Sink.node f result }
 {
     let mut i = elements.len();
@@ -75,9 +77,12 @@ pub(crate) fn point_for<Sink: TreeSink>(
     requires document { Sink.node document ≡ 0 }
     requires opened { AreOpened (Sink.forest sink.now) (opens_of Sink.node elements.now) }
     requires target { IsOpened (Sink.forest sink.now) (open_of Sink.node target.now) }
-    ensures place { (f : Forest) → place_at Sink.node f result ≡ place_for foster f (opens_of Sink.node elements.now) (Some (open_of Sink.node target.now)) }
-    ensures asked { asked_at Sink.node result ≡ intended_parent_at foster (opens_of Sink.node elements.now) (Some (open_of Sink.node target.now)) }
-    ensures is_point { (f : Forest) → IsTree f → AreOpened f (opens_of Sink.node elements.now) → IsOpened f (open_of Sink.node target.now) → IsPoint Sink.node f result }
+    ensures place { (f : Forest) → place_at Sink.node f result ≡ place_for foster f
+        (opens_of Sink.node elements.now) (Some (open_of Sink.node target.now)) }
+    ensures asked { asked_at Sink.node result ≡ intended_parent_at foster (opens_of Sink.node elements.now)
+        (Some (open_of Sink.node target.now)) }
+    ensures is_point { (f : Forest) → IsTree f → AreOpened f (opens_of Sink.node elements.now)
+        → IsOpened f (open_of Sink.node target.now) → IsPoint Sink.node f result }
 {
     if foster && target.name.is_in(TagSet::FosterTarget) {
         foster_point(sink, elements, document)
@@ -95,8 +100,10 @@ fn current_point<Sink: TreeSink>(
 ) -> InsertionPoint<Sink::Handle>
     requires document { Sink.node document ≡ 0 }
     requires opened { AreOpened (Sink.forest sink.now) (opens_of Sink.node elements.now) }
-    ensures place { (f : Forest) → place_at Sink.node f result ≡ place_for foster f (opens_of Sink.node elements.now) (current_node (opens_of Sink.node elements.now)) }
-    ensures asked { asked_at Sink.node result ≡ intended_parent_at foster (opens_of Sink.node elements.now) (current_node (opens_of Sink.node elements.now)) }
+    ensures place { (f : Forest) → place_at Sink.node f result ≡ place_for foster f
+        (opens_of Sink.node elements.now) (current_node (opens_of Sink.node elements.now)) }
+    ensures asked { asked_at Sink.node result ≡ intended_parent_at foster (opens_of Sink.node elements.now)
+        (current_node (opens_of Sink.node elements.now)) }
     ensures is_point { (f : Forest) → IsTree f → AreOpened f (opens_of Sink.node elements.now) → IsPoint Sink.node f result }
 {
     let count = elements.len();
@@ -115,7 +122,8 @@ pub fn insert_at<Sink: TreeSink>(
 ) -> Result<(), ParseFault>
     requires point { IsPoint Sink.node (Sink.forest sink.old) point }
     requires child { MayPut Sink.node (Sink.forest sink.old) (place_at Sink.node (Sink.forest sink.old) point) child }
-    ensures ok { OnOk result (Sink.forest sink.new ≡ put_child Sink.node (Sink.forest sink.old) (place_at Sink.node (Sink.forest sink.old) point) child) }
+    ensures ok { OnOk result (Sink.forest sink.new ≡ put_child Sink.node (Sink.forest sink.old)
+        (place_at Sink.node (Sink.forest sink.old) point) child) }
     ensures err { OnErr result (Sink.forest sink.new ≡ Sink.forest sink.old) }
     ensures fault { IfErr result (λ fault. fault ≡ Memory) }
     ensures grows { node_count (Sink.forest sink.old) ≤ node_count (Sink.forest sink.new) }
@@ -142,8 +150,10 @@ impl<Sink: TreeSink> Stack<Sink> {
     ) -> InsertionPoint<Sink::Handle>
         requires opened { AreOpened (Sink.forest sink.old) self.now.open_elems }
         requires target { IsTarget Sink.node (Sink.forest sink.old) override_target }
-        ensures place { (f : Forest) → place_at Sink.node f result ≡ place_for foster f self.now.open_elems (target_of Sink.node override_target.entry self.now.open_elems) }
-        ensures is_point { (f : Forest) → IsTree f → AreOpened f self.now.open_elems → IsTarget Sink.node f override_target.entry → IsPoint Sink.node f result }
+        ensures place { (f : Forest) → place_at Sink.node f result ≡ place_for foster f self.now.open_elems
+            (target_of Sink.node override_target.entry self.now.open_elems) }
+        ensures is_point { (f : Forest) → IsTree f → AreOpened f self.now.open_elems
+            → IsTarget Sink.node f override_target.entry → IsPoint Sink.node f result }
         ensures same { Sink.forest sink.new ≡ Sink.forest sink.old }
         ensures tree { IsTree (Sink.forest sink.new) }
     {
@@ -171,7 +181,8 @@ impl<Sink: TreeSink> Stack<Sink> {
         foster: bool,
     ) -> InsertionPoint<Sink::Handle>
         requires { AreOpened (Sink.forest sink.old) self.now.open_elems }
-        ensures place { (f : Forest) → place_at Sink.node f result ≡ place_for foster f self.now.open_elems (current_node self.now.open_elems) }
+        ensures place { (f : Forest) → place_at Sink.node f result ≡ place_for foster f self.now.open_elems
+            (current_node self.now.open_elems) }
         ensures asked { asked_at Sink.node result ≡ intended_parent_at foster self.now.open_elems (current_node self.now.open_elems) }
         ensures is_point { (f : Forest) → IsTree f → AreOpened f self.now.open_elems → IsPoint Sink.node f result }
         ensures same { Sink.forest sink.new ≡ Sink.forest sink.old }

@@ -18,8 +18,10 @@ use markup::{Attributes, LocalName, ParseFault, TreeSink};
 
 /// The `body`, where it is the second element that was opened.
 fn second_body<Handle: Copy>(elements: &[OpenElement<Handle>]) -> Option<Handle>
-    ensures number { (node : Handle → ℕ) → MatchOption result (body_elem (opens_of node elements.now) ≡ None) (λ body. body_elem (opens_of node elements.now) ≡ Some (node body)) }
-    ensures is_node { (node : Handle → ℕ) (f : Forest) → AreOpened f (opens_of node elements.now) → IfSome result (λ body. IsNode f (node body)) }
+    ensures number { (node : Handle → ℕ) → MatchOption result (body_elem (opens_of node elements.now) ≡ None)
+        (λ body. body_elem (opens_of node elements.now) ≡ Some (node body)) }
+    ensures is_node { (node : Handle → ℕ) (f : Forest) → AreOpened f (opens_of node elements.now)
+        → IfSome result (λ body. IsNode f (node body)) }
 {
     if elements.len() < 2 {
         return None;
@@ -35,7 +37,8 @@ fn second_body<Handle: Copy>(elements: &[OpenElement<Handle>]) -> Option<Handle>
 impl<Sink: TreeSink> Stack<Sink> {
     /// The `body`, where it is the second element that was opened.
     pub fn body_elem(&self) -> Option<Sink::Handle>
-        ensures number { MatchOption result (body_elem self.now.open_elems ≡ None) (λ body. body_elem self.now.open_elems ≡ Some (Sink.node body)) }
+        ensures number { MatchOption result (body_elem self.now.open_elems ≡ None)
+            (λ body. body_elem self.now.open_elems ≡ Some (Sink.node body)) }
         ensures is_node { (f : Forest) → AreOpened f self.now.open_elems → IfSome result (λ body. IsNode f (Sink.node body)) }
     {
         second_body(self.open_elems())
@@ -71,7 +74,8 @@ impl<Sink: TreeSink> Stack<Sink> {
         requires class { IsNew element }
         requires standing { StandsIn (Sink.forest sink.old) self.old }
         ensures named { MakesNext Sink.node (Sink.forest sink.old) result }
-        ensures ok { OnOk result (Performs (open_element (namespace_of element.namespace) element.name element.attrs element.had_duplicate_attributes) self.old self.new (Sink.forest sink.old) (Sink.forest sink.new)) }
+        ensures ok { OnOk result (Performs (open_element (namespace_of element.namespace) element.name element.attrs
+            element.had_duplicate_attributes) self.old self.new (Sink.forest sink.old) (Sink.forest sink.new)) }
         ensures kept { StandsIn (Sink.forest sink.new) self.new }
         ensures grows { node_count (Sink.forest sink.old) ≤ node_count (Sink.forest sink.new) }
         ensures fault { IfErr result (λ fault. fault ≡ Memory) }
@@ -90,7 +94,8 @@ impl<Sink: TreeSink> Stack<Sink> {
         attrs: Attributes,
     ) -> Result<(), ParseFault>
         requires { StandsIn (Sink.forest sink.old) self.now }
-        ensures ok { OnOk result ((s : State) → joined s self.now (Sink.forest sink.new) ≡ add_attributes_to_root attrs (joined s self.now (Sink.forest sink.old))) }
+        ensures ok { OnOk result ((s : State) → joined s self.now (Sink.forest sink.new) ≡ add_attributes_to_root
+            attrs (joined s self.now (Sink.forest sink.old))) }
         ensures err { OnErr result (Sink.forest sink.new ≡ Sink.forest sink.old) }
         ensures kept { StandsIn (Sink.forest sink.new) self.now }
         ensures grows { node_count (Sink.forest sink.old) ≤ node_count (Sink.forest sink.new) }
@@ -108,7 +113,8 @@ impl<Sink: TreeSink> Stack<Sink> {
         attrs: Attributes,
     ) -> Result<(), ParseFault>
         requires { StandsIn (Sink.forest sink.old) self.now }
-        ensures ok { OnOk result ((s : State) → joined s self.now (Sink.forest sink.new) ≡ add_attributes_to_body attrs (joined s self.now (Sink.forest sink.old))) }
+        ensures ok { OnOk result ((s : State) → joined s self.now (Sink.forest sink.new) ≡ add_attributes_to_body
+            attrs (joined s self.now (Sink.forest sink.old))) }
         ensures err { OnErr result (Sink.forest sink.new ≡ Sink.forest sink.old) }
         ensures kept { StandsIn (Sink.forest sink.new) self.now }
         ensures grows { node_count (Sink.forest sink.old) ≤ node_count (Sink.forest sink.new) }
@@ -123,7 +129,8 @@ impl<Sink: TreeSink> Stack<Sink> {
     /// Takes the `body`, where it is the second element that was opened, out of its parent.
     fn take_body_out(&self, sink: &mut Sink)
         requires { AreOpened (Sink.forest sink.old) self.now.open_elems }
-        ensures step { (s : State) → joined s self.now (Sink.forest sink.new) ≡ remove_if (body_elem self.now.open_elems) (joined s self.now (Sink.forest sink.old)) }
+        ensures step { (s : State) → joined s self.now (Sink.forest sink.new) ≡ remove_if
+            (body_elem self.now.open_elems) (joined s self.now (Sink.forest sink.old)) }
         ensures count { node_count (Sink.forest sink.new) ≡ node_count (Sink.forest sink.old) }
     {
         match self.body_elem() {

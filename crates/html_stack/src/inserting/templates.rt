@@ -62,7 +62,9 @@ impl<Sink: TreeSink> Stack<Sink> {
     /// ask for a shadow root.
     fn may_be_shadow_root(&self, sink: &mut Sink, attributes: &[Attribute], foster: bool) -> bool
         requires { AreOpened (Sink.forest sink.old) self.now.open_elems }
-        ensures answer { result ≡ (list_any is_shadow_mode attributes.now && Sink.allows_shadow_roots (with_errors 0 (Sink.forest sink.old)) (intended_parent_at foster self.now.open_elems (current_node self.now.open_elems)) && not (is_alone self.now.open_elems)) }
+        ensures answer { result ≡ (list_any is_shadow_mode attributes.now && Sink.allows_shadow_roots
+            (with_errors 0 (Sink.forest sink.old))
+            (intended_parent_at foster self.now.open_elems (current_node self.now.open_elems)) && not (is_alone self.now.open_elems)) }
         ensures same { Sink.forest sink.new ≡ Sink.forest sink.old }
     {
         if !have_shadow_mode(attributes) || is_one(self.open_elems()) {
@@ -105,7 +107,10 @@ impl<Sink: TreeSink> Stack<Sink> {
         requires standing { StandsIn (Sink.forest sink.old) self.old }
         requires host { IsNode (Sink.forest sink.old) (Sink.node host) }
         requires form { IfSome form (λ owner. IsNode (Sink.forest sink.old) (Sink.node owner)) }
-        ensures ok { OnOk result ((s : State) → s.foster_parenting ≡ foster → s.answers ≡ answers_of Sink.integration_point Sink.allows_shadow_roots Sink.attaches_shadow → joined s self.new (Sink.forest sink.new) ≡ attach_shadow_root tag (Sink.node host) (open_element Html tag.name tag.attrs tag.had_duplicate_attributes (joined s self.old (Sink.forest sink.old)))) }
+        ensures ok { OnOk result ((s : State) → s.foster_parenting ≡ foster
+            → s.answers ≡ answers_of Sink.integration_point Sink.allows_shadow_roots Sink.attaches_shadow
+            → joined s self.new (Sink.forest sink.new) ≡ attach_shadow_root tag (Sink.node host)
+            (open_element Html tag.name tag.attrs tag.had_duplicate_attributes (joined s self.old (Sink.forest sink.old)))) }
         ensures kept { StandsIn (Sink.forest sink.new) self.new }
         ensures grows { node_count (Sink.forest sink.old) ≤ node_count (Sink.forest sink.new) }
         ensures fault { IfErr result (λ fault. fault ≡ Memory) }
@@ -138,7 +143,10 @@ impl<Sink: TreeSink> Stack<Sink> {
         requires standing { StandsIn (Sink.forest sink.old) self.old }
         requires context { IfSome (context_of Sink.node context) (λ x. IsNode (Sink.forest sink.old) x.number) }
         requires form { IfSome form (λ owner. IsNode (Sink.forest sink.old) (Sink.node owner)) }
-        ensures ok { OnOk result ((s : State) → s.foster_parenting ≡ foster → s.context_elem ≡ context_of Sink.node context.entry → s.answers ≡ answers_of Sink.integration_point Sink.allows_shadow_roots Sink.attaches_shadow → joined s self.new (Sink.forest sink.new) ≡ insert_template tag (joined s self.old (Sink.forest sink.old))) }
+        ensures ok { OnOk result ((s : State) → s.foster_parenting ≡ foster → s.context_elem ≡ context_of Sink.node
+            context.entry → s.answers ≡ answers_of Sink.integration_point Sink.allows_shadow_roots
+            Sink.attaches_shadow → joined s self.new (Sink.forest sink.new) ≡ insert_template tag
+            (joined s self.old (Sink.forest sink.old))) }
         ensures kept { StandsIn (Sink.forest sink.new) self.new }
         ensures grows { node_count (Sink.forest sink.old) ≤ node_count (Sink.forest sink.new) }
         ensures fault { IfErr result (λ fault. fault ≡ Memory) }

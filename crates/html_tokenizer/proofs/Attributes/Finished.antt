@@ -8,12 +8,22 @@ use Rattle.html_tokens.specs.Tags.{attribute, has_attribute, with_attribute}
 use Rattle.html_tokenizer.specs.declared.tokenizer.Tokenizer.{Tokenizer}
 
 -- an attribute without prefix and namespace
-pub plain : (q : QualName) (ns local value name text : List ℕ) → q ≡ record { prefix = None; ns = ns; local = local } → ns ≡ [] → local ≡ name → value ≡ text → record { name = q; value = value } ≡ attribute name text
+pub plain : (q : QualName) (ns local value name text : List ℕ) → q ≡ record {
+  prefix = None;
+  ns = ns;
+  local = local;
+} → ns ≡ [] → local ≡ name → value ≡ text → record { name = q; value = value } ≡ attribute name text
 plain q ns local value name text is empty_ns is_name is_text = rw (is, empty_ns, is_name, is_text) refl
 
 -- it is added where the tag has none of its name
-pub added : {K : Type 0} (old : Tokenizer K) (r : Result (Unit {0}) ParseFault) (attrs : List Attribute) (more : Attribute) (name value : List ℕ) → has_attribute old.tag old.attribute_name ≡ false
+pub added : {K : Type 0} (old : Tokenizer K) (r : Result (Unit {0}) ParseFault) (attrs : List Attribute)
+    (more : Attribute) (name value : List ℕ) → has_attribute old.tag old.attribute_name ≡ false
     → OnOk r (attrs ≡ old.tag.attrs ++ more ∷ []) → more ≡ attribute old.attribute_name old.attribute_value → name ≡ [] → value ≡ []
-    → OnOk r (record old { tag = record old.tag { attrs = attrs }; attribute_name = name; attribute_value = value } ≡ record old { tag = with_attribute old.tag old.attribute_name old.attribute_value; attribute_name = []; attribute_value = [] })
+    → OnOk r (record old {
+      tag = record old.tag { attrs = attrs };
+      attribute_name = name;
+      attribute_value = value;
+    } ≡ record old
+    { tag = with_attribute old.tag old.attribute_name old.attribute_value; attribute_name = []; attribute_value = [] })
 added old (Ok x) attrs more name value missing pushed is no_name no_value = rw (pushed, is, no_name, no_value, missing) refl
 added old (Err fault) attrs more name value missing pushed is no_name no_value = tt

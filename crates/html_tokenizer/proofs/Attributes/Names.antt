@@ -40,19 +40,23 @@ odd-no_close : (c : ℕ) → is_odd_first c ≡ true → nat_eq c 62 ≡ false
 odd-no_close c e = grind (arith, nat_tests)
 
 module _ {K H : Type 0} (Sink : Ghosts K H) where
-  pub before-space : (old : Tokenizer K) (c : ℕ) → IsAt old state.BeforeAttributeName → Sink.is_sound (Sink.view old.sink) → is_white_space c ≡ true → Took Sink old old c flow.Continue
+  pub before-space : (old : Tokenizer K) (c : ℕ) → IsAt old state.BeforeAttributeName
+      → Sink.is_sound (Sink.view old.sink) → is_white_space c ≡ true → Took Sink old old c flow.Continue
   unfolding held_at
   before-space old c from ok e =
       took Sink old old c state.BeforeAttributeName state.BeforeAttributeName from from refl refl ok
       (λ b s t. tag-space (listening Sink) (rows_of old) (standing old InData) old.tag b s c t e)
 
-  pub before-slash : (old : Tokenizer K) (c : ℕ) → IsAt old state.BeforeAttributeName → Sink.is_sound (Sink.view old.sink) → c ≡ 47 → Took Sink old (record old { state = state.SelfClosingStartTag }) c flow.Continue
+  pub before-slash : (old : Tokenizer K) (c : ℕ) → IsAt old state.BeforeAttributeName
+      → Sink.is_sound (Sink.view old.sink) → c ≡ 47 → Took Sink old (record old { state = state.SelfClosingStartTag }) c flow.Continue
   unfolding held_at
   before-slash old c from ok e = rw e (
-      took_here Sink old (record old { state = state.SelfClosingStartTag }) 47 state.BeforeAttributeName state.SelfClosingStartTag from (record { state = refl; fresh = from.fresh }) refl refl ok refl
+      took_here Sink old (record old { state = state.SelfClosingStartTag }) 47 state.BeforeAttributeName
+      state.SelfClosingStartTag from (record { state = refl; fresh = from.fresh }) refl refl ok refl
       (λ b s t. refl))
 
-  pub before-close : (old new : Tokenizer K) (c : ℕ) (result : Result (ProcessResult H) ParseFault) → IsAt old state.BeforeAttributeName → Sink.is_sound (Sink.view old.sink) → c ≡ 62
+  pub before-close : (old new : Tokenizer K) (c : ℕ) (result : Result (ProcessResult H) ParseFault)
+      → IsAt old state.BeforeAttributeName → Sink.is_sound (Sink.view old.sink) → c ≡ 62
       → EndsTag Sink old new result → Keeps Sink old new c result
   unfolding held_at
   before-close old new c result from ok e h = rw e (
@@ -60,28 +64,38 @@ module _ {K H : Type 0} (Sink : Ghosts K H) where
       (λ b s x t. tag-end (listening Sink) (rows_of old) (standing old InData) old.tag b s t
       ∙ noted-tag Sink old old.tag (after_tag (standing old InData) old.tag) b s t) ok)
 
-  pub before-name : (old : Tokenizer K) (c : ℕ) (name : List ℕ) → IsAt old state.BeforeAttributeName → Sink.is_sound (Sink.view old.sink) → is_white_space c ≡ false → c ≢ 47 → c ≢ 62 → name ≡ lowered c ∷ []
+  pub before-name : (old : Tokenizer K) (c : ℕ) (name : List ℕ) → IsAt old state.BeforeAttributeName
+      → Sink.is_sound (Sink.view old.sink) → is_white_space c ≡ false → c ≢ 47 → c ≢ 62 → name ≡ lowered c ∷ []
       → Took Sink old (record old { attribute_name = name; state = state.AttributeName }) c flow.Continue
   unfolding held_at
   before-name old c name from ok e f g is = rw is (
-      took_odd Sink (is_odd_first c) old (record old { attribute_name = lowered c ∷ []; state = state.AttributeName }) c state.BeforeAttributeName state.AttributeName from (record { state = refl; fresh = from.fresh }) refl refl ok
-      (λ b s t. tag-attribute (listening Sink) (rows_of old) slight-absorbed (standing old InData) old.tag b s c t e (ne_eqb c 47 f) (ne_eqb c 62 g)))
+      took_odd Sink (is_odd_first c) old
+      (record old { attribute_name = lowered c ∷ []; state = state.AttributeName }) c state.BeforeAttributeName
+      state.AttributeName from (record { state = refl; fresh = from.fresh }) refl refl ok
+      (λ b s t. tag-attribute (listening Sink) (rows_of old) slight-absorbed (standing old InData) old.tag b s c t e
+      (ne_eqb c 47 f) (ne_eqb c 62 g)))
 
-  pub name-more : (old : Tokenizer K) (c : ℕ) (name : List ℕ) → IsAt old state.AttributeName → Sink.is_sound (Sink.view old.sink) → ends_attribute_name c ≡ false → name ≡ old.attribute_name ++ lowered c ∷ []
+  pub name-more : (old : Tokenizer K) (c : ℕ) (name : List ℕ) → IsAt old state.AttributeName
+      → Sink.is_sound (Sink.view old.sink) → ends_attribute_name c ≡ false → name ≡ old.attribute_name ++ lowered c ∷ []
       → Took Sink old (record old { attribute_name = name }) c flow.Continue
   unfolding held_at
   name-more old c name from ok e is = rw is (
-      took_odd Sink (is_odd_in_name c) old (record old { attribute_name = old.attribute_name ++ lowered c ∷ [] }) c state.AttributeName state.AttributeName from (record { state = from.state; fresh = from.fresh }) refl refl ok
+      took_odd Sink (is_odd_in_name c) old (record old { attribute_name = old.attribute_name ++ lowered c ∷ [] }) c
+      state.AttributeName state.AttributeName from (record { state = from.state; fresh = from.fresh }) refl refl ok
       (λ b s t. name-goes_on (listening Sink) (rows_of old) slight-absorbed (standing old InData) old.tag old.attribute_name b s c t e))
 
-  pub name-end : (old new : Tokenizer K) (c : ℕ) (result : Result (ProcessResult H) ParseFault) → IsAt old state.AttributeName → ends_attribute_name c ≡ true
+  pub name-end : (old new : Tokenizer K) (c : ℕ) (result : Result (ProcessResult H) ParseFault)
+      → IsAt old state.AttributeName → ends_attribute_name c ≡ true
       → Keeps Sink (record old { state = state.AfterAttributeName }) new c result → Keeps Sink old new c result
   unfolding held_at
   name-end old new c result from e h =
-      keeps_silent Sink old (record old { state = state.AfterAttributeName }) new c state.AttributeName state.AfterAttributeName result from (record { state = refl; fresh = from.fresh }) refl refl
-      (λ b s t. ap (λ i. plays Sink (rows_of old) i b s (c ∷ t)) (name-ends (rows_of old) (standing old InData) old.tag old.attribute_name c t e)) h
+      keeps_silent Sink old (record old { state = state.AfterAttributeName }) new c state.AttributeName
+      state.AfterAttributeName result from (record { state = refl; fresh = from.fresh }) refl refl
+      (λ b s t. ap (λ i. plays Sink (rows_of old) i b s (c ∷ t))
+      (name-ends (rows_of old) (standing old InData) old.tag old.attribute_name c t e)) h
 
-  pub after-space : (old : Tokenizer K) (c : ℕ) → IsAt old state.AfterAttributeName → Sink.is_sound (Sink.view old.sink) → is_white_space c ≡ true → Took Sink old old c flow.Continue
+  pub after-space : (old : Tokenizer K) (c : ℕ) → IsAt old state.AfterAttributeName
+      → Sink.is_sound (Sink.view old.sink) → is_white_space c ≡ true → Took Sink old old c flow.Continue
   unfolding held_at
   after-space old c from ok e =
       took Sink old old c state.AfterAttributeName state.AfterAttributeName from from refl refl ok
@@ -91,7 +105,8 @@ module _ {K H : Type 0} (Sink : Ghosts K H) where
       → Took Sink old (record old { state = state.BeforeAttributeValue }) c flow.Continue
   unfolding held_at
   after-equals old c from ok e = rw e (
-      took Sink old (record old { state = state.BeforeAttributeValue }) 61 state.AfterAttributeName state.BeforeAttributeValue from (record { state = refl; fresh = from.fresh }) refl refl ok
+      took Sink old (record old { state = state.BeforeAttributeValue }) 61 state.AfterAttributeName
+      state.BeforeAttributeValue from (record { state = refl; fresh = from.fresh }) refl refl ok
       (λ b s t. equals-sign (listening Sink) (rows_of old) (standing old InData) old.tag old.attribute_name b s t))
 
   -- the machine with the attribute that it read in its tag
@@ -99,41 +114,53 @@ module _ {K H : Type 0} (Sink : Ghosts K H) where
   finished k value = record k { tag = with_attribute k.tag k.attribute_name value; attribute_name = []; attribute_value = [] }
 
   -- The attribute ended before the character, which may be odd there.
-  pub finish-odd : (odd : Bool) (old fin new : Tokenizer K) (value : List ℕ) (c : ℕ) (st : State) (result : Result (ProcessResult H) ParseFault) → IsAt old st → fin ≡ finished old value
+  pub finish-odd : (odd : Bool) (old fin new : Tokenizer K) (value : List ℕ) (c : ℕ) (st : State)
+      (result : Result (ProcessResult H) ParseFault) → IsAt old st → fin ≡ finished old value
       → ((b : ℕ) (s : Sink.State × Notes ℕ) (t : List ℕ) → at Sink st old b s (c ∷ t)
-      ≡ plays Sink (rows_of old) (silent 0 (standing old (InTag (with_attribute old.tag old.attribute_name value)))) b (erred_by noting_error (slight_if odd) s) (c ∷ t))
+      ≡ plays Sink (rows_of old) (silent 0 (standing old (InTag (with_attribute old.tag old.attribute_name value))))
+      b (erred_by noting_error (slight_if odd) s) (c ∷ t))
       → Keeps Sink (record fin { state = state.BeforeAttributeName }) new c result → Keeps Sink old new c result
   unfolding held_at
   finish-odd odd old fin new value c st result from is law h =
-      keeps_odd Sink odd old (record (finished old value) { state = state.BeforeAttributeName }) new c st state.BeforeAttributeName result from (record { state = refl; fresh = from.fresh }) refl refl
-      (λ b s t. law b s t ∙ play-nothing (listening Sink) (rows_of old) (standing old (InTag (with_attribute old.tag old.attribute_name value))) b (erred_by noting_error (slight_if odd) s) (c ∷ t)) (rw is at h)
+      keeps_odd Sink odd old (record (finished old value) { state = state.BeforeAttributeName }) new c st
+      state.BeforeAttributeName result from (record { state = refl; fresh = from.fresh }) refl refl
+      (λ b s t. law b s t ∙ play-nothing (listening Sink) (rows_of old)
+      (standing old (InTag (with_attribute old.tag old.attribute_name value))) b
+      (erred_by noting_error (slight_if odd) s) (c ∷ t)) (rw is at h)
 
   -- The attribute ended before the character.
-  pub finish-before : (old fin new : Tokenizer K) (value : List ℕ) (c : ℕ) (st : State) (result : Result (ProcessResult H) ParseFault) → IsAt old st → fin ≡ finished old value
+  pub finish-before : (old fin new : Tokenizer K) (value : List ℕ) (c : ℕ) (st : State)
+      (result : Result (ProcessResult H) ParseFault) → IsAt old st → fin ≡ finished old value
       → ((b : ℕ) (s : Sink.State × Notes ℕ) (t : List ℕ) → at Sink st old b s (c ∷ t)
       ≡ plays Sink (rows_of old) (silent 0 (standing old (InTag (with_attribute old.tag old.attribute_name value)))) b s (c ∷ t))
       → Keeps Sink (record fin { state = state.BeforeAttributeName }) new c result → Keeps Sink old new c result
   finish-before old fin new value c st result from is law h = finish-odd false old fin new value c st result from is law h
 
-  pub after-other : (old fin new : Tokenizer K) (c : ℕ) (result : Result (ProcessResult H) ParseFault) → IsAt old state.AfterAttributeName → is_white_space c ≡ false → c ≢ 61 → fin ≡ finished old []
+  pub after-other : (old fin new : Tokenizer K) (c : ℕ) (result : Result (ProcessResult H) ParseFault)
+      → IsAt old state.AfterAttributeName → is_white_space c ≡ false → c ≢ 61 → fin ≡ finished old []
       → Keeps Sink (record fin { state = state.BeforeAttributeName }) new c result → Keeps Sink old new c result
   unfolding held_at
   after-other old fin new c result from e ne is h =
       finish-before old fin new [] c state.AfterAttributeName result from is
-      (λ b s t. ap (λ i. plays Sink (rows_of old) i b s (c ∷ t)) (equals-none (rows_of old) (standing old InData) old.tag old.attribute_name c t e (ne_eqb 61 c (λ x. ne (sym x))))) h
+      (λ b s t. ap (λ i. plays Sink (rows_of old) i b s (c ∷ t))
+      (equals-none (rows_of old) (standing old InData) old.tag old.attribute_name c t e (ne_eqb 61 c (λ x. ne (sym x))))) h
 
   -- the first character of a name, where it is odd
   pub before-absorbs : (old : Tokenizer K) (c : ℕ) → IsAt old state.BeforeAttributeName → is_odd_first c ≡ true → Absorbs Sink old c
   unfolding held_at
   before-absorbs old c from e =
       absorbs_odd Sink old c state.BeforeAttributeName (is_odd_first c)
-      (λ b s t. plays Sink (rows_of old) (attribute_after (rows_of old) (standing old InData) old.tag (lowered c ∷ []) t) (b + line_break (nat_eq c 10)) s t) from e
-      (λ b s t. tag-attribute (listening Sink) (rows_of old) slight-absorbed (standing old InData) old.tag b s c t (odd-no_space c e) (odd-no_slash c e) (odd-no_close c e))
+      (λ b s t. plays Sink (rows_of old) (attribute_after (rows_of old) (standing old InData) old.tag
+      (lowered c ∷ []) t) (b + line_break (nat_eq c 10)) s t) from e
+      (λ b s t. tag-attribute (listening Sink) (rows_of old) slight-absorbed (standing old InData) old.tag b s c t
+      (odd-no_space c e) (odd-no_slash c e) (odd-no_close c e))
 
   -- a further one
   pub name-absorbs : (old : Tokenizer K) (c : ℕ) → IsAt old state.AttributeName → is_odd_in_name c ≡ true → Absorbs Sink old c
   unfolding held_at
   name-absorbs old c from e =
       absorbs_odd Sink old c state.AttributeName (is_odd_in_name c)
-      (λ b s t. plays Sink (rows_of old) (attribute_after (rows_of old) (standing old InData) old.tag (old.attribute_name ++ lowered c ∷ []) t) (b + line_break (nat_eq c 10)) s t) from e
-      (λ b s t. name-goes_on (listening Sink) (rows_of old) slight-absorbed (standing old InData) old.tag old.attribute_name b s c t (odd-goes_on c e))
+      (λ b s t. plays Sink (rows_of old) (attribute_after (rows_of old) (standing old InData) old.tag
+      (old.attribute_name ++ lowered c ∷ []) t) (b + line_break (nat_eq c 10)) s t) from e
+      (λ b s t. name-goes_on (listening Sink) (rows_of old) slight-absorbed (standing old InData) old.tag
+      old.attribute_name b s c t (odd-goes_on c e))

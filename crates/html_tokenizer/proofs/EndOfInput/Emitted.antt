@@ -21,7 +21,8 @@ module _ {K H : Type 0} (Sink : Ghosts K H) where
   closed-now old mid h notes = h.same notes ∙ ap (λ x. at_end Sink x.breaks (Sink.view mid.sink, more h.owed notes)) (sym h.stream)
 
   -- The end was told, or could not be told.
-  pub ended : (old mid new : Tokenizer K) (result : Result (Unit {0}) ParseFault) → Closed Sink old mid → TellsAmong Sink (λ token. Unit {0}) nothing_owed EOFToken mid new result
+  pub ended : (old mid new : Tokenizer K) (result : Result (Unit {0}) ParseFault) → Closed Sink old mid
+      → TellsAmong Sink (λ token. Unit {0}) nothing_owed EOFToken mid new result
       → TellsEnd Sink old new result
   ended old mid new (Ok x) h told = record {
     owed = together (and_heard (Sink.is_quiet (Sink.view mid.sink) EOFToken) nothing_owed) h.owed;
@@ -29,7 +30,8 @@ module _ {K H : Type 0} (Sink : Ghosts K H) where
     same = λ notes.
         closed-now old mid h notes
         ∙ told-next Sink nothing_owed mid new EOFToken (more h.owed notes) (λ s. Ok (noting_end Sink.ended s)) told
-        ∙ ap (λ n. Ok (Sink.ended (Sink.view new.sink), n)) (more-more (and_heard (Sink.is_quiet (Sink.view mid.sink) EOFToken) nothing_owed) h.owed notes);
+        ∙ ap (λ n. Ok (Sink.ended (Sink.view new.sink), n))
+        (more-more (and_heard (Sink.is_quiet (Sink.view mid.sink) EOFToken) nothing_owed) h.owed notes);
     stream = ap (λ k. k.stream) told.changed ∙ h.stream;
     sound = told.sound;
     stays = stays-then Sink old.sink mid.sink new.sink h.stays told.stays;
@@ -38,10 +40,12 @@ module _ {K H : Type 0} (Sink : Ghosts K H) where
     fell = fell-behind Sink old.sink mid.sink new.sink h.stays fails.0;
     fails = λ notes.
         fails_before Sink (λ token. Unit {0}) old.sink mid.sink new.sink _ fault h.stays
-        (token_fails Sink (λ token. Unit {0}) mid.sink new.sink _ (Sink.view mid.sink) (more h.owed notes) EOFToken (line_number mid.stream.breaks) fault _ fails.1 (closed-now old mid h notes));
+        (token_fails Sink (λ token. Unit {0}) mid.sink new.sink _ (Sink.view mid.sink) (more h.owed notes) EOFToken
+        (line_number mid.stream.breaks) fault _ fails.1 (closed-now old mid h notes));
   }
 
-  any-token : (old new : K) {A F : Type 0} (given : Result A F) (fault : ParseFault) → Fails Sink old new given fault → FailsAmong Sink (λ token. Unit {0}) old new given fault
+  any-token : (old new : K) {A F : Type 0} (given : Result A F) (fault : ParseFault)
+      → Fails Sink old new given fault → FailsAmong Sink (λ token. Unit {0}) old new given fault
   any-token old new given Memory h = tt
   any-token old new given TokenInText h = (h.0, record { token = h.1.token; is_among = tt; line = h.1.line; is = h.1.is })
   any-token old new given Ended h = (h.0, record { token = h.1.token; is_among = tt; line = h.1.line; is = h.1.is })
@@ -49,7 +53,8 @@ module _ {K H : Type 0} (Sink : Ghosts K H) where
   any-token old new given Failed h = h
 
   -- What was held could not be told.
-  pub not-closed : (old new : Tokenizer K) (fault : ParseFault) (result : Result (Unit {0}) ParseFault) → Closes Sink old new (Err fault) → IsErrAnd result (λ y. y ≡ fault) → TellsEnd Sink old new result
+  pub not-closed : (old new : Tokenizer K) (fault : ParseFault) (result : Result (Unit {0}) ParseFault)
+      → Closes Sink old new (Err fault) → IsErrAnd result (λ y. y ≡ fault) → TellsEnd Sink old new result
   not-closed old new fault result h is =
       let p = err_from_is_err_and result is in
       rw (p.1, p.2) (record { fell = h.0; fails = λ notes. any-token old.sink new.sink _ fault (h.1 notes) })

@@ -28,39 +28,56 @@ use Rattle.html_tokenizer.proofs.HeldReferences.InValues.{value-at_end, wronged_
 
 module _ {K H : Type 0} (Sink : Ghosts K H) where
   -- The machine is as it was, with what it held taken out and named.
-  pub closes_where : (old new : Tokenizer K) (held : Option Ampersand) (result : Result (Unit {0}) ParseFault) → old.char_ref ≡ held → Closes Sink (record old { char_ref = held }) new result → Closes Sink old new result
+  pub closes_where : (old new : Tokenizer K) (held : Option Ampersand) (result : Result (Unit {0}) ParseFault)
+      → old.char_ref ≡ held → Closes Sink (record old { char_ref = held }) new result → Closes Sink old new result
   closes_where old new held result e h =
       let is : (record old { char_ref = held }) ≡ old = rw (← e) refl in
       rw is at h
 
   -- a fault is noted whatever slight was noted before it
-  grave-noted : (wrong : Bool) (s : Sink.State × Notes ℕ) → noting_error Grave (s.0, more (owed_for (slight_if wrong)) s.1) ≡ (s.0, more a_fault s.1)
+  grave-noted : (wrong : Bool) (s : Sink.State × Notes ℕ) → noting_error Grave
+      (s.0, more (owed_for (slight_if wrong)) s.1) ≡ (s.0, more a_fault s.1)
   grave-noted true s = refl
   grave-noted false s = refl
 
   -- of a tag with a reference in a value nothing is told either
-  pub value-closes : (old new : Tokenizer K) (kind : AttrValueKind) (cs : List ℕ) (result : Result (Unit {0}) ParseFault) → IsAt old (state.AttributeValue kind) → Sink.is_sound (Sink.view old.sink) → list_all is_held cs ≡ true
+  pub value-closes : (old new : Tokenizer K) (kind : AttrValueKind) (cs : List ℕ)
+      (result : Result (Unit {0}) ParseFault) → IsAt old (state.AttributeValue kind)
+      → Sink.is_sound (Sink.view old.sink) → list_all is_held cs ≡ true
       → Errs Sink a_fault old new result → Closes Sink (record old { char_ref = Some (Held cs) }) new result
-  value-closes old new kind cs result from ok held errs = closes_end Sink a_fault a_fault old new (Some (Held cs)) result (record { faults = omega arith; quiet = λ e. e }) ok (λ notes.
+  value-closes old new kind cs result from ok held errs = closes_end Sink a_fault a_fault old new (Some (Held cs))
+      result (record { faults = omega arith; quiet = λ e. e }) ok (λ notes.
       let s : Sink.State × Notes ℕ = (Sink.view old.sink, notes) in
       now-held Sink old (state.AttributeValue kind) cs old.stream.breaks s [] from.state refl
       ∙ value-at_end Sink kind old cs held old.stream.breaks s
-      ∙ tag-ends Sink (state.AttributeValue kind) refl (record old { attribute_value = old.attribute_value ++ resolved true (rows_of old) cs false }) old.stream.breaks (wronged_by Sink old cs s)
+      ∙ tag-ends Sink (state.AttributeValue kind) refl
+      (record old { attribute_value = old.attribute_value ++ resolved true (rows_of old) cs false })
+      old.stream.breaks (wronged_by Sink old cs s)
       ∙ ap (at_end Sink old.stream.breaks) (grave-noted (is_some (fault_of_reference (rows_of old) cs)) s)) errs
 
 module _ {K H : Type 0} (Sink : Ghosts K H) (laws : SinkLaws Sink.is_sound Sink.step Sink.ended Sink.is_quiet) where
   -- what a reference in data stands for was told
-  pub data-closes : (old new : Tokenizer K) (cs : List ℕ) (result : Result (Unit {0}) ParseFault) → IsAt old state.Data → Sink.is_sound (Sink.view old.sink) → list_all is_held cs ≡ true
-      → Tells Sink (owed_for (fault_of_reference (rows_of old) cs)) (CharacterTokens (resolved false (rows_of old) cs false)) old new result → Closes Sink (record old { char_ref = Some (Held cs) }) new result
+  pub data-closes : (old new : Tokenizer K) (cs : List ℕ) (result : Result (Unit {0}) ParseFault)
+      → IsAt old state.Data → Sink.is_sound (Sink.view old.sink) → list_all is_held cs ≡ true
+      → Tells Sink (owed_for (fault_of_reference (rows_of old) cs))
+      (CharacterTokens (resolved false (rows_of old) cs false)) old new result
+      → Closes Sink (record old { char_ref = Some (Held cs) }) new result
   unfolding held_at reading_from
-  data-closes old new cs result from ok held told = closes_last Sink (owed_for (fault_of_reference (rows_of old) cs)) old new (Some (Held cs)) (CharacterTokens (resolved false (rows_of old) cs false)) result (λ notes.
+  data-closes old new cs result from ok held told = closes_last Sink
+      (owed_for (fault_of_reference (rows_of old) cs)) old new (Some (Held cs))
+      (CharacterTokens (resolved false (rows_of old) cs false)) result (λ notes.
       now-held Sink old state.Data cs old.stream.breaks (Sink.view old.sink, notes) [] from.state refl
       ∙ data-at_end Sink laws old cs held old.stream.breaks (Sink.view old.sink, notes) ok) told
 
   -- the same in text with references that only its end tag ends
-  pub rcdata-closes : (old new : Tokenizer K) (cs : List ℕ) (result : Result (Unit {0}) ParseFault) → IsAt old (state.RawData raw.Rcdata) → Sink.is_sound (Sink.view old.sink) → list_all is_held cs ≡ true
-      → Tells Sink (owed_for (fault_of_reference (rows_of old) cs)) (CharacterTokens (resolved false (rows_of old) cs false)) old new result → Closes Sink (record old { char_ref = Some (Held cs) }) new result
+  pub rcdata-closes : (old new : Tokenizer K) (cs : List ℕ) (result : Result (Unit {0}) ParseFault)
+      → IsAt old (state.RawData raw.Rcdata) → Sink.is_sound (Sink.view old.sink) → list_all is_held cs ≡ true
+      → Tells Sink (owed_for (fault_of_reference (rows_of old) cs))
+      (CharacterTokens (resolved false (rows_of old) cs false)) old new result
+      → Closes Sink (record old { char_ref = Some (Held cs) }) new result
   unfolding held_at reading_from
-  rcdata-closes old new cs result from ok held told = closes_last Sink (owed_for (fault_of_reference (rows_of old) cs)) old new (Some (Held cs)) (CharacterTokens (resolved false (rows_of old) cs false)) result (λ notes.
+  rcdata-closes old new cs result from ok held told = closes_last Sink
+      (owed_for (fault_of_reference (rows_of old) cs)) old new (Some (Held cs))
+      (CharacterTokens (resolved false (rows_of old) cs false)) result (λ notes.
       now-held Sink old (state.RawData raw.Rcdata) cs old.stream.breaks (Sink.view old.sink, notes) [] from.state refl
       ∙ rcdata-at_end Sink laws old cs held old.stream.breaks (Sink.view old.sink, notes) ok) told

@@ -39,5 +39,7 @@ module _ {K H : Type 0} (Sink : Ghosts K H) where
   tag-ends _ h k b s = absurd cc
 
   -- a tag that does not end is an error, and is not told
-  pub tag-closes : (old new : Tokenizer K) (result : Result (Unit {0}) ParseFault) → is_tag_part old.state ≡ true → old.char_ref ≡ None → Sink.is_sound (Sink.view old.sink) → Errs Sink a_fault old new result → Closes Sink old new result
-  tag-closes old new result h fresh ok errs = closes_errs Sink (Some Grave) a_fault old new old.state result (no-more-same a_fault) (record { state = refl; fresh = fresh }) ok (tag-ends old.state h old) errs
+  pub tag-closes : (old new : Tokenizer K) (result : Result (Unit {0}) ParseFault) → is_tag_part old.state ≡ true
+      → old.char_ref ≡ None → Sink.is_sound (Sink.view old.sink) → Errs Sink a_fault old new result → Closes Sink old new result
+  tag-closes old new result h fresh ok errs = closes_errs Sink (Some Grave) a_fault old new old.state result
+      (no-more-same a_fault) (record { state = refl; fresh = fresh }) ok (tag-ends old.state h old) errs

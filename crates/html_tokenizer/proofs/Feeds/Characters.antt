@@ -26,16 +26,20 @@ use Rattle.html_tokenizer.specs.Listeners.{listening}
 
 module _ {K H : Type 0} (Sink : Ghosts K H) where
   -- The machine with what it held is the machine.
-  pub advanced : (old new : Tokenizer K) (r : Option Ampersand) (c : ℕ) (result : Result (ProcessResult H) ParseFault) → r ≡ old.char_ref → Keeps Sink (record old { char_ref = r }) new c result → Keeps Sink old new c result
+  pub advanced : (old new : Tokenizer K) (r : Option Ampersand) (c : ℕ)
+      (result : Result (ProcessResult H) ParseFault) → r ≡ old.char_ref → Keeps Sink (record old { char_ref = r })
+      new c result → Keeps Sink old new c result
   advanced old new r c result e h = rw e at h
 
   counted-by : (k : Tokenizer K) (b : ℕ) (s : Sink.State × Notes ℕ) (t : List ℕ) (breaks : Bool)
       → now Sink k (b + line_break breaks) s t ≡ now Sink k (if breaks then min (b + 1) 0xffff_ffff_ffff_ffff else b) s t
-  counted-by k b s t true = held-lines (listening Sink) k.state k (b + 1) (min (b + 1) 0xffff_ffff_ffff_ffff) (erred_by noting_error (fault_after k.char_ref) s) (pending k.char_ref ++ t) (lines-capped (b + 1))
+  counted-by k b s t true = held-lines (listening Sink) k.state k (b + 1) (min (b + 1) 0xffff_ffff_ffff_ffff)
+      (erred_by noting_error (fault_after k.char_ref) s) (pending k.char_ref ++ t) (lines-capped (b + 1))
   counted-by k b s t false = ap (λ n. now Sink k n s t) (sum-zero b)
 
   -- a pause is where it was, whatever is known of the input
-  pub notes-counted : (k : Tokenizer K) (stream : Stream) (c : ℕ) (result : ProcessResult H) → PausesAt Sink result c k → PausesAt Sink result c (record k { stream = stream })
+  pub notes-counted : (k : Tokenizer K) (stream : Stream) (c : ℕ) (result : ProcessResult H)
+      → PausesAt Sink result c k → PausesAt Sink result c (record k { stream = stream })
   notes-counted k stream c flow.Continue h = tt
   notes-counted k stream c flow.Suspend h = absurd h
   notes-counted k stream c (flow.Script handle) h = (h.0, record { state = h.1.state; fresh = h.1.fresh }, h.2)
@@ -43,20 +47,27 @@ module _ {K H : Type 0} (Sink : Ghosts K H) where
 
   -- what is to come of a character that was taken is so too where its line is counted
   counted-same : (old mid : Tokenizer K) (c : ℕ) (result : ProcessResult H) (h : Took Sink old mid c result) (notes : Notes ℕ) (t : List ℕ)
-      → now Sink old old.stream.breaks (Sink.view old.sink, notes) (c ∷ t) ≡ now Sink (record mid { stream = record mid.stream { breaks = counted mid.stream.breaks c } }) (counted mid.stream.breaks c) (Sink.view mid.sink, noted_by Sink.number h.owed notes result) t
+      → now Sink old old.stream.breaks (Sink.view old.sink, notes) (c ∷ t) ≡ now Sink
+      (record mid { stream = record mid.stream { breaks = counted mid.stream.breaks c } })
+      (counted mid.stream.breaks c) (Sink.view mid.sink, noted_by Sink.number h.owed notes result) t
   counted-same old mid c result h notes t =
       let new : Tokenizer K = record mid { stream = record mid.stream { breaks = counted mid.stream.breaks c } } in
       h.same notes t
       ∙ counted-by mid old.stream.breaks (Sink.view mid.sink, noted_by Sink.number h.owed notes result) t (nat_eq c 10)
-      ∙ sym (held-other (listening Sink) mid.state mid mid.sink new.stream (counted old.stream.breaks c) (erred_by noting_error (fault_after mid.char_ref) (Sink.view mid.sink, noted_by Sink.number h.owed notes result)) (pending mid.char_ref ++ t) refl)
+      ∙ sym (held-other (listening Sink) mid.state mid mid.sink new.stream (counted old.stream.breaks c)
+      (erred_by noting_error (fault_after mid.char_ref)
+      (Sink.view mid.sink, noted_by Sink.number h.owed notes result)) (pending mid.char_ref ++ t) refl)
       ∙ ap (λ x. now Sink new (counted x.breaks c) (Sink.view mid.sink, noted_by Sink.number h.owed notes result) t) (sym h.stream)
 
   -- what is to come is so too where an error of the character was told
-  erred-same : {owed : Owed} (old erred : Tokenizer K) (notes : Notes ℕ) (t : List ℕ) → Erred Sink owed old erred → now Sink old old.stream.breaks (Sink.view old.sink, notes) t ≡ now Sink erred erred.stream.breaks (Sink.view erred.sink, notes) t
-  erred-same old erred notes t e = erred-now Sink old erred old.stream.breaks notes t e ∙ ap (λ (k : Tokenizer K). now Sink erred k.stream.breaks (Sink.view erred.sink, notes) t) (sym e.changed)
+  erred-same : {owed : Owed} (old erred : Tokenizer K) (notes : Notes ℕ) (t : List ℕ) → Erred Sink owed old erred
+      → now Sink old old.stream.breaks (Sink.view old.sink, notes) t ≡ now Sink erred erred.stream.breaks (Sink.view erred.sink, notes) t
+  erred-same old erred notes t e = erred-now Sink old erred old.stream.breaks notes t e
+      ∙ ap (λ (k : Tokenizer K). now Sink erred k.stream.breaks (Sink.view erred.sink, notes) t) (sym e.changed)
 
   -- The character was taken after its own error, if it is told, and then its line was counted.
-  pub passed : (old erred mid : Tokenizer K) (stream : Stream) (c : ℕ) (result : ProcessResult H) → Erred Sink (owed_for_text old.stream.exact_errors (c ∷ [])) old erred → Took Sink erred mid c result
+  pub passed : (old erred mid : Tokenizer K) (stream : Stream) (c : ℕ) (result : ProcessResult H)
+      → Erred Sink (owed_for_text old.stream.exact_errors (c ∷ [])) old erred → Took Sink erred mid c result
       → stream ≡ record mid.stream { breaks = counted mid.stream.breaks c } → Passed Sink old (record mid { stream = stream }) c result
   passed old erred mid stream c result e h is = rw is (
       let same-stream = ap (λ (k : Tokenizer K). k.stream) e.changed in
@@ -72,20 +83,27 @@ module _ {K H : Type 0} (Sink : Ghosts K H) where
       })
 
   -- The character could not be taken.
-  pub not-passed : {owed : Owed} (old erred mid : Tokenizer K) (c : ℕ) (fault : ParseFault) (result : Result (ProcessResult H) ParseFault) → Erred Sink owed old erred → Keeps Sink erred mid c (Err fault)
+  pub not-passed : {owed : Owed} (old erred mid : Tokenizer K) (c : ℕ) (fault : ParseFault)
+      (result : Result (ProcessResult H) ParseFault) → Erred Sink owed old erred → Keeps Sink erred mid c (Err fault)
       → IsErrAnd result (λ y. y ≡ fault) → Passes Sink old mid c result
   not-passed old erred mid c fault result e h is =
       let p = err_from_is_err_and result is in
-      rw (p.1, p.2) (fell-behind Sink old.sink erred.sink mid.sink e.stays h.0, λ notes t. fails-along Sink old.sink mid.sink _ _ fault (erred-same old erred notes (c ∷ t) e) (fails-before Sink old.sink erred.sink mid.sink _ fault e.stays (h.1 notes t)))
+      rw (p.1, p.2) (
+        fell-behind Sink old.sink erred.sink mid.sink e.stays h.0,
+        λ notes t. fails-along Sink old.sink mid.sink _ _ fault (erred-same old erred notes (c ∷ t) e)
+            (fails-before Sink old.sink erred.sink mid.sink _ fault e.stays (h.1 notes t)),
+      )
 
   -- The error of the character could not be told, so nothing could.
-  pub error-refused : (old mid : Tokenizer K) (c : ℕ) (fault : ParseFault) (result : Result (ProcessResult H) ParseFault) → Errs Sink nothing_owed old mid (Err fault)
+  pub error-refused : (old mid : Tokenizer K) (c : ℕ) (fault : ParseFault)
+      (result : Result (ProcessResult H) ParseFault) → Errs Sink nothing_owed old mid (Err fault)
       → IsErrAnd result (λ y. y ≡ fault) → Passes Sink old mid c result
   error-refused old mid c fault result fails is =
       let p = err_from_is_err_and result is in
       rw (p.1, p.2) (
         fails.0,
         λ notes t.
-            every-fails Sink old.sink mid.sink (Sink.view old.sink) fault (now Sink old old.stream.breaks (Sink.view old.sink, notes) (c ∷ t)) fails.1
+            every-fails Sink old.sink mid.sink (Sink.view old.sink) fault
+            (now Sink old old.stream.breaks (Sink.view old.sink, notes) (c ∷ t)) fails.1
             (λ h. now-refused Sink old old.stream.breaks notes (c ∷ t) h),
       )

@@ -59,9 +59,12 @@ pub mark-chars : (kind : TagKind) (name : List ℕ) → chars (mark kind ++ name
 mark-chars StartTag name = chars-cons 60 name (omega arith)
 mark-chars EndTag name = chars-cons 60 (47 ∷ name) (omega arith) ∙ ap (λ cs. 60 ∷ cs) (chars-cons 47 name (omega arith))
 
-pub cut-behind-if : (bs cs : List ℕ) (b : ℕ) (empty : Bool) → IsUtf8 cs → bs ≡ cs → empty ≡ (length bs == 0) → empty ≡ false → get_or bs 0 0 ≡ b → b < 128 → IsCharBoundary cs 1
+pub cut-behind-if : (bs cs : List ℕ) (b : ℕ) (empty : Bool) → IsUtf8 cs → bs ≡ cs → empty ≡ (length bs == 0)
+    → empty ≡ false → get_or bs 0 0 ≡ b → b < 128 → IsCharBoundary cs 1
 cut-behind-if bs cs b empty u e f g is low = cut-behind cs b u (some-of (length cs) (rw e at (sym f ∙ g))) (rw e at is) low
 
-pub letter-if : (bs cs : List ℕ) (empty : Bool) → bs ≡ cs → empty ≡ (length bs == 0) → empty ≡ false → is_ascii_alphabetic (get_or bs 0 0) ≡ true → BeginsWithLetter (chars cs)
+pub letter-if : (bs cs : List ℕ) (empty : Bool) → bs ≡ cs → empty ≡ (length bs == 0) → empty ≡ false
+    → is_ascii_alphabetic (get_or bs 0 0) ≡ true → BeginsWithLetter (chars cs)
 letter-if bs cs true e f g letter = absurd cc
-letter-if bs cs false e f g letter = let some : (length bs == 0) ≡ false = sym f in letter-chars cs (some-of (length cs) (rw e at some)) (rw e at letter)
+letter-if bs cs false e f g letter = let some : (length bs == 0) ≡ false = sym f in
+    letter-chars cs (some-of (length cs) (rw e at some)) (rw e at letter)

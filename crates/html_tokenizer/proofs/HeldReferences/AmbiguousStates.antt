@@ -53,56 +53,91 @@ value-named front text c h is = is ∙ ap (λ x. front ++ x ∷ []) (sym (shown-
 
 module _ {K H : Type 0} (Sink : Ghosts K H) where
   -- it was told as text where the machine stays
-  told-unknown : {owed : Owed} (old mid : Tokenizer K) (c : ℕ) (st : State) (token : Token) → IsAt old st → may_hold st ≡ true → Sink.is_sound (Sink.view old.sink) → Emitted Sink owed token old mid
+  told-unknown : {owed : Owed} (old mid : Tokenizer K) (c : ℕ) (st : State) (token : Token) → IsAt old st
+      → may_hold st ≡ true → Sink.is_sound (Sink.view old.sink) → Emitted Sink owed token old mid
       → Says Sink st old c owed token (λ b s t. at Sink st old (b + line_break (nat_eq c 10)) s t)
       → Took Sink (record old { char_ref = Some Unknown }) (record mid { char_ref = Some Unknown }) c flow.Continue
   told-unknown old mid c st token from fits ok told law =
-      took-unknown Sink old mid c st from (record { state = ap (λ k. k.state) told.changed ∙ from.state; fresh = ap (λ k. k.char_ref) told.changed ∙ from.fresh }) fits
+      took-unknown Sink old mid c st from (record {
+        state = ap (λ k. k.state) told.changed ∙ from.state;
+        fresh = ap (λ k. k.char_ref) told.changed ∙ from.fresh;
+      }) fits
       (took_told Sink old mid mid old c st st token from ok told told.changed from refl law)
 
   -- it could not be told
-  unknown-failed : (owed : Owed) (old new : Tokenizer K) (c : ℕ) (st : State) (token : Token) (result : Result (ProcessResult H) ParseFault) (fault : ParseFault) → IsAt old st → may_hold st ≡ true → Sink.is_sound (Sink.view old.sink)
-      → IsErrAnd result (λ y. y ≡ fault) → Falls Sink old.sink new.sink (Sink.step (Sink.view old.sink) token (line_number old.stream.breaks)) fault
+  unknown-failed : (owed : Owed) (old new : Tokenizer K) (c : ℕ) (st : State) (token : Token)
+      (result : Result (ProcessResult H) ParseFault) (fault : ParseFault) → IsAt old st → may_hold st ≡ true
+      → Sink.is_sound (Sink.view old.sink)
+      → IsErrAnd result (λ y. y ≡ fault) → Falls Sink old.sink new.sink
+      (Sink.step (Sink.view old.sink) token (line_number old.stream.breaks)) fault
       → Says Sink st old c owed token (λ b s t. at Sink st old (b + line_break (nat_eq c 10)) s t)
       → Keeps Sink (record old { char_ref = Some Unknown }) new c result
   unknown-failed owed old new c st token result fault from fits ok is fails law =
-      keeps-unknown Sink old new c result from.fresh (ap may_hold from.state ∙ fits) (failed Sink owed old new c st token result fault (λ b s t. at Sink st old (b + line_break (nat_eq c 10)) s t) from ok is fails law)
+      keeps-unknown Sink old new c result from.fresh (ap may_hold from.state ∙ fits)
+      (failed Sink owed old new c st token result fault
+      (λ b s t. at Sink st old (b + line_break (nat_eq c 10)) s t) from ok is fails law)
 
-  pub value-more : (kind : AttrValueKind) (old : Tokenizer K) (c : ℕ) (text : List ℕ) → IsAt old (state.AttributeValue kind) → Sink.is_sound (Sink.view old.sink) → is_ascii_alphanumeric c ≡ true → text ≡ old.attribute_value ++ c ∷ []
+  pub value-more : (kind : AttrValueKind) (old : Tokenizer K) (c : ℕ) (text : List ℕ)
+      → IsAt old (state.AttributeValue kind) → Sink.is_sound (Sink.view old.sink) → is_ascii_alphanumeric c ≡ true
+      → text ≡ old.attribute_value ++ c ∷ []
       → Took Sink old (record old { attribute_value = text }) c flow.Continue
-  value-more value.Unquoted old c text from ok named is = unquoted-more Sink old c text from ok (named-no_end c named) (named-apart c 38 named refl) (value-named old.attribute_value text c named is)
-  value-more value.SingleQuoted old c text from ok named is = quoted-more Sink old value.SingleQuoted 39 c text from ok refl (named-apart c 39 named refl) (named-apart c 38 named refl) (value-named old.attribute_value text c named is)
-  value-more value.DoubleQuoted old c text from ok named is = quoted-more Sink old value.DoubleQuoted 34 c text from ok refl (named-apart c 34 named refl) (named-apart c 38 named refl) (value-named old.attribute_value text c named is)
+  value-more value.Unquoted old c text from ok named is = unquoted-more Sink old c text from ok
+      (named-no_end c named) (named-apart c 38 named refl) (value-named old.attribute_value text c named is)
+  value-more value.SingleQuoted old c text from ok named is = quoted-more Sink old value.SingleQuoted 39 c text from
+      ok refl (named-apart c 39 named refl) (named-apart c 38 named refl) (value-named old.attribute_value text c named is)
+  value-more value.DoubleQuoted old c text from ok named is = quoted-more Sink old value.DoubleQuoted 34 c text from
+      ok refl (named-apart c 34 named refl) (named-apart c 38 named refl) (value-named old.attribute_value text c named is)
 
   -- it was put after a value
-  pub value-unknown : (old : Tokenizer K) (kind : AttrValueKind) (c : ℕ) (text : List ℕ) → IsAt old (state.AttributeValue kind) → Sink.is_sound (Sink.view old.sink) → is_ascii_alphanumeric c ≡ true → text ≡ old.attribute_value ++ c ∷ []
+  pub value-unknown : (old : Tokenizer K) (kind : AttrValueKind) (c : ℕ) (text : List ℕ)
+      → IsAt old (state.AttributeValue kind) → Sink.is_sound (Sink.view old.sink) → is_ascii_alphanumeric c ≡ true
+      → text ≡ old.attribute_value ++ c ∷ []
       → Took Sink (record old { char_ref = Some Unknown }) (record old { attribute_value = text; char_ref = Some Unknown }) c flow.Continue
   value-unknown old kind c text from ok named is =
-      took-unknown Sink old (record old { attribute_value = text }) c (state.AttributeValue kind) from (record { state = from.state; fresh = from.fresh }) refl (value-more kind old c text from ok named is)
+      took-unknown Sink old (record old { attribute_value = text }) c (state.AttributeValue kind) from
+      (record { state = from.state; fresh = from.fresh }) refl (value-more kind old c text from ok named is)
 
 module _ {K H : Type 0} (Sink : Ghosts K H) (laws : SinkLaws Sink.is_sound Sink.step Sink.ended Sink.is_quiet) where
-  data-named : (old : Tokenizer K) (c : ℕ) → is_ascii_alphanumeric c ≡ true → Says Sink state.Data old c nothing_owed (CharacterTokens (c ∷ [])) (λ b s t. at Sink state.Data old (b + line_break (nat_eq c 10)) s t)
-  data-named old c named = let held = named-held c named in data-char Sink laws old c (held-no_open c held) (held-no_reference c held) (held-no_null c held)
+  data-named : (old : Tokenizer K) (c : ℕ) → is_ascii_alphanumeric c ≡ true
+      → Says Sink state.Data old c nothing_owed (CharacterTokens (c ∷ []))
+      (λ b s t. at Sink state.Data old (b + line_break (nat_eq c 10)) s t)
+  data-named old c named = let held = named-held c named in data-char Sink laws old c (held-no_open c held)
+      (held-no_reference c held) (held-no_null c held)
 
   -- in data
-  pub data-unknown : (old mid : Tokenizer K) (c : ℕ) → IsAt old state.Data → Sink.is_sound (Sink.view old.sink) → is_ascii_alphanumeric c ≡ true → Emitted Sink nothing_owed (CharacterTokens (c ∷ [])) old mid
+  pub data-unknown : (old mid : Tokenizer K) (c : ℕ) → IsAt old state.Data → Sink.is_sound (Sink.view old.sink)
+      → is_ascii_alphanumeric c ≡ true → Emitted Sink nothing_owed (CharacterTokens (c ∷ [])) old mid
       → Took Sink (record old { char_ref = Some Unknown }) (record mid { char_ref = Some Unknown }) c flow.Continue
-  data-unknown old mid c from ok named told = told-unknown Sink old mid c state.Data (CharacterTokens (c ∷ [])) from refl ok told (data-named old c named)
+  data-unknown old mid c from ok named told = told-unknown Sink old mid c state.Data (CharacterTokens (c ∷ [])) from
+      refl ok told (data-named old c named)
 
-  pub data-unknown_failed : (old new : Tokenizer K) (c : ℕ) (result : Result (ProcessResult H) ParseFault) (fault : ParseFault) → IsAt old state.Data → Sink.is_sound (Sink.view old.sink) → is_ascii_alphanumeric c ≡ true
-      → IsErrAnd result (λ y. y ≡ fault) → Falls Sink old.sink new.sink (Sink.step (Sink.view old.sink) (CharacterTokens (c ∷ [])) (line_number old.stream.breaks)) fault
+  pub data-unknown_failed : (old new : Tokenizer K) (c : ℕ) (result : Result (ProcessResult H) ParseFault)
+      (fault : ParseFault) → IsAt old state.Data → Sink.is_sound (Sink.view old.sink) → is_ascii_alphanumeric c ≡ true
+      → IsErrAnd result (λ y. y ≡ fault) → Falls Sink old.sink new.sink
+      (Sink.step (Sink.view old.sink) (CharacterTokens (c ∷ [])) (line_number old.stream.breaks)) fault
       → Keeps Sink (record old { char_ref = Some Unknown }) new c result
-  data-unknown_failed old new c result fault from ok named is fails = unknown-failed Sink nothing_owed old new c state.Data (CharacterTokens (c ∷ [])) result fault from refl ok is fails (data-named old c named)
+  data-unknown_failed old new c result fault from ok named is fails = unknown-failed Sink nothing_owed old new c
+      state.Data (CharacterTokens (c ∷ [])) result fault from refl ok is fails (data-named old c named)
 
-  rcdata-named : (old : Tokenizer K) (c : ℕ) → is_ascii_alphanumeric c ≡ true → Says Sink (state.RawData raw.Rcdata) old c (owed_for (grave_if (nat_eq c 0))) (CharacterTokens (shown c ∷ [])) (λ b s t. at Sink (state.RawData raw.Rcdata) old (b + line_break (nat_eq c 10)) s t)
-  rcdata-named old c named = let held = named-held c named in shown-says Sink laws old raw.Rcdata c (held-no_open c held) (held-no_reference c held) (named-no_dash c named)
+  rcdata-named : (old : Tokenizer K) (c : ℕ) → is_ascii_alphanumeric c ≡ true → Says Sink (state.RawData raw.Rcdata)
+      old c (owed_for (grave_if (nat_eq c 0))) (CharacterTokens (shown c ∷ []))
+      (λ b s t. at Sink (state.RawData raw.Rcdata) old (b + line_break (nat_eq c 10)) s t)
+  rcdata-named old c named = let held = named-held c named in shown-says Sink laws old raw.Rcdata c
+      (held-no_open c held) (held-no_reference c held) (named-no_dash c named)
 
   -- in text with references that only its end tag ends
-  pub rcdata-unknown : (old mid : Tokenizer K) (c : ℕ) → IsAt old (state.RawData raw.Rcdata) → Sink.is_sound (Sink.view old.sink) → is_ascii_alphanumeric c ≡ true → Emitted Sink (owed_for (grave_if (nat_eq c 0))) (CharacterTokens (shown c ∷ [])) old mid
+  pub rcdata-unknown : (old mid : Tokenizer K) (c : ℕ) → IsAt old (state.RawData raw.Rcdata)
+      → Sink.is_sound (Sink.view old.sink) → is_ascii_alphanumeric c ≡ true
+      → Emitted Sink (owed_for (grave_if (nat_eq c 0))) (CharacterTokens (shown c ∷ [])) old mid
       → Took Sink (record old { char_ref = Some Unknown }) (record mid { char_ref = Some Unknown }) c flow.Continue
-  rcdata-unknown old mid c from ok named told = told-unknown Sink old mid c (state.RawData raw.Rcdata) (CharacterTokens (shown c ∷ [])) from refl ok told (rcdata-named old c named)
+  rcdata-unknown old mid c from ok named told = told-unknown Sink old mid c (state.RawData raw.Rcdata)
+      (CharacterTokens (shown c ∷ [])) from refl ok told (rcdata-named old c named)
 
-  pub rcdata-unknown_failed : (old new : Tokenizer K) (c : ℕ) (result : Result (ProcessResult H) ParseFault) (fault : ParseFault) → IsAt old (state.RawData raw.Rcdata) → Sink.is_sound (Sink.view old.sink) → is_ascii_alphanumeric c ≡ true
-      → IsErrAnd result (λ y. y ≡ fault) → Falls Sink old.sink new.sink (Sink.step (Sink.view old.sink) (CharacterTokens (shown c ∷ [])) (line_number old.stream.breaks)) fault
+  pub rcdata-unknown_failed : (old new : Tokenizer K) (c : ℕ) (result : Result (ProcessResult H) ParseFault)
+      (fault : ParseFault) → IsAt old (state.RawData raw.Rcdata) → Sink.is_sound (Sink.view old.sink) → is_ascii_alphanumeric c ≡ true
+      → IsErrAnd result (λ y. y ≡ fault) → Falls Sink old.sink new.sink
+      (Sink.step (Sink.view old.sink) (CharacterTokens (shown c ∷ [])) (line_number old.stream.breaks)) fault
       → Keeps Sink (record old { char_ref = Some Unknown }) new c result
-  rcdata-unknown_failed old new c result fault from ok named is fails = unknown-failed Sink (owed_for (grave_if (nat_eq c 0))) old new c (state.RawData raw.Rcdata) (CharacterTokens (shown c ∷ [])) result fault from refl ok is fails (rcdata-named old c named)
+  rcdata-unknown_failed old new c result fault from ok named is fails = unknown-failed Sink
+      (owed_for (grave_if (nat_eq c 0))) old new c (state.RawData raw.Rcdata) (CharacterTokens (shown c ∷ []))
+      result fault from refl ok is fails (rcdata-named old c named)

@@ -17,7 +17,8 @@ use Rattle.html_tokenizer.proofs.Errors.Rises.{rises-same}
 
 module _ {K H : Type 0} (Sink : Ghosts K H) where
   -- The character is taken, which ends no line, and the machine stands in st'.
-  pub took_here : (old new : Tokenizer K) (c : ℕ) (st st' : State) → IsAt old st → IsAt new st' → new.stream ≡ old.stream → new.sink ≡ old.sink → Sink.is_sound (Sink.view old.sink) → nat_eq c 10 ≡ false
+  pub took_here : (old new : Tokenizer K) (c : ℕ) (st st' : State) → IsAt old st → IsAt new st'
+      → new.stream ≡ old.stream → new.sink ≡ old.sink → Sink.is_sound (Sink.view old.sink) → nat_eq c 10 ≡ false
       → ((b : ℕ) (s : Sink.State × Notes ℕ) (t : List ℕ) → at Sink st old b s (c ∷ t) ≡ at Sink st' new b s t)
       → Took Sink old new c flow.Continue
   took_here old new c st st' from to stream same ok unbroken law =
@@ -26,7 +27,8 @@ module _ {K H : Type 0} (Sink : Ghosts K H) where
 
   -- "&" is taken, and with it a reference may begin.
   pub took_reference : (old : Tokenizer K) (st : State) → IsAt old st → may_hold st ≡ true → Sink.is_sound (Sink.view old.sink)
-      → ((b : ℕ) (s : Sink.State × Notes ℕ) (t : List ℕ) → at Sink st (record old { char_ref = Some (Held []) }) b s t ≡ at Sink st old b s t)
+      → ((b : ℕ) (s : Sink.State × Notes ℕ) (t : List ℕ) → at Sink st (record old { char_ref = Some (Held []) }) b s
+      t ≡ at Sink st old b s t)
       → Took Sink old (record old { char_ref = Some (Held []) }) 38 flow.Continue
   took_reference old st from fits ok same =
       let new = record old { char_ref = Some (Held []) } in
@@ -46,7 +48,8 @@ module _ {K H : Type 0} (Sink : Ghosts K H) where
       }
 
   -- What is noted of a character that is odd here is the same where something slight was noted before.
-  pub absorbs_odd : (old : Tokenizer K) (c : ℕ) (st : State) (odd : Bool) (next : ℕ → Sink.State × Notes ℕ → List ℕ → Result (Sink.State × Notes ℕ) (Refusal × ℕ)) → IsAt old st → odd ≡ true
+  pub absorbs_odd : (old : Tokenizer K) (c : ℕ) (st : State) (odd : Bool) (next : ℕ → Sink.State × Notes ℕ → List ℕ
+      → Result (Sink.State × Notes ℕ) (Refusal × ℕ)) → IsAt old st → odd ≡ true
       → ((b : ℕ) (s : Sink.State × Notes ℕ) (t : List ℕ) → at Sink st old b s (c ∷ t) ≡ next b (erred_by noting_error (slight_if odd) s) t)
       → Absorbs Sink old c
   absorbs_odd old c st odd next from is law = state-absorbs Sink old c st from (λ b s t.

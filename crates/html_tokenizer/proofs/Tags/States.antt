@@ -42,7 +42,8 @@ module _ {K H : Type 0} (Sink : Ghosts K H) where
       → Took Sink old (record old { state = state.BeforeAttributeName }) c flow.Continue
   unfolding held_at
   tag_name-space old c from ok e =
-      took Sink old (record old { state = state.BeforeAttributeName }) c state.TagName state.BeforeAttributeName from (record { state = refl; fresh = from.fresh }) refl refl ok
+      took Sink old (record old { state = state.BeforeAttributeName }) c state.TagName state.BeforeAttributeName
+      from (record { state = refl; fresh = from.fresh }) refl refl ok
       (λ b s t. name-end (listening Sink) (rows_of old) (standing old InData) old.tag b s c t (ends-space c e)
       ∙ tag-space (listening Sink) (rows_of old) (standing old InData) old.tag b s c t e)
 
@@ -50,10 +51,12 @@ module _ {K H : Type 0} (Sink : Ghosts K H) where
       → Took Sink old (record old { state = state.SelfClosingStartTag }) c flow.Continue
   unfolding held_at
   tag_name-slash old c from ok e = rw e (
-      took_here Sink old (record old { state = state.SelfClosingStartTag }) 47 state.TagName state.SelfClosingStartTag from (record { state = refl; fresh = from.fresh }) refl refl ok refl
+      took_here Sink old (record old { state = state.SelfClosingStartTag }) 47 state.TagName
+      state.SelfClosingStartTag from (record { state = refl; fresh = from.fresh }) refl refl ok refl
       (λ b s t. name-end (listening Sink) (rows_of old) (standing old InData) old.tag b s 47 t refl))
 
-  pub tag_name-close : (old new : Tokenizer K) (c : ℕ) (result : Result (ProcessResult H) ParseFault) → IsAt old state.TagName → Sink.is_sound (Sink.view old.sink) → c ≡ 62
+  pub tag_name-close : (old new : Tokenizer K) (c : ℕ) (result : Result (ProcessResult H) ParseFault)
+      → IsAt old state.TagName → Sink.is_sound (Sink.view old.sink) → c ≡ 62
       → EndsTag Sink old new result → Keeps Sink old new c result
   unfolding held_at
   tag_name-close old new c result from ok e h = rw e (
@@ -62,30 +65,39 @@ module _ {K H : Type 0} (Sink : Ghosts K H) where
       ∙ tag-end (listening Sink) (rows_of old) (standing old InData) old.tag b s t
       ∙ noted-tag Sink old old.tag (after_tag (standing old InData) old.tag) b s t) ok)
 
-  pub tag_name-more : (old : Tokenizer K) (c : ℕ) (name : List ℕ) → IsAt old state.TagName → Sink.is_sound (Sink.view old.sink) → is_white_space c ≡ false → c ≢ 47 → c ≢ 62 → name ≡ old.tag.name ++ lowered c ∷ []
+  pub tag_name-more : (old : Tokenizer K) (c : ℕ) (name : List ℕ) → IsAt old state.TagName
+      → Sink.is_sound (Sink.view old.sink) → is_white_space c ≡ false → c ≢ 47 → c ≢ 62 → name ≡ old.tag.name ++ lowered c ∷ []
       → Took Sink old (record old { tag = record old.tag { name = name } }) c flow.Continue
   unfolding held_at
   tag_name-more old c name from ok e f g is = rw is (
-      took_odd Sink (is_null c) old (record old { tag = record old.tag { name = old.tag.name ++ lowered c ∷ [] } }) c state.TagName state.TagName from (record { state = from.state; fresh = from.fresh }) refl refl ok
+      took_odd Sink (is_null c) old (record old { tag = record old.tag { name = old.tag.name ++ lowered c ∷ [] } })
+      c state.TagName state.TagName from (record { state = from.state; fresh = from.fresh }) refl refl ok
       (λ b s t. name-more (listening Sink) (rows_of old) slight-absorbed (standing old InData) old.tag b s c t (ends-none c e f g)))
 
-  pub slash-close : (old new : Tokenizer K) (c : ℕ) (result : Result (ProcessResult H) ParseFault) → IsAt old state.SelfClosingStartTag → Sink.is_sound (Sink.view old.sink) → c ≡ 62
+  pub slash-close : (old new : Tokenizer K) (c : ℕ) (result : Result (ProcessResult H) ParseFault)
+      → IsAt old state.SelfClosingStartTag → Sink.is_sound (Sink.view old.sink) → c ≡ 62
       → EndsTag Sink (record old { tag = record old.tag { self_closing = true } }) new result → Keeps Sink old new c result
   unfolding held_at
   slash-close old new c result from ok e h =
       let closed = record old { tag = record old.tag { self_closing = true } } in
       let at_closed : IsAt closed state.SelfClosingStartTag = record { state = from.state; fresh = from.fresh } in
-      let law = λ (k : Tokenizer K) (b : ℕ) (s : Sink.State × Notes ℕ) (t : List ℕ). tag-slash_end (listening Sink) (rows_of k) (standing k InData) k.tag b s t in
+      let law = λ (k : Tokenizer K) (b : ℕ) (s : Sink.State × Notes ℕ) (t : List ℕ). tag-slash_end (listening Sink)
+      (rows_of k) (standing k InData) k.tag b s t in
       rw e (
-      keeps_silent Sink old closed new 62 state.SelfClosingStartTag state.SelfClosingStartTag result from at_closed refl refl (λ b s t. law old b s t ∙ sym (law closed b s t))
-      (took_tag Sink closed new 62 state.SelfClosingStartTag result at_closed refl h (λ b s x t. law closed b s t ∙ noted-tag Sink closed closed.tag (after_tag (standing closed InData) closed.tag) b s t) ok))
+      keeps_silent Sink old closed new 62 state.SelfClosingStartTag state.SelfClosingStartTag result from at_closed
+      refl refl (λ b s t. law old b s t ∙ sym (law closed b s t))
+      (took_tag Sink closed new 62 state.SelfClosingStartTag result at_closed refl h
+      (λ b s x t. law closed b s t ∙ noted-tag Sink closed closed.tag (after_tag (standing closed InData) closed.tag) b s t) ok))
 
-  pub slash-other : (old new : Tokenizer K) (c : ℕ) (result : Result (ProcessResult H) ParseFault) → IsAt old state.SelfClosingStartTag → c ≢ 62
+  pub slash-other : (old new : Tokenizer K) (c : ℕ) (result : Result (ProcessResult H) ParseFault)
+      → IsAt old state.SelfClosingStartTag → c ≢ 62
       → Keeps Sink (record old { state = state.BeforeAttributeName }) new c result → Keeps Sink old new c result
   unfolding held_at
   slash-other old new c result from ne h =
-      keeps_odd Sink true old (record old { state = state.BeforeAttributeName }) new c state.SelfClosingStartTag state.BeforeAttributeName result from (record { state = refl; fresh = from.fresh }) refl refl
-      (λ b s t. tag-slash (listening Sink) (rows_of old) slight-absorbed (standing old InData) old.tag b s c t (ne_eqb 62 c (λ e. ne (sym e)))) h
+      keeps_odd Sink true old (record old { state = state.BeforeAttributeName }) new c state.SelfClosingStartTag
+      state.BeforeAttributeName result from (record { state = refl; fresh = from.fresh }) refl refl
+      (λ b s t. tag-slash (listening Sink) (rows_of old) slight-absorbed (standing old InData) old.tag b s c t
+      (ne_eqb 62 c (λ e. ne (sym e)))) h
 
   -- U+0000 in a tag's name is odd
   pub tag_name-absorbs : (old : Tokenizer K) (c : ℕ) → IsAt old state.TagName → is_null c ≡ true → Absorbs Sink old c

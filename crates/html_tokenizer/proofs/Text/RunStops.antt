@@ -8,7 +8,8 @@ use Rattle.html_tokenizer.specs.declared.tokenizer.Tokenizer.{Tokenizer}
 use Rattle.html_tokenizer.specs.Steps.{IsAt}
 
 -- where runs are read, nothing is awaited after "&"
-stops-fresh : (exact : Bool) (char_ref : Option Ampersand) (st : State) (set : SmallCharSet) → stops_of exact char_ref st ≡ Some set → (char_ref ≡ None) × (state_stops st ≡ Some set)
+stops-fresh : (exact : Bool) (char_ref : Option Ampersand) (st : State) (set : SmallCharSet)
+    → stops_of exact char_ref st ≡ Some set → (char_ref ≡ None) × (state_stops st ≡ Some set)
 stops-fresh true char_ref st set are = absurd cc
 stops-fresh false None st set are = (refl, are)
 stops-fresh false (Some held) st set are = absurd cc

@@ -31,7 +31,8 @@ all-pass p q f (c ∷ w) h =
 
 module _ {T : Type 0} (to : Listener T) (rows : List Row) where
   -- an item after characters that end no line
-  pub play-inline : (cs t : List ℕ) (j : Item) (b : ℕ) (s : T) → list_all is_inline cs ≡ true → emitted_item to rows (longer_by (length cs) j) b s (cs ++ t) ≡ emitted_item to rows j b s t
+  pub play-inline : (cs t : List ℕ) (j : Item) (b : ℕ) (s : T) → list_all is_inline cs ≡ true → emitted_item to rows
+      (longer_by (length cs) j) b s (cs ++ t) ≡ emitted_item to rows j b s t
   play-inline [] t j b s h = refl
   play-inline (c ∷ cs) t j b s h =
       let p = and_parts (is_inline c) (list_all is_inline cs) h in

@@ -1,5 +1,6 @@
 -- "<" in raw text, and the front of an end tag after it: the rest of the name and ">" make it whole, where an end tag ends the text.
-use Rattle.std.proofs.Common.{◌≡◌, ◌∙◌, ℕ, zero, suc, ◌<◌, length, Bool, true, false, nat_eq, List, [], ◌∷◌, ◌++◌, take, Option, Some, None, refl, sym, ap, arith, append_assoc, length-append}
+use Rattle.std.proofs.Common.{◌≡◌, ◌∙◌, ℕ, zero, suc, ◌<◌, length, Bool, true, false, nat_eq, List, [], ◌∷◌, ◌++◌, take, Option}
+use Rattle.std.proofs.Common.{Some, None, refl, sym, ap, arith, append_assoc, length-append}
 use Rattle.std.specs.Char.{is_ascii_alphabetic, to_ascii_lowercase}
 use Rattle.std.specs.List.{list_all}
 use Rattle.std.proofs.lemmas.Bool.{eqb-true}
@@ -39,14 +40,16 @@ all-behind p [] b h = h
 all-behind p (c ∷ a) b h = all-behind p a b (and_parts (p c) (list_all p (a ++ b)) h).1
 
 -- a word that is a name of letters in any case has letters alone
-same-letters : (name word : List ℕ) → list_all is_ascii_alphabetic name ≡ true → same_any_case name word ≡ true → list_all is_ascii_alphabetic word ≡ true
+same-letters : (name word : List ℕ) → list_all is_ascii_alphabetic name ≡ true → same_any_case name word ≡ true
+    → list_all is_ascii_alphabetic word ≡ true
 same-letters [] [] l h = refl
 same-letters [] (d ∷ word) l h = absurd cc
 same-letters (c ∷ name) [] l h = absurd cc
 same-letters (c ∷ name) (d ∷ word) l h =
     let p = and_parts (is_ascii_alphabetic c) (list_all is_ascii_alphabetic name) l in
     let q = and_parts (nat_eq (to_ascii_lowercase c) (to_ascii_lowercase d)) (same_any_case name word) h in
-    and_both (is_ascii_alphabetic d) (list_all is_ascii_alphabetic word) (letter-of d c p.0 (sym (eqb-true (to_ascii_lowercase c) (to_ascii_lowercase d) q.0))) (same-letters name word p.1 q.1)
+    and_both (is_ascii_alphabetic d) (list_all is_ascii_alphabetic word)
+    (letter-of d c p.0 (sym (eqb-true (to_ascii_lowercase c) (to_ascii_lowercase d) q.0))) (same-letters name word p.1 q.1)
 
 -- and ends raw text before ">"
 word-ends : (name word : List ℕ) → is_letters name ≡ true → same_any_case name word ≡ true → ends_raw_text (Some name) word 62 ≡ true
@@ -64,11 +67,26 @@ record Ending (name front : List ℕ) : Type 0 where
   same : same_any_case name word ≡ true
 
 ending : (name front : List ℕ) → is_letters name ≡ true → BeginsEndTag (Some name) front → Ending name front
-ending name [] l begins = record { more = 47 ∷ name; word = name; whole = refl; inline = letters-inline name (letters-of name l); letters = letters-of name l; same = same-itself name }
-ending name (c ∷ []) l begins = record { more = name; word = name; whole = ap (λ c. c ∷ name) begins.0; inline = letters-inline name (letters-of name l); letters = letters-of name l; same = same-itself name }
+ending name [] l begins = record {
+  more = 47 ∷ name;
+  word = name;
+  whole = refl;
+  inline = letters-inline name (letters-of name l);
+  letters = letters-of name l;
+  same = same-itself name;
+}
+ending name (c ∷ []) l begins = record {
+  more = name;
+  word = name;
+  whole = ap (λ c. c ∷ name) begins.0;
+  inline = letters-inline name (letters-of name l);
+  letters = letters-of name l;
+  same = same-itself name;
+}
 ending name (c ∷ d ∷ cs) l begins =
     let rest : BeginsName name (d ∷ cs) = begins.1 in
-    let all : list_all is_ascii_alphabetic ((d ∷ cs) ++ rest.more) ≡ true = same-letters name ((d ∷ cs) ++ rest.more) (letters-of name l) rest.whole in
+    let all : list_all is_ascii_alphabetic ((d ∷ cs) ++ rest.more) ≡ true = same-letters name
+    ((d ∷ cs) ++ rest.more) (letters-of name l) rest.whole in
     record {
       more = rest.more;
       word = (d ∷ cs) ++ rest.more;
@@ -101,7 +119,9 @@ silent-behind zero st = refl
 silent-behind (suc n) st = ap longer (silent-behind n st)
 
 -- a name of letters before ">"
-name-read : (st : Stand) (tag : Tag) (word t : List ℕ) → list_all is_ascii_alphabetic word ≡ true → name_after st tag (word ++ 62 ∷ t) ≡ longer_by (length word) (silent 0 (moved st (InTag (record tag { name = tag.name ++ all_lowered word }))))
+name-read : (st : Stand) (tag : Tag) (word t : List ℕ) → list_all is_ascii_alphabetic word ≡ true
+    → name_after st tag (word ++ 62 ∷ t) ≡ longer_by (length word)
+    (silent 0 (moved st (InTag (record tag { name = tag.name ++ all_lowered word }))))
 name-read st tag word t h =
     let u = word ++ 62 ∷ t in
     let next : List ℕ → Stand = λ w. moved st (InTag (record tag { name = tag.name ++ all_lowered w })) in
@@ -116,19 +136,24 @@ ends-later st tag [] = refl
 ends-later st tag (c ∷ w) = ap longer (ends-later st tag w)
 
 spelled : (front more word t : List ℕ) → front ++ more ≡ 47 ∷ word → front ++ ((more ++ 62 ∷ []) ++ t) ≡ 47 ∷ (word ++ 62 ∷ t)
-spelled front more word t e = ap (λ u. front ++ u) (append_assoc more (62 ∷ []) t) ∙ sym (append_assoc front more (62 ∷ t)) ∙ ap (λ u. u ++ 62 ∷ t) e
+spelled front more word t e = ap (λ u. front ++ u) (append_assoc more (62 ∷ []) t)
+    ∙ sym (append_assoc front more (62 ∷ t)) ∙ ap (λ u. u ++ 62 ∷ t) e
 
 some-text : (w : List ℕ) → 0 < length (w ++ 62 ∷ [])
 some-text w = omega (arith, length-append w (62 ∷ []))
 
 module _ {T : Type 0} (to : Listener T) (rows : List Row) where
   -- the fitting end tag
-  end_tag-closed : (st : Stand) (kind : RawKind) (word : List ℕ) (b : ℕ) (s : T) (t : List ℕ) → list_all is_ascii_alphabetic word ≡ true → st.place ≡ InRaw kind → ends_at_tag kind ≡ true → is_fitting_end st.last_start_tag (47 ∷ (word ++ 62 ∷ t)) ≡ true
-      → emitted_text to rows st b s (60 ∷ 47 ∷ (word ++ 62 ∷ t)) ≡ emitted_item to rows (tag_end st (named EndTag (all_lowered word)) 1) b s (62 ∷ t)
+  end_tag-closed : (st : Stand) (kind : RawKind) (word : List ℕ) (b : ℕ) (s : T) (t : List ℕ)
+      → list_all is_ascii_alphabetic word ≡ true → st.place ≡ InRaw kind → ends_at_tag kind ≡ true
+      → is_fitting_end st.last_start_tag (47 ∷ (word ++ 62 ∷ t)) ≡ true
+      → emitted_text to rows st b s (60 ∷ 47 ∷ (word ++ 62 ∷ t)) ≡ emitted_item to rows
+      (tag_end st (named EndTag (all_lowered word)) 1) b s (62 ∷ t)
   end_tag-closed st kind word b s t w place e fits =
       let tag : Tag = named EndTag (all_lowered word) in
       let name : Item = longer_by (length word) (silent 0 (moved st (InTag tag))) in
-      reading-is to rows st b s 60 (47 ∷ (word ++ 62 ∷ t)) (longer name) (rw (place, e, fits) (ap (λ i. longer (longer i)) (name-read st (named EndTag []) word t w)))
+      reading-is to rows st b s 60 (47 ∷ (word ++ 62 ∷ t)) (longer name)
+      (rw (place, e, fits) (ap (λ i. longer (longer i)) (name-read st (named EndTag []) word t w)))
       ∙ ap (λ n. emitted_item to rows (longer name) n s (47 ∷ (word ++ 62 ∷ t))) (sum-zero b)
       ∙ play-is to rows (longer name) name b s 47 (word ++ 62 ∷ t) refl
       ∙ ap (λ n. emitted_item to rows name n s (word ++ 62 ∷ t)) (sum-zero b)
@@ -140,9 +165,11 @@ module _ {T : Type 0} (to : Listener T) (rows : List Row) where
 module _ (T : Type 0) {K : Type 0} (k : Tokenizer K) where
   -- "<" and this text are held
   abbrev HoldsOpen : State → RawKind → List ℕ → Type 0
-  HoldsOpen st kind front = (to : Listener T) (b : ℕ) (s : T) (t : List ℕ) → held_at to st k b s t ≡ read_at to (InRaw kind) k b s (60 ∷ (front ++ t))
+  HoldsOpen st kind front = (to : Listener T) (b : ℕ) (s : T) (t : List ℕ) → held_at to st k b s t ≡ read_at to
+      (InRaw kind) k b s (60 ∷ (front ++ t))
 
-  ended-front : (st : State) (kind : RawKind) (front name : List ℕ) → HoldsOpen st kind front → k.raw_end.name ≡ Some name → ends_at_tag kind ≡ true → is_letters name ≡ true → BeginsEndTag (Some name) front → Untold T st k
+  ended-front : (st : State) (kind : RawKind) (front name : List ℕ) → HoldsOpen st kind front
+      → k.raw_end.name ≡ Some name → ends_at_tag kind ≡ true → is_letters name ≡ true → BeginsEndTag (Some name) front → Untold T st k
   ended-front st kind front name same is e l begins =
       let end : Ending name front = ending name front l begins in
       let tag : Tag = named EndTag (all_lowered end.word) in
@@ -157,18 +184,21 @@ module _ (T : Type 0) {K : Type 0} (k : Tokenizer K) where
             same to b s (text ++ t)
             ∙ ap (λ u. read_at to (InRaw kind) k b s (60 ∷ u)) (spelled front end.more end.word t end.whole)
             ∙ end_tag-closed to (rows_of k) (standing k (InRaw kind)) kind end.word b s t end.letters refl e
-            (ap (λ last. is_fitting_end last (47 ∷ (end.word ++ 62 ∷ t))) is ∙ fitting-word (Some name) end.word 62 t end.letters refl ∙ word-ends name end.word l end.same)
+            (ap (λ last. is_fitting_end last (47 ∷ (end.word ++ 62 ∷ t))) is ∙ fitting-word (Some name) end.word 62
+            t end.letters refl ∙ word-ends name end.word l end.same)
             ∙ sym (play-inline to (rows_of k) end.more (62 ∷ t) (tag_end (standing k InData) tag 1) b s end.inline)
             ∙ ap (λ i. played to i k b s (end.more ++ 62 ∷ t)) (ends-later (standing k InData) tag end.more)
             ∙ ap (λ u. played to (tag_end (standing k InData) tag (length text)) k b s u) (sym (append_assoc end.more (62 ∷ []) t));
       })
 
-  open-by : (st : State) (kind : RawKind) (front : List ℕ) (last : Option (List ℕ)) (ends : Bool) → HoldsOpen st kind front → k.raw_end.name ≡ last → has_end kind last ≡ ends → BeginsEndTag last front → Untold T st k
+  open-by : (st : State) (kind : RawKind) (front : List ℕ) (last : Option (List ℕ)) (ends : Bool)
+      → HoldsOpen st kind front → k.raw_end.name ≡ last → has_end kind last ≡ ends → BeginsEndTag last front → Untold T st k
   open-by st kind front (Some name) true same is e begins =
       let p = and_parts (ends_at_tag kind) (is_letters name) e in
       ended-front st kind front name same is p.0 p.1 begins
   open-by st kind front None true same is e begins = absurd cc
-  open-by st kind front last false same is e begins = Unended (record { kind = kind; front = front; begins = rw is begins; endless = rw is e; same = same })
+  open-by st kind front last false same is e begins =
+      Unended (record { kind = kind; front = front; begins = rw is begins; endless = rw is e; same = same })
 
   open-untold : (st : State) (kind : RawKind) (front : List ℕ) → HoldsOpen st kind front → BeginsEndTag k.raw_end.name front → Untold T st k
   open-untold st kind front same begins = open-by st kind front k.raw_end.name (has_end kind k.raw_end.name) same refl refl begins
@@ -178,7 +208,9 @@ module _ (T : Type 0) {K : Type 0} (k : Tokenizer K) where
   less_than-untold raw.Rcdata = open-untold (state.RawLessThanSign raw.Rcdata) raw.Rcdata [] (λ to b s t. refl) tt
   less_than-untold raw.Rawtext = open-untold (state.RawLessThanSign raw.Rawtext) raw.Rawtext [] (λ to b s t. refl) tt
   less_than-untold raw.ScriptData = open-untold (state.RawLessThanSign raw.ScriptData) raw.ScriptData [] (λ to b s t. refl) tt
-  less_than-untold (raw.ScriptDataEscaped script.Escaped) = open-untold (state.RawLessThanSign (raw.ScriptDataEscaped script.Escaped)) (raw.ScriptDataEscaped script.Escaped) [] (λ to b s t. refl) tt
+  less_than-untold (raw.ScriptDataEscaped script.Escaped) =
+      open-untold (state.RawLessThanSign (raw.ScriptDataEscaped script.Escaped))
+      (raw.ScriptDataEscaped script.Escaped) [] (λ to b s t. refl) tt
   less_than-untold (raw.ScriptDataEscaped script.DoubleEscaped) = less_than-told T k
 
   pub end_open-untold : (kind : RawKind) → Untold T (state.RawEndTagOpen kind) k

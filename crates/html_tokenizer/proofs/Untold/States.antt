@@ -5,12 +5,23 @@ use Rattle.html_tokenizer.specs.declared.tokenizer.Tokenizer.{Tokenizer}
 use Rattle.html_tokenizer_parts.specs.Keywords.{IsPart}
 use Rattle.html_tokenizer.specs.Untold.{Untold}
 use Rattle.html_tokenizer_parts.specs.Words.{BeginsEnd}
-use Rattle.html_tokenizer.proofs.Untold.Markup.{open-front, end_open-front, declaration-front, bogus-front, comment_start-front, comment_start_dash-front, comment-front, comment_less_than-front, comment_bang-front, comment_bang_dash-front, comment_bang_dashes-front, comment_end_dash-front, comment_end-front, comment_end_bang-front, doctype-front, before_doctype-front, doctype_name-front, after_doctype_name-front, keyword-front, before_identifier-front, double_quoted-front, single_quoted-front, after_identifier-front, between-front, bogus_doctype-front}
+use Rattle.html_tokenizer.proofs.Untold.Markup.{open-front, end_open-front, declaration-front, bogus-front, comment_start-front}
+use Rattle.html_tokenizer.proofs.Untold.Markup.{comment_start_dash-front, comment-front, comment_less_than-front}
+use Rattle.html_tokenizer.proofs.Untold.Markup.{comment_bang-front, comment_bang_dash-front, comment_bang_dashes-front}
+use Rattle.html_tokenizer.proofs.Untold.Markup.{comment_end_dash-front, comment_end-front, comment_end_bang-front}
+use Rattle.html_tokenizer.proofs.Untold.Markup.{doctype-front, before_doctype-front, doctype_name-front}
+use Rattle.html_tokenizer.proofs.Untold.Markup.{after_doctype_name-front, keyword-front, before_identifier-front}
+use Rattle.html_tokenizer.proofs.Untold.Markup.{double_quoted-front, single_quoted-front, after_identifier-front, between-front}
+use Rattle.html_tokenizer.proofs.Untold.Markup.{bogus_doctype-front}
 use Rattle.html_tokenizer.proofs.Untold.RawText.{less_than-untold, end_open-untold, end_name-untold}
-use Rattle.html_tokenizer.proofs.Untold.Tags.{tag_name-front, before_name-front, name-front, after_name-front, before_value-front, value-front, after_value-front, self_closing-front}
-use Rattle.html_tokenizer.proofs.Untold.Text.{data-told, plaintext-told, raw-told, escape_start-told, escape_start_dash-told, escaped_dash-told, escaped_dash_dash-told, double_escape_end-told, cdata-told, bracket-front, brackets-front}
+use Rattle.html_tokenizer.proofs.Untold.Tags.{tag_name-front, before_name-front, name-front, after_name-front}
+use Rattle.html_tokenizer.proofs.Untold.Tags.{before_value-front, value-front, after_value-front, self_closing-front}
+use Rattle.html_tokenizer.proofs.Untold.Text.{data-told, plaintext-told, raw-told, escape_start-told, escape_start_dash-told}
+use Rattle.html_tokenizer.proofs.Untold.Text.{escaped_dash-told, escaped_dash_dash-told, double_escape_end-told, cdata-told}
+use Rattle.html_tokenizer.proofs.Untold.Text.{bracket-front, brackets-front}
 
-pub untold : (T : Type 0) {K : Type 0} (k : Tokenizer K) (st : State) → IsPart k.keyword → BeginsEnd k.raw_end.name k.raw_end.letters → Untold T st k
+pub untold : (T : Type 0) {K : Type 0} (k : Tokenizer K) (st : State) → IsPart k.keyword
+    → BeginsEnd k.raw_end.name k.raw_end.letters → Untold T st k
 untold T k state.Data part begins = data-told T k
 untold T k state.Plaintext part begins = plaintext-told T k
 untold T k state.TagOpen part begins = open-front T k

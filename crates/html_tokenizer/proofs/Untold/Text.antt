@@ -31,28 +31,54 @@ module _ (T : Type 0) {K : Type 0} (k : Tokenizer K) where
   -- a script's text, whose kind the next characters decide
   pub less_than-told : Untold T (state.RawLessThanSign (raw.ScriptDataEscaped script.DoubleEscaped)) k
   unfolding held_at
-  less_than-told = Nothing (record { place = λ t. InRaw (kind_after (raw.ScriptDataEscaped script.DoubleEscaped) (codes "<") t); in_text = λ t. refl; same = λ to b s t. refl })
+  less_than-told = Nothing (record {
+    place =
+        λ t. InRaw (kind_after (raw.ScriptDataEscaped script.DoubleEscaped) (codes "<") t);
+    in_text = λ t. refl;
+    same = λ to b s t. refl;
+  })
 
   pub escape_start-told : (kind : ScriptEscapeKind) → Untold T (state.ScriptDataEscapeStart kind) k
   unfolding held_at
-  escape_start-told script.Escaped = Nothing (record { place = λ t. InRaw (kind_after raw.ScriptData (codes "<!") t); in_text = λ t. refl; same = λ to b s t. refl })
-  escape_start-told script.DoubleEscaped = Nothing (record { place = λ t. InRaw (kind_after (raw.ScriptDataEscaped script.Escaped) (60 ∷ k.word) t); in_text = λ t. refl; same = λ to b s t. refl })
+  escape_start-told script.Escaped =
+      Nothing (record { place = λ t. InRaw (kind_after raw.ScriptData (codes "<!") t); in_text = λ t. refl; same = λ to b s t. refl })
+  escape_start-told script.DoubleEscaped =
+      Nothing (record {
+        place = λ t. InRaw (kind_after (raw.ScriptDataEscaped script.Escaped) (60 ∷ k.word) t);
+        in_text = λ t. refl;
+        same = λ to b s t. refl;
+      })
 
   pub escape_start_dash-told : Untold T state.ScriptDataEscapeStartDash k
   unfolding held_at
-  escape_start_dash-told = Nothing (record { place = λ t. InRaw (kind_after raw.ScriptData (codes "<!-") t); in_text = λ t. refl; same = λ to b s t. refl })
+  escape_start_dash-told = Nothing (record {
+    place = λ t. InRaw (kind_after raw.ScriptData (codes "<!-") t);
+    in_text = λ t. refl;
+    same = λ to b s t. refl;
+  })
 
   pub escaped_dash-told : (kind : ScriptEscapeKind) → Untold T (state.ScriptDataEscapedDash kind) k
   unfolding held_at
-  escaped_dash-told kind = Nothing (record { place = λ t. InRaw (kind_after (raw.ScriptDataEscaped kind) (codes "-") t); in_text = λ t. refl; same = λ to b s t. refl })
+  escaped_dash-told kind = Nothing
+      (record { place = λ t. InRaw (kind_after (raw.ScriptDataEscaped kind) (codes "-") t); in_text = λ t. refl; same = λ to b s t. refl })
 
   pub escaped_dash_dash-told : (kind : ScriptEscapeKind) → Untold T (state.ScriptDataEscapedDashDash kind) k
   unfolding held_at
-  escaped_dash_dash-told kind = Nothing (record { place = λ t. InRaw (kind_after (raw.ScriptDataEscaped kind) (codes "--") t); in_text = λ t. refl; same = λ to b s t. refl })
+  escaped_dash_dash-told kind =
+      Nothing (record {
+        place = λ t. InRaw (kind_after (raw.ScriptDataEscaped kind) (codes "--") t);
+        in_text = λ t. refl;
+        same = λ to b s t. refl;
+      })
 
   pub double_escape_end-told : Untold T state.ScriptDataDoubleEscapeEnd k
   unfolding held_at
-  double_escape_end-told = Nothing (record { place = λ t. InRaw (kind_after (raw.ScriptDataEscaped script.DoubleEscaped) (60 ∷ 47 ∷ k.word) t); in_text = λ t. refl; same = λ to b s t. refl })
+  double_escape_end-told = Nothing
+      (record {
+        place = λ t. InRaw (kind_after (raw.ScriptDataEscaped script.DoubleEscaped) (60 ∷ 47 ∷ k.word) t);
+        in_text = λ t. refl;
+        same = λ to b s t. refl;
+      })
 
   -- CDATA sections: "]>" after "]", and ">" after "]]"
   pub cdata-told : Untold T state.CdataSection k
@@ -72,4 +98,5 @@ module _ (T : Type 0) {K : Type 0} (k : Tokenizer K) where
 
   pub brackets-front : Untold T state.CdataSectionEnd k
   unfolding held_at
-  brackets-front = by-mark T k state.CdataSectionEnd (silent 1 (standing k InData)) refl refl (λ to b s t. reading-item to.step to.erred to.cdata to.ends (rows_of k) (standing k InCdata) b s 93 (93 ∷ 62 ∷ t))
+  brackets-front = by-mark T k state.CdataSectionEnd (silent 1 (standing k InData)) refl refl
+      (λ to b s t. reading-item to.step to.erred to.cdata to.ends (rows_of k) (standing k InCdata) b s 93 (93 ∷ 62 ∷ t))

@@ -39,7 +39,8 @@ impl<Sink: TreeSink> Construction<Sink> {
         requires stands { Stands (Sink.forest sink.old) self.old }
         requires may { MayAct (action_of action.now) (token_of told.now.content) (built Sink.TreeSink self.old (Sink.forest sink.old)) }
         requires alone { is_alone (action_of action.now) ≡ true }
-        ensures ok { OnOk result (built Sink.TreeSink self.new (Sink.forest sink.new) ≡ act (action_of action.now) (token_of told.now.content) (built Sink.TreeSink self.old (Sink.forest sink.old))) }
+        ensures ok { OnOk result (built Sink.TreeSink self.new (Sink.forest sink.new) ≡ act (action_of action.now)
+            (token_of told.now.content) (built Sink.TreeSink self.old (Sink.forest sink.old))) }
         ensures fault { IfErr result (λ fault. fault ≡ Memory) }
     {
         match action {
@@ -223,10 +224,13 @@ impl<Sink: TreeSink> Construction<Sink> {
     ) -> Result<(), ParseFault>
         requires told { IsTold told.now }
         requires stands { Stands (Sink.forest sink.old) self.old }
-        requires may { MayAct (Then (action_of first.now) (action_of more.now)) (token_of told.now.content) (built Sink.TreeSink self.old (Sink.forest sink.old)) }
-        ensures ok { OnOk result (built Sink.TreeSink self.new (Sink.forest sink.new) ≡ act (action_of first.now) (token_of told.now.content) (built Sink.TreeSink self.old (Sink.forest sink.old))) }
+        requires may { MayAct (Then (action_of first.now) (action_of more.now)) (token_of told.now.content)
+            (built Sink.TreeSink self.old (Sink.forest sink.old)) }
+        ensures ok { OnOk result (built Sink.TreeSink self.new (Sink.forest sink.new) ≡ act (action_of first.now)
+            (token_of told.now.content) (built Sink.TreeSink self.old (Sink.forest sink.old))) }
         ensures stands { OnOk result (Stands (Sink.forest sink.new) self.new) }
-        ensures may { OnOk result (MayAct (action_of more.now) (token_of told.now.content) (built Sink.TreeSink self.new (Sink.forest sink.new))) }
+        ensures may { OnOk result (MayAct (action_of more.now) (token_of told.now.content)
+            (built Sink.TreeSink self.new (Sink.forest sink.new))) }
         ensures fault { IfErr result (λ fault. fault ≡ Memory) }
     {
         let _ = more;
@@ -245,7 +249,8 @@ impl<Sink: TreeSink> Construction<Sink> {
         requires told { IsTold told.now }
         requires stands { Stands (Sink.forest sink.old) self.old }
         requires may { MayAct (action_of action.now) (token_of told.now.content) (built Sink.TreeSink self.old (Sink.forest sink.old)) }
-        ensures ok { OnOk result (built Sink.TreeSink self.new (Sink.forest sink.new) ≡ act (action_of action.now) (token_of told.now.content) (built Sink.TreeSink self.old (Sink.forest sink.old))) }
+        ensures ok { OnOk result (built Sink.TreeSink self.new (Sink.forest sink.new) ≡ act (action_of action.now)
+            (token_of told.now.content) (built Sink.TreeSink self.old (Sink.forest sink.old))) }
         ensures fault { IfErr result (λ fault. fault ≡ Memory) }
     {
         match action {
@@ -273,7 +278,8 @@ impl<Sink: TreeSink> Construction<Sink> {
         requires told { IsTold told.now }
         requires stands { Stands (Sink.forest sink.old) self.old }
         requires may { MayAct (action_of action.now) (token_of told.now.content) (built Sink.TreeSink self.old (Sink.forest sink.old)) }
-        ensures ok { OnOk result (built Sink.TreeSink self.new (Sink.forest sink.new) ≡ act (action_of action.now) (token_of told.now.content) (built Sink.TreeSink self.old (Sink.forest sink.old))) }
+        ensures ok { OnOk result (built Sink.TreeSink self.new (Sink.forest sink.new) ≡ act (action_of action.now)
+            (token_of told.now.content) (built Sink.TreeSink self.old (Sink.forest sink.old))) }
         ensures stands { OnOk result (Stands (Sink.forest sink.new) self.new) }
         ensures fault { IfErr result (λ fault. fault ≡ Memory) }
     {

@@ -4,8 +4,11 @@ ghost use Rattle.std.specs.Str.{chars};
 ghost use Rattle.markup.specs.declared.fault.ParseFault.TheVariants.{Memory};
 ghost use Rattle.html_rules.specs.Formatting.{create_formatting_element_for, reconstruct_active_formatting_elements};
 ghost use Rattle.html_rules.specs.State.{is_in, is_named};
-ghost use Rattle.html_rules.specs.Stack.{add_attributes_to_body, add_attributes_to_root, check_body_end, close_item, close_p_element_in_button_scope, expect_to_close, pop_but_root, process_end_tag_in_body, remove_body};
-ghost use Rattle.html_rules.specs.Places.{append_comment, append_comment_to_doc, append_comment_to_html, append_text, create_root, insert_and_pop_element_for, insert_element_for, insert_phantom};
+ghost use Rattle.html_rules.specs.Stack.{add_attributes_to_body, add_attributes_to_root, check_body_end, close_item};
+ghost use Rattle.html_rules.specs.Stack.{close_p_element_in_button_scope, expect_to_close, pop_but_root};
+ghost use Rattle.html_rules.specs.Stack.{process_end_tag_in_body, remove_body};
+ghost use Rattle.html_rules.specs.Places.{append_comment, append_comment_to_doc, append_comment_to_html, append_text};
+ghost use Rattle.html_rules.specs.Places.{create_root, insert_and_pop_element_for, insert_element_for, insert_phantom};
 ghost use Rattle.html_modes.specs.Tables.{spelled};
 ghost use Rattle.html_stack.specs.Wanted.{IsOfHtml};
 ghost use Rattle.html_rules.specs.Tokens.{attributes_of};
@@ -52,7 +55,8 @@ impl<Sink: TreeSink> Construction<Sink> {
     ) -> Result<(), ParseFault>
         requires class { IsClassOf Html tag.name class }
         requires stands { Stands (Sink.forest sink.old) self.old }
-        ensures ok { OnOk result (Performs (insert_and_pop_element_for tag) self.old self.new (Sink.forest sink.old) (Sink.forest sink.new)) }
+        ensures ok { OnOk result (Performs (insert_and_pop_element_for tag) self.old self.new (Sink.forest sink.old)
+            (Sink.forest sink.new)) }
         ensures fault { IfErr result (λ fault. fault ≡ Memory) }
     {
         self.stack
@@ -70,7 +74,8 @@ impl<Sink: TreeSink> Construction<Sink> {
     ) -> Result<(), ParseFault>
         requires class { IsClassOf Html tag.name class }
         requires stands { Stands (Sink.forest sink.old) self.old }
-        ensures ok { OnOk result (Performs (create_formatting_element_for tag) self.old self.new (Sink.forest sink.old) (Sink.forest sink.new)) }
+        ensures ok { OnOk result (Performs (create_formatting_element_for tag) self.old self.new
+            (Sink.forest sink.old) (Sink.forest sink.new)) }
         ensures fault { IfErr result (λ fault. fault ≡ Memory) }
     {
         self.stack
@@ -82,7 +87,8 @@ impl<Sink: TreeSink> Construction<Sink> {
     #[inline(never)]
     pub(crate) fn insert_new(&mut self, sink: &mut Sink, name: Implied) -> Result<(), ParseFault>
         requires stands { Stands (Sink.forest sink.old) self.old }
-        ensures ok { OnOk result (Performs (insert_phantom (spelled name)) self.old self.new (Sink.forest sink.old) (Sink.forest sink.new)) }
+        ensures ok { OnOk result (Performs (insert_phantom (spelled name)) self.old self.new (Sink.forest sink.old)
+            (Sink.forest sink.new)) }
         ensures fault { IfErr result (λ fault. fault ≡ Memory) }
     {
         let name = name.local_name(self.alloc)?;
@@ -99,7 +105,8 @@ impl<Sink: TreeSink> Construction<Sink> {
         told: &NamedToken<'_>,
     ) -> Result<(), ParseFault>
         requires stands { Stands (Sink.forest sink.old) self.old }
-        ensures ok { OnOk result (Performs (create_root (attributes_of (token_of told.now.content))) self.old self.new (Sink.forest sink.old) (Sink.forest sink.new)) }
+        ensures ok { OnOk result (Performs (create_root (attributes_of (token_of told.now.content))) self.old
+            self.new (Sink.forest sink.old) (Sink.forest sink.new)) }
         ensures fault { IfErr result (λ fault. fault ≡ Memory) }
     {
         let attrs = told.attributes(self.alloc)?;
@@ -144,7 +151,8 @@ impl<Sink: TreeSink> Construction<Sink> {
     #[inline(never)]
     pub(crate) fn append_comment(&mut self, sink: &mut Sink, text: &str) -> Result<(), ParseFault>
         requires stands { Stands (Sink.forest sink.old) self.old }
-        ensures ok { OnOk result (Performs (append_comment (chars text.now)) self.old self.new (Sink.forest sink.old) (Sink.forest sink.new)) }
+        ensures ok { OnOk result (Performs (append_comment (chars text.now)) self.old self.new
+            (Sink.forest sink.old) (Sink.forest sink.new)) }
         ensures fault { IfErr result (λ fault. fault ≡ Memory) }
     {
         let text = Text::from_str(self.alloc, text)?;
@@ -161,7 +169,8 @@ impl<Sink: TreeSink> Construction<Sink> {
         text: &str,
     ) -> Result<(), ParseFault>
         requires stands { Stands (Sink.forest sink.old) self.old }
-        ensures ok { OnOk result (Performs (append_comment_to_doc (chars text.now)) self.old self.new (Sink.forest sink.old) (Sink.forest sink.new)) }
+        ensures ok { OnOk result (Performs (append_comment_to_doc (chars text.now)) self.old self.new
+            (Sink.forest sink.old) (Sink.forest sink.new)) }
         ensures fault { IfErr result (λ fault. fault ≡ Memory) }
     {
         let text = Text::from_str(self.alloc, text)?;
@@ -177,7 +186,8 @@ impl<Sink: TreeSink> Construction<Sink> {
         text: &str,
     ) -> Result<(), ParseFault>
         requires stands { Stands (Sink.forest sink.old) self.old }
-        ensures ok { OnOk result (Performs (append_comment_to_html (chars text.now)) self.old self.new (Sink.forest sink.old) (Sink.forest sink.new)) }
+        ensures ok { OnOk result (Performs (append_comment_to_html (chars text.now)) self.old self.new
+            (Sink.forest sink.old) (Sink.forest sink.new)) }
         ensures fault { IfErr result (λ fault. fault ≡ Memory) }
     {
         let text = Text::from_str(self.alloc, text)?;
@@ -193,7 +203,8 @@ impl<Sink: TreeSink> Construction<Sink> {
         told: &NamedToken<'_>,
     ) -> Result<(), ParseFault>
         requires stands { Stands (Sink.forest sink.old) self.old }
-        ensures ok { OnOk result (Performs (add_attributes_to_root (attributes_of (token_of told.now.content))) self.old self.new (Sink.forest sink.old) (Sink.forest sink.new)) }
+        ensures ok { OnOk result (Performs (add_attributes_to_root (attributes_of (token_of told.now.content)))
+            self.old self.new (Sink.forest sink.old) (Sink.forest sink.new)) }
         ensures fault { IfErr result (λ fault. fault ≡ Memory) }
     {
         let attrs = told.attributes(self.alloc)?;
@@ -209,7 +220,8 @@ impl<Sink: TreeSink> Construction<Sink> {
         told: &NamedToken<'_>,
     ) -> Result<(), ParseFault>
         requires stands { Stands (Sink.forest sink.old) self.old }
-        ensures ok { OnOk result (Performs (add_attributes_to_body (attributes_of (token_of told.now.content))) self.old self.new (Sink.forest sink.old) (Sink.forest sink.new)) }
+        ensures ok { OnOk result (Performs (add_attributes_to_body (attributes_of (token_of told.now.content)))
+            self.old self.new (Sink.forest sink.old) (Sink.forest sink.new)) }
         ensures fault { IfErr result (λ fault. fault ≡ Memory) }
     {
         let attrs = told.attributes(self.alloc)?;
@@ -237,7 +249,8 @@ impl<Sink: TreeSink> Construction<Sink> {
     /// "Reconstruct the active formatting elements".
     pub(crate) fn reconstruct(&mut self, sink: &mut Sink) -> Result<(), ParseFault>
         requires stands { Stands (Sink.forest sink.old) self.old }
-        ensures ok { OnOk result (Performs reconstruct_active_formatting_elements self.old self.new (Sink.forest sink.old) (Sink.forest sink.new)) }
+        ensures ok { OnOk result (Performs reconstruct_active_formatting_elements self.old self.new
+            (Sink.forest sink.old) (Sink.forest sink.new)) }
         ensures fault { IfErr result (λ fault. fault ≡ Memory) }
     {
         self.stack

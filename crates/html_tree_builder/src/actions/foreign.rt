@@ -68,7 +68,8 @@ impl<Sink: TreeSink> Construction<Sink> {
     ) -> Result<(), ParseFault>
         requires told { IsTold told.now }
         requires stands { Stands (Sink.forest sink.old) self.old }
-        ensures ok { OnOk result (built Sink.TreeSink self.new (Sink.forest sink.new) ≡ for_tag insert_template (token_of told.now.content) (built Sink.TreeSink self.old (Sink.forest sink.old))) }
+        ensures ok { OnOk result (built Sink.TreeSink self.new (Sink.forest sink.new) ≡ for_tag insert_template
+            (token_of told.now.content) (built Sink.TreeSink self.old (Sink.forest sink.old))) }
         ensures fault { IfErr result (λ fault. fault ≡ Memory) }
     {
         let Content::Tag(tag) = told.content else {
@@ -102,7 +103,9 @@ impl<Sink: TreeSink> Construction<Sink> {
         told: &NamedToken<'_>,
     ) -> Result<(), ParseFault>
         requires stands { Stands (Sink.forest sink.old) self.old }
-        ensures ok { OnOk result (Performs (for_tag (enter_foreign (namespace_of namespace)) (token_of told.now.content)) self.old self.new (Sink.forest sink.old) (Sink.forest sink.new)) }
+        ensures ok { OnOk result (Performs
+            (for_tag (enter_foreign (namespace_of namespace)) (token_of told.now.content)) self.old self.new
+            (Sink.forest sink.old) (Sink.forest sink.new)) }
         ensures fault { IfErr result (λ fault. fault ≡ Memory) }
     {
         let Content::Tag(tag) = told.content else {

@@ -34,7 +34,8 @@ impl<Sink: TreeSink> Construction<Sink> {
     #[inline(never)]
     pub(crate) fn adopt_nobr(&mut self, sink: &mut Sink) -> Result<(), ParseFault>
         requires stands { Stands (Sink.forest sink.old) self.old }
-        ensures ok { OnOk result (Performs (adoption_agency (codes "nobr")) self.old self.new (Sink.forest sink.old) (Sink.forest sink.new)) }
+        ensures ok { OnOk result (Performs (adoption_agency (codes "nobr")) self.old self.new (Sink.forest sink.old)
+            (Sink.forest sink.new)) }
         ensures fault { IfErr result (λ fault. fault ≡ Memory) }
     {
         let name = LocalName::from_str(self.alloc, "nobr")?;

@@ -42,7 +42,9 @@ impl<Sink: TreeSink> Construction<Sink> {
         told: &NamedToken<'_>,
     ) -> Result<(), ParseFault>
         requires stands { Stands (Sink.forest sink.old) self.old }
-        ensures ok { OnOk result (Performs (for_tag (λ tag. insert_and_pop_element_for (record tag { name = spelled name })) (token_of told.now.content)) self.old self.new (Sink.forest sink.old) (Sink.forest sink.new)) }
+        ensures ok { OnOk result (Performs
+            (for_tag (λ tag. insert_and_pop_element_for (record tag { name = spelled name }))
+            (token_of told.now.content)) self.old self.new (Sink.forest sink.old) (Sink.forest sink.new)) }
         ensures fault { IfErr result (λ fault. fault ≡ Memory) }
     {
         let Content::Tag(tag) = told.content else {
@@ -63,7 +65,8 @@ impl<Sink: TreeSink> Construction<Sink> {
         name: Implied,
     ) -> Result<(), ParseFault>
         requires stands { Stands (Sink.forest sink.old) self.old }
-        ensures ok { OnOk result (Performs (put_element Html (spelled name) [] false) self.old self.new (Sink.forest sink.old) (Sink.forest sink.new)) }
+        ensures ok { OnOk result (Performs (put_element Html (spelled name) [] false) self.old self.new
+            (Sink.forest sink.old) (Sink.forest sink.new)) }
         ensures fault { IfErr result (λ fault. fault ≡ Memory) }
     {
         let name = name.local_name(self.alloc)?;

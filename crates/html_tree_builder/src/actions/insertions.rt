@@ -73,7 +73,8 @@ impl<Sink: TreeSink> Construction<Sink> {
     ) -> Result<(), ParseFault>
         requires class { IsClassOf Html tag.name class }
         requires stands { Stands (Sink.forest sink.old) self.old }
-        ensures ok { OnOk result (Performs (act (inserting insertion) (TagToken tag)) self.old self.new (Sink.forest sink.old) (Sink.forest sink.new)) }
+        ensures ok { OnOk result (Performs (act (inserting insertion) (TagToken tag)) self.old self.new
+            (Sink.forest sink.old) (Sink.forest sink.new)) }
         ensures fault { IfErr result (λ fault. fault ≡ Memory) }
     {
         match insertion {
@@ -94,7 +95,8 @@ impl<Sink: TreeSink> Construction<Sink> {
     ) -> Result<(), ParseFault>
         requires told { IsTold told.now }
         requires stands { Stands (Sink.forest sink.old) self.old }
-        ensures ok { OnOk result (Performs (act (inserting insertion) (token_of told.now.content)) self.old self.new (Sink.forest sink.old) (Sink.forest sink.new)) }
+        ensures ok { OnOk result (Performs (act (inserting insertion) (token_of told.now.content)) self.old self.new
+            (Sink.forest sink.old) (Sink.forest sink.new)) }
         ensures fault { IfErr result (λ fault. fault ≡ Memory) }
     {
         let Content::Tag(tag) = told.content else {
@@ -149,7 +151,8 @@ impl<Sink: TreeSink> Construction<Sink> {
         requires class { IsClassOf Html tag.old.name class }
         requires stands { Stands (Sink.forest sink.old) self.old }
         requires may { MayAct (action_of action.now) (TagToken tag.old) (built Sink.TreeSink self.old (Sink.forest sink.old)) }
-        ensures ok { OnOk result (built Sink.TreeSink self.new (Sink.forest sink.new) ≡ act (action_of action.now) (TagToken tag.old) (built Sink.TreeSink self.old (Sink.forest sink.old))) }
+        ensures ok { OnOk result (built Sink.TreeSink self.new (Sink.forest sink.new) ≡ act (action_of action.now)
+            (TagToken tag.old) (built Sink.TreeSink self.old (Sink.forest sink.old))) }
         ensures fault { IfErr result (λ fault. fault ≡ Memory) }
     {
         let mut rest = action;

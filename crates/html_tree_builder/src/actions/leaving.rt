@@ -61,7 +61,8 @@ impl<Sink: TreeSink> Construction<Sink> {
     )
         requires class { IsClassOf Html name.now class }
         requires stands { Stands (Sink.forest sink.old) self.old }
-        ensures { Performs (generate_implied_end_except (is_named name.now)) self.old self.new (Sink.forest sink.old) (Sink.forest sink.new) }
+        ensures { Performs (generate_implied_end_except (is_named name.now)) self.old self.new
+            (Sink.forest sink.old) (Sink.forest sink.new) }
     {
         self.stack.generate_implied_end_except(sink, class, name);
     }

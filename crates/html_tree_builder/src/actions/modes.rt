@@ -2,7 +2,9 @@
 ghost use Rattle.std.specs.Prelude.{◌≡◌, OnOk, IfErr, false};
 ghost use Rattle.std.specs.Str.{chars};
 ghost use Rattle.markup.specs.declared.fault.ParseFault.TheVariants.{Memory};
-ghost use Rattle.html_rules.specs.Actions.{restore_mode, forget_form_elem, frameset_not_ok, frameset_not_ok_unless_white, save_mode, pop_template_mode, push_template_mode, set_foster_parenting, set_ignore_lf, set_mode, set_quirks_mode, set_template_mode};
+ghost use Rattle.html_rules.specs.Actions.{restore_mode, forget_form_elem, frameset_not_ok, frameset_not_ok_unless_white};
+ghost use Rattle.html_rules.specs.Actions.{save_mode, pop_template_mode, push_template_mode, set_foster_parenting};
+ghost use Rattle.html_rules.specs.Actions.{set_ignore_lf, set_mode, set_quirks_mode, set_template_mode};
 ghost use Rattle.html_stack.specs.Modes.{IsContext};
 ghost use Rattle.html_rules.specs.Reset.{reset_insertion_mode};
 ghost use Rattle.html_tree_builder.specs.States.{Changes, Performs};

@@ -15,7 +15,8 @@ impl<Sink: TreeSink> Construction<Sink> {
     /// Characters, by the rules for a body.
     fn append_in_body(&mut self, sink: &mut Sink, text: &str) -> Result<(), ParseFault>
         requires stands { Stands (Sink.forest sink.old) self.old }
-        ensures ok { OnOk result (Performs (append_in_body (chars text.now)) self.old self.new (Sink.forest sink.old) (Sink.forest sink.new)) }
+        ensures ok { OnOk result (Performs (append_in_body (chars text.now)) self.old self.new
+            (Sink.forest sink.old) (Sink.forest sink.new)) }
         ensures fault { IfErr result (λ fault. fault ≡ Memory) }
     {
         let text = Text::from_str(self.alloc, text)?;
@@ -53,7 +54,8 @@ impl<Sink: TreeSink> Construction<Sink> {
     /// Text of a table goes where it belongs: white space is appended, any other text is fostered.
     fn insert_table_text(&mut self, sink: &mut Sink, text: &str) -> Result<(), ParseFault>
         requires stands { Stands (Sink.forest sink.old) self.old }
-        ensures ok { OnOk result (Performs (insert_table_text (chars text.now)) self.old self.new (Sink.forest sink.old) (Sink.forest sink.new)) }
+        ensures ok { OnOk result (Performs (insert_table_text (chars text.now)) self.old self.new
+            (Sink.forest sink.old) (Sink.forest sink.new)) }
         ensures fault { IfErr result (λ fault. fault ≡ Memory) }
     {
         if is_white(text) {

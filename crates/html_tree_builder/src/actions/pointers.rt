@@ -1,7 +1,8 @@
 //! The pointers to the head and to a form (HTML Standard, section 13.2.4.4).
 ghost use Rattle.std.specs.Prelude.{◌≡◌, OnOk, IfErr, IfOk, codes};
 ghost use Rattle.markup.specs.declared.fault.ParseFault.TheVariants.{Memory};
-ghost use Rattle.html_rules.specs.Actions.{for_tag, insert_form_void, push_head_elem, remove_form_elem, remove_head_elem, set_form_elem, set_head_elem};
+ghost use Rattle.html_rules.specs.Actions.{for_tag, insert_form_void, push_head_elem, remove_form_elem, remove_head_elem};
+ghost use Rattle.html_rules.specs.Actions.{set_form_elem, set_head_elem};
 ghost use Rattle.html_rules.specs.State.{current_number};
 ghost use Rattle.html_tree_builder.specs.States.{Changes, Performs, Stands};
 ghost use Rattle.html_tree_builder.specs.Told.{IsTold, token_of};
@@ -79,7 +80,8 @@ impl<Sink: TreeSink> Construction<Sink> {
     ) -> Result<(), ParseFault>
         requires told { IsTold told.now }
         requires stands { Stands (Sink.forest sink.old) self.old }
-        ensures ok { OnOk result (Performs (for_tag insert_form_void (token_of told.now.content)) self.old self.new (Sink.forest sink.old) (Sink.forest sink.new)) }
+        ensures ok { OnOk result (Performs (for_tag insert_form_void (token_of told.now.content)) self.old self.new
+            (Sink.forest sink.old) (Sink.forest sink.new)) }
         ensures fault { IfErr result (λ fault. fault ≡ Memory) }
     {
         let Content::Tag(tag) = told.content else {

@@ -1,4 +1,5 @@
-//! Scripts that are never run: those of fragments, and one that the end of the input cuts off (HTML Standard, sections 13.2.6.4.4 and 13.2.6.4.8).
+//! Scripts that are never run: those of fragments, and one that the end of the input cuts off (HTML Standard, sections 13.2.6.4.4 and
+//! 13.2.6.4.8).
 ghost use Rattle.std.specs.Prelude.{◌≡◌, OnOk, IfErr};
 ghost use Rattle.markup.specs.declared.fault.ParseFault.TheVariants.{Memory};
 ghost use Rattle.html_rules.specs.Places.{insert_element_for};
@@ -70,8 +71,8 @@ impl<Sink: TreeSink> Construction<Sink> {
         }
     }
 
-    /// The current node is popped, unless it is the root. Where it is a script that the end of the input cuts off, the sink is told before that
-    /// it has started.
+    /// The current node is popped, unless it is the root. Where it is a script that the end of the input cuts off, the sink is told
+    /// before that it has started.
     #[inline(never)]
     pub(crate) fn pop_told(&mut self, sink: &mut Sink, told: &NamedToken<'_>)
         requires stands { Stands (Sink.forest sink.old) self.old }

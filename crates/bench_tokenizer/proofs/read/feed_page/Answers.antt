@@ -15,7 +15,8 @@ loop-rest-preserved c =
     let page = chars c.args.page.now in
     let text = chars pieces.0.now in
     let behind = chars pieces.1.now in
-    let read : ReadsPage c.args.tokenizer.now loop.tokenizer page (text ++ behind) = subst (λ t. ReadsPage c.args.tokenizer.now loop.tokenizer page t) c.split_piece.ensures.whole loop.invariant.2 in
+    let read : ReadsPage c.args.tokenizer.now loop.tokenizer page (text ++ behind) =
+    subst (λ t. ReadsPage c.args.tokenizer.now loop.tokenizer page t) c.split_piece.ensures.whole loop.invariant.2 in
     let reads : Reads loop.tokenizer new.tokenizer text = search rules in
     (search rules, reads.takes, read-further page text behind c.args.tokenizer.now loop.tokenizer new.tokenizer read reads, search rules)
 

@@ -20,4 +20,5 @@ loop-rule-preserved c =
     ∙ c.loop-rule.invariant
 
 pub returns-clause-none : goal.returns-clause-none
-returns-clause-none c = sym c.loop-rule.invariant ∙ at_drop_all unsafe_element c.args.rules.now c.loop-rule.rule-index c.loop-rule-test.false
+returns-clause-none c = sym c.loop-rule.invariant ∙ at_drop_all unsafe_element c.args.rules.now
+    c.loop-rule.rule-index c.loop-rule-test.false

@@ -14,5 +14,10 @@ at_start s (call ∷ calls) = inl (refl, refl)
 
 pub returns-in-Err-clause-serializes : goal.returns-in-Err-clause-serializes
 returns-in-Err-clause-serializes g c =
-    let s = started true false (ChildrenOnly None) (told_by g.Wr.Target.written g.Wr.Target.failures c.args.writer) in
-    (s, (ap (told_by g.Wr.Target.written g.Wr.Target.failures) (sym c.in-Err.ensures.back), record { made = []; left = _; reached = s; parts = refl; ran = refl; stopped = at_start s _ }))
+    let s = started true false (ChildrenOnly None) (told_by g.Wr.Target.written g.Wr.Target.failures c.args.writer) in (
+      s,
+      (
+        ap (told_by g.Wr.Target.written g.Wr.Target.failures) (sym c.in-Err.ensures.back),
+        record { made = []; left = _; reached = s; parts = refl; ran = refl; stopped = at_start s _ },
+      ),
+    )

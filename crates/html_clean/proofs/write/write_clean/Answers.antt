@@ -21,10 +21,12 @@ returns-clause-text g c = λ trees is.
     let kept = all-kept policy trees in
     let all = g.T.Serialize.calls c.args.node.now (ChildrenOnly None) in
     let calls = ap (filtered policy [] true) is ∙ all-filtered policy trees in
-    let same : written_pieces (pieces_of left) ≡ written true default_entry left = sym (written-pieces policy true left kept []) ∙ append-nil (written true default_entry left) in
+    let same : written_pieces (pieces_of left) ≡ written true default_entry left =
+    sym (written-pieces policy true left kept []) ∙ append-nil (written true default_entry left) in
     record {
       pieces = pieces_of left;
       left = record { are = refl; kept = pieces-kept policy left kept [] refl; balanced = pieces-balanced left [] [] };
-      writes = rw same (writes true false (ChildrenOnly None) (filtered policy [] true all) (told_by g.W.Target.written g.W.Target.failures c.args.writer.now) _ c.walk.result.answer (search rules) left calls);
+      writes = rw same (writes true false (ChildrenOnly None) (filtered policy [] true all)
+          (told_by g.W.Target.written g.W.Target.failures c.args.writer.now) _ c.walk.result.answer (search rules) left calls);
       counts = IfOk-weaker c.walk.result.answer _ _ (λ counts h. h ∙ ap (all_counted policy [] nothing_counted) is) c.walk.ensures.counts;
     }

@@ -8,4 +8,5 @@ use Rattle.html_clean_document.proofs.laws.cleaned_is_told.Goals as goal
 
 pub returns : goal.returns
 returns c policy erred rows reads scripting trees last breaks s sound t =
-    (cleaned-read Sound step asks_cdata ended is_quiet rules-are-lawful.sink policy (go-on policy Sound) erred rows reads scripting trees last breaks s sound t).1
+    (cleaned-read Sound step asks_cdata ended is_quiet rules-are-lawful.sink policy (go-on policy Sound) erred rows
+    reads scripting trees last breaks s sound t).1

@@ -15,8 +15,10 @@ returns-in_err-write_clean-clause-err g c =
     let f = c.in_ok-forest in
     let wrote = c.in_err-write_clean.ensures.text (walked given.new.self given.result (ChildrenOnly None)) refl in
     rw (p.1, p.2)
-    (write-failed (IsDocumentOf c.args.references) c.args.policy.now (walked given.new.self given.result (ChildrenOnly None)) c.in_err-write_clean.field-0.0 _ _ _ _
-    (λ whole told. document-walked given.new.self f.forest given.ensures.same given.result given.ensures.document given.ensures.is_forest.document_first c.args.references c.args.exact.tokenizer whole _ _ (f.ensures.ok whole told)) wrote)
+    (write-failed (IsDocumentOf c.args.references) c.args.policy.now
+    (walked given.new.self given.result (ChildrenOnly None)) c.in_err-write_clean.field-0.0 _ _ _ _
+    (λ whole told. document-walked given.new.self f.forest given.ensures.same given.result given.ensures.document
+    given.ensures.is_forest.document_first c.args.references c.args.exact.tokenizer whole _ _ (f.ensures.ok whole told)) wrote)
 
 pub returns-in_err-write_clean-clause-read_failures : goal.returns-in_err-write_clean-clause-read_failures
 returns-in_err-write_clean-clause-read_failures g c =
@@ -28,7 +30,8 @@ returns-in_err-write_clean-clause-write_failures g c =
     let p = err_from_is_err_and c.from_residual-in_err-write_clean.result c.from_residual-in_err-write_clean.ensures.1 in
     let given = c.get_document-id in
     let wrote = c.in_err-write_clean.ensures.text (walked given.new.self given.result (ChildrenOnly None)) refl in
-    rw (p.1, p.2) (write-counted (IsDocumentOf c.args.references) c.args.policy.now (walked given.new.self given.result (ChildrenOnly None)) c.in_err-write_clean.field-0.0 _ _ wrote)
+    rw (p.1, p.2) (write-counted (IsDocumentOf c.args.references) c.args.policy.now
+    (walked given.new.self given.result (ChildrenOnly None)) c.in_err-write_clean.field-0.0 _ _ wrote)
 
 pub returns-clause-ok : goal.returns-clause-ok
 returns-clause-ok g c whole told =
@@ -36,8 +39,10 @@ returns-clause-ok g c whole told =
     let f = c.in_ok-forest in
     let wrote = c.in_ok-write_clean.ensures.text (walked given.new.self given.result (ChildrenOnly None)) refl in
     let read = f.ensures.ok whole told in
-    was-cleaned (IsDocumentOf c.args.references) c.args.policy.now (walked given.new.self given.result (ChildrenOnly None)) whole _ _ _ c.in_ok-write_clean.field-0
-    (document-walked given.new.self f.forest given.ensures.same given.result given.ensures.document given.ensures.is_forest.document_first c.args.references c.args.exact.tokenizer whole _ _ read) read.taken wrote
+    was-cleaned (IsDocumentOf c.args.references) c.args.policy.now
+    (walked given.new.self given.result (ChildrenOnly None)) whole _ _ _ c.in_ok-write_clean.field-0
+    (document-walked given.new.self f.forest given.ensures.same given.result given.ensures.document
+    given.ensures.is_forest.document_first c.args.references c.args.exact.tokenizer whole _ _ read) read.taken wrote
 
 pub returns-clause-write_failures : goal.returns-clause-write_failures
 returns-clause-write_failures g c =

@@ -15,8 +15,10 @@ returns-in_err-write_clean-clause-err g c =
     let f = c.in_ok-forest in
     let wrote = c.in_err-write_clean.ensures.text (walked given.new.self c.root.result (ChildrenOnly None)) refl in
     rw (p.1, p.2)
-    (write-failed (IsFragmentOf c.args.references c.args.context) c.args.policy.now (walked given.new.self c.root.result (ChildrenOnly None)) c.in_err-write_clean.field-0.0 _ _ _ _
-    (λ whole told. fragment-walked given.new.self f.forest given.ensures.same c.root.result c.root.ensures c.args.references c.args.context whole _ (f.ensures.ok whole told)) wrote)
+    (write-failed (IsFragmentOf c.args.references c.args.context) c.args.policy.now
+    (walked given.new.self c.root.result (ChildrenOnly None)) c.in_err-write_clean.field-0.0 _ _ _ _
+    (λ whole told. fragment-walked given.new.self f.forest given.ensures.same c.root.result c.root.ensures
+    c.args.references c.args.context whole _ (f.ensures.ok whole told)) wrote)
 
 pub returns-in_err-write_clean-clause-read_failures : goal.returns-in_err-write_clean-clause-read_failures
 returns-in_err-write_clean-clause-read_failures g c =
@@ -28,7 +30,8 @@ returns-in_err-write_clean-clause-write_failures g c =
     let p = err_from_is_err_and c.from_residual-in_err-write_clean.result c.from_residual-in_err-write_clean.ensures.1 in
     let given = c.get_document-document in
     let wrote = c.in_err-write_clean.ensures.text (walked given.new.self c.root.result (ChildrenOnly None)) refl in
-    rw (p.1, p.2) (write-counted (IsFragmentOf c.args.references c.args.context) c.args.policy.now (walked given.new.self c.root.result (ChildrenOnly None)) c.in_err-write_clean.field-0.0 _ _ wrote)
+    rw (p.1, p.2) (write-counted (IsFragmentOf c.args.references c.args.context) c.args.policy.now
+    (walked given.new.self c.root.result (ChildrenOnly None)) c.in_err-write_clean.field-0.0 _ _ wrote)
 
 pub returns-clause-ok : goal.returns-clause-ok
 returns-clause-ok g c whole told =
@@ -36,8 +39,10 @@ returns-clause-ok g c whole told =
     let f = c.in_ok-forest in
     let wrote = c.in_ok-write_clean.ensures.text (walked given.new.self c.root.result (ChildrenOnly None)) refl in
     let read = f.ensures.ok whole told in
-    was-cleaned (IsFragmentOf c.args.references c.args.context) c.args.policy.now (walked given.new.self c.root.result (ChildrenOnly None)) whole _ _ _ c.in_ok-write_clean.field-0
-    (fragment-walked given.new.self f.forest given.ensures.same c.root.result c.root.ensures c.args.references c.args.context whole _ read) read.taken wrote
+    was-cleaned (IsFragmentOf c.args.references c.args.context) c.args.policy.now
+    (walked given.new.self c.root.result (ChildrenOnly None)) whole _ _ _ c.in_ok-write_clean.field-0
+    (fragment-walked given.new.self f.forest given.ensures.same c.root.result c.root.ensures c.args.references
+    c.args.context whole _ read) read.taken wrote
 
 pub returns-clause-write_failures : goal.returns-clause-write_failures
 returns-clause-write_failures g c =

@@ -5,4 +5,6 @@ use Rattle.html_events.proofs.events.push_text.Goals as goal
 
 pub returns-clause-ok : goal.returns-clause-ok
 unfolding text_bytes
-returns-clause-ok c = c.in_ok-push_counted.ensures.ok ∙ ap (λ (bs : List ℕ). c.args.bytes.now.items ++ counted_bytes bs) (c.as_bytes.ensures.value ∙ sym (encodes-chars c.args.text.now c.utf8.text))
+returns-clause-ok c = c.in_ok-push_counted.ensures.ok
+    ∙ ap (λ (bs : List ℕ). c.args.bytes.now.items ++ counted_bytes bs)
+    (c.as_bytes.ensures.value ∙ sym (encodes-chars c.args.text.now c.utf8.text))

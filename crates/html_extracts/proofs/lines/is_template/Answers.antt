@@ -9,4 +9,6 @@ both a b r h e = rw h e
 
 pub returns-then-is_known : goal.returns-then-is_known
 returns-then-is_known c =
-    both _ _ _ (sym c.is_known.ensures ∙ c.if-is_known.true) (c.eq.ensures ∙ ap (λ (bytes : List ℕ). bytes_eq bytes (codes "template")) (bytes_of c.as_str.result.now _ c.as_str.utf8 c.as_str.ensures))
+    both _ _ _ (sym c.is_known.ensures ∙ c.if-is_known.true)
+    (c.eq.ensures ∙ ap (λ (bytes : List ℕ). bytes_eq bytes (codes "template"))
+    (bytes_of c.as_str.result.now _ c.as_str.utf8 c.as_str.ensures))

@@ -25,9 +25,11 @@ returns-then-has_href c =
     let href = attribute_of f c.args.id (codes "href") in
     let src = attribute_of f c.args.id (codes "src") in
     let local = bytes_of c.as_str.result.now _ c.as_str.utf8 c.as_str.ensures in
-    let named : Some c.in_ok-name.name.now ≡ element_name (data_of f c.args.id) = sym (ap option_copied c.in_ok-name.was) ∙ c.element_name.ensures in
+    let named : Some c.in_ok-name.name.now ≡ element_name (data_of f c.args.id) =
+    sym (ap option_copied c.in_ok-name.was) ∙ c.element_name.ensures in
     c.attribute_of.ensures
-    ∙ (by_href _ _ (spec.has_source (encode_utf8_all c.in_ok-name.name.now.local)) href src (sym c.is_known.ensures ∙ c.if-not-is_known.false) (ap spec.has_href (sym local) ∙ (sym c.has_href.ensures ∙ c.if-has_href.true))
+    ∙ (by_href _ _ (spec.has_source (encode_utf8_all c.in_ok-name.name.now.local)) href src
+    (sym c.is_known.ensures ∙ c.if-not-is_known.false) (ap spec.has_href (sym local) ∙ (sym c.has_href.ensures ∙ c.if-has_href.true))
     ∙ ap (λ name. link_named name f c.args.id) named)
 
 pub returns-then-has_source : goal.returns-then-has_source
@@ -37,9 +39,11 @@ returns-then-has_source c =
     let src = attribute_of f c.args.id (codes "src") in
     let local = bytes_of c.as_str.result.now _ c.as_str.utf8 c.as_str.ensures in
     let local_again = bytes_of c.as_str-2.result.now _ c.as_str-2.utf8 c.as_str-2.ensures in
-    let named : Some c.in_ok-name.name.now ≡ element_name (data_of f c.args.id) = sym (ap option_copied c.in_ok-name.was) ∙ c.element_name.ensures in
+    let named : Some c.in_ok-name.name.now ≡ element_name (data_of f c.args.id) =
+    sym (ap option_copied c.in_ok-name.was) ∙ c.element_name.ensures in
     c.attribute_of-then-has_source.ensures
-    ∙ (by_source _ _ _ href src (sym c.is_known.ensures ∙ c.if-not-is_known.false) (ap spec.has_href (sym local) ∙ (sym c.has_href.ensures ∙ c.if-has_href.false))
+    ∙ (by_source _ _ _ href src (sym c.is_known.ensures ∙ c.if-not-is_known.false)
+    (ap spec.has_href (sym local) ∙ (sym c.has_href.ensures ∙ c.if-has_href.false))
     (ap spec.has_source (sym local_again) ∙ (sym c.has_source.ensures ∙ c.if-has_source.true))
     ∙ ap (λ name. link_named name f c.args.id) named)
 
@@ -50,7 +54,9 @@ returns c =
     let src = attribute_of f c.args.id (codes "src") in
     let local = bytes_of c.as_str.result.now _ c.as_str.utf8 c.as_str.ensures in
     let local_again = bytes_of c.as_str-2.result.now _ c.as_str-2.utf8 c.as_str-2.ensures in
-    let named : Some c.in_ok-name.name.now ≡ element_name (data_of f c.args.id) = sym (ap option_copied c.in_ok-name.was) ∙ c.element_name.ensures in
-    by_none _ _ _ href src (sym c.is_known.ensures ∙ c.if-not-is_known.false) (ap spec.has_href (sym local) ∙ (sym c.has_href.ensures ∙ c.if-has_href.false))
+    let named : Some c.in_ok-name.name.now ≡ element_name (data_of f c.args.id) =
+    sym (ap option_copied c.in_ok-name.was) ∙ c.element_name.ensures in
+    by_none _ _ _ href src (sym c.is_known.ensures ∙ c.if-not-is_known.false)
+    (ap spec.has_href (sym local) ∙ (sym c.has_href.ensures ∙ c.if-has_href.false))
     (ap spec.has_source (sym local_again) ∙ (sym c.has_source.ensures ∙ c.if-has_source.false))
     ∙ ap (λ name. link_named name f c.args.id) named

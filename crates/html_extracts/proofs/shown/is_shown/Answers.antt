@@ -11,5 +11,6 @@ pub returns-in-Some-element_name : goal.returns-in-Some-element_name
 returns-in-Some-element_name c =
     let f = c.args.forest.now in
     let local = bytes_of c.as_str.result.now _ c.as_str.utf8 c.as_str.ensures in
-    let named : Some c.in-Some-element_name.name.now ≡ element_name (data_of f c.in-Some.parent) = sym (ap option_copied c.in-Some-element_name.is) ∙ c.element_name.ensures in
+    let named : Some c.in-Some-element_name.name.now ≡ element_name (data_of f c.in-Some.parent) =
+    sym (ap option_copied c.in-Some-element_name.is) ∙ c.element_name.ensures in
     ap not (c.hides.ensures ∙ ap spec.hides local) ∙ (ap is_shown_in named ∙ ap (is_shown_under f) (sym c.in-Some.is ∙ c.parent.ensures))

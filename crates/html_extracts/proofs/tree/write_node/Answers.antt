@@ -20,9 +20,12 @@ returns-in-Some-Doctype-clause-ok g c =
     let name = chars c.in-Some-Doctype.name.text.now in
     let public_id = chars c.in-Some-Doctype.public_id.text.now in
     let system_id = chars c.in-Some-Doctype.system_id.text.now in
-    let is : Doctype name public_id system_id ≡ data_of f c.args.id = sym (ap data_view c.in-Some-Doctype.field-0-is) ∙ c.in-Some-Doctype.ensures.about in
-    let lines = same_line c.as_str.result.now (encode_utf8_all name) c.as_str-in-Some-Doctype.result.now (encode_utf8_all public_id) c.as_str-in-Some-Doctype-2.result.now (encode_utf8_all system_id)
-    (bytes_of c.as_str.result.now name c.as_str.utf8 c.as_str.ensures) (bytes_of c.as_str-in-Some-Doctype.result.now public_id c.as_str-in-Some-Doctype.utf8 c.as_str-in-Some-Doctype.ensures)
+    let is : Doctype name public_id system_id ≡ data_of f c.args.id =
+    sym (ap data_view c.in-Some-Doctype.field-0-is) ∙ c.in-Some-Doctype.ensures.about in
+    let lines = same_line c.as_str.result.now (encode_utf8_all name) c.as_str-in-Some-Doctype.result.now
+    (encode_utf8_all public_id) c.as_str-in-Some-Doctype-2.result.now (encode_utf8_all system_id)
+    (bytes_of c.as_str.result.now name c.as_str.utf8 c.as_str.ensures)
+    (bytes_of c.as_str-in-Some-Doctype.result.now public_id c.as_str-in-Some-Doctype.utf8 c.as_str-in-Some-Doctype.ensures)
     (bytes_of c.as_str-in-Some-Doctype-2.result.now system_id c.as_str-in-Some-Doctype-2.utf8 c.as_str-in-Some-Doctype-2.ensures)
     ∙ ap (λ node. data_lines node (calls_of (walked f c.args.id IncludeNode))) is in
     rw lines at c.doctype.ensures.ok

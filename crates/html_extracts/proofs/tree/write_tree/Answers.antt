@@ -18,4 +18,5 @@ pub returns-clause-ok : goal.returns-clause-ok
 returns-clause-ok g c =
     let f = c.args.forest.now in
     let before = g.W.Target.written c.loop-id.lines.writer in
-    sym (append_known-none before) ∙ (ap (λ (ns : List ℕ). append_known before (all_lines f ns)) (sym c.in-None.ensures.steps.0) ∙ c.loop-id.invariant)
+    sym (append_known-none before)
+    ∙ (ap (λ (ns : List ℕ). append_known before (all_lines f ns)) (sym c.in-None.ensures.steps.0) ∙ c.loop-id.invariant)

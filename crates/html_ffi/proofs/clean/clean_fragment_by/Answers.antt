@@ -4,7 +4,9 @@ use Rattle.html_ffi.specs.Calls.{IsCleanFragment}
 use Rattle.html_ffi.proofs.clean.clean_fragment_by.Goals as goal
 
 pub returns-in-Ok-clause-answer : goal.returns-in-Ok-clause-answer
-returns-in-Ok-clause-answer c = cleaned-put IsCleanFragment c.args.file.now c.args.page.now _ _ _ _ _ c.written-text.result.now _ _ c.in-Ok.ensures.ok c.written-text.ensures refl c.new.ensures c.put_front.ensures
+returns-in-Ok-clause-answer c = cleaned-put IsCleanFragment c.args.file.now c.args.page.now _ _ _ _ _
+    c.written-text.result.now _ _ c.in-Ok.ensures.ok c.written-text.ensures refl c.new.ensures c.put_front.ensures
 
 pub returns-in-Err-clause-answer : goal.returns-in-Err-clause-answer
-returns-in-Err-clause-answer c = cleaned-none IsCleanFragment c.args.file.now c.args.page.now _ _ _ _ c.in-Err.failure.at c.in-Err.ensures.err c.nothing.ensures refl
+returns-in-Err-clause-answer c = cleaned-none IsCleanFragment c.args.file.now c.args.page.now _ _ _ _
+    c.in-Err.failure.at c.in-Err.ensures.err c.nothing.ensures refl

@@ -12,5 +12,7 @@ returns-in-Ok-clause-ok c =
 pub returns-in-Err-clause-err : goal.returns-in-Err-clause-err
 returns-in-Err-clause-err c file =
     page-failed file c.args.page.now
-    (IsFailed (IsDocumentOf c.args.table) c.args.policy.now (Some c.new.result.left.now) (Some c.clean.new.reader.left.now) (Some c.new-writer.result.written) (Some c.clean.new.writer.written))
-    c.in-Err.fault c.from.result (λ at is. (is.1 c.args.page.now c.clean.new.reader.left.now (ap Some c.new.ensures) refl).front) c.from.ensures c.in-Err.ensures.err
+    (IsFailed (IsDocumentOf c.args.table) c.args.policy.now (Some c.new.result.left.now)
+    (Some c.clean.new.reader.left.now) (Some c.new-writer.result.written) (Some c.clean.new.writer.written))
+    c.in-Err.fault c.from.result
+    (λ at is. (is.1 c.args.page.now c.clean.new.reader.left.now (ap Some c.new.ensures) refl).front) c.from.ensures c.in-Err.ensures.err

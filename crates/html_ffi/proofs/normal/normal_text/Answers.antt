@@ -12,5 +12,8 @@ returns-in-Ok-clause-ok c =
 pub returns-in-Err-clause-err : goal.returns-in-Err-clause-err
 returns-in-Err-clause-err c =
     page-failed c.args.file.now c.args.page.now
-    (IsFailed c.in_ok-table.table (Some c.new.result.left.now) (Some c.normalise.new.reader.left.now) (Some c.new-writer.result.written) (Some c.normalise.new.writer.written))
-    c.in-Err.fault c.from.result (λ at is. (is.1 c.args.page.now c.normalise.new.reader.left.now (ap Some c.new.ensures) refl).front) c.from.ensures c.in-Err.ensures.err
+    (IsFailed c.in_ok-table.table (Some c.new.result.left.now) (Some c.normalise.new.reader.left.now)
+    (Some c.new-writer.result.written) (Some c.normalise.new.writer.written))
+    c.in-Err.fault c.from.result
+    (λ at is. (is.1 c.args.page.now c.normalise.new.reader.left.now (ap Some c.new.ensures) refl).front)
+    c.from.ensures c.in-Err.ensures.err

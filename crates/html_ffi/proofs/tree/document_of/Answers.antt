@@ -8,5 +8,7 @@ returns-in-Ok-clause-ok c = read-made _ _ _ _ _ (c.in-Ok.ensures.ok c.args.page.
 
 pub returns-in-Err-clause-err : goal.returns-in-Err-clause-err
 returns-in-Err-clause-err c file =
-    page-failed file c.args.page.now (IsInputFault ⊥ (Some c.new.result.left.now) (Some c.read_document.new.reader.left.now)) c.in-Err.fault c.from.result
-    (λ at is. (is c.args.page.now c.read_document.new.reader.left.now (ap Some c.new.ensures) refl).front) c.from.ensures c.in-Err.ensures.err
+    page-failed file c.args.page.now
+    (IsInputFault ⊥ (Some c.new.result.left.now) (Some c.read_document.new.reader.left.now)) c.in-Err.fault c.from.result
+    (λ at is. (is c.args.page.now c.read_document.new.reader.left.now (ap Some c.new.ensures) refl).front)
+    c.from.ensures c.in-Err.ensures.err

@@ -11,6 +11,7 @@ returns-in_err-add_missing-in-OwnElement-clause-err c =
     let own = c.in-OwnElement in
     let name = c.deref_mut.result.now.name in
     let back : record { name = name; attrs = c.add_missing.new.self } ≡ own.element.value =
-    ap (λ (attrs : List Attribute). record { name = name; attrs = attrs }) c.in_err-add_missing-in-OwnElement.ensures.err ∙ c.deref_mut.ensures.value in
+    ap (λ (attrs : List Attribute). record { name = name; attrs = attrs })
+    c.in_err-add_missing-in-OwnElement.ensures.err ∙ c.deref_mut.ensures.value in
     OnErr-always c.from_residual-in_err-add_missing-in-OwnElement.result
     (ap (λ (value : Own). OwnElement own.template own.integration_point (with_value own.element value)) back ∙ sym own.is)

@@ -7,4 +7,5 @@ use Rattle.html_forest.proofs.data.join_entry.Goals as goal
 pub returns-in_err-append-in-OwnText-clause-err : goal.returns-in_err-append-in-OwnText-clause-err
 returns-in_err-append-in-OwnText-clause-err c =
     OnErr-always c.from_residual-in_err-append-in-OwnText.result
-    (ap (λ (text : List ℕ). OwnText (with_value c.in-OwnText.text text)) (c.in_err-append-in-OwnText.ensures.err ∙ c.deref_mut.ensures.value) ∙ sym c.in-OwnText.is)
+    (ap (λ (text : List ℕ). OwnText (with_value c.in-OwnText.text text)) (c.in_err-append-in-OwnText.ensures.err
+    ∙ c.deref_mut.ensures.value) ∙ sym c.in-OwnText.is)

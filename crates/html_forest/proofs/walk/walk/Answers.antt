@@ -12,7 +12,8 @@ turns-init g c =
     rw (c.first_inside.ensures)
     (record {
       spot = first-spot f c.requires.is_forest c.requires.contents root;
-      ahead = ahead-none g.S.Serializer.step g.S.Serializer.refuses (g.S.Serializer.view c.args.serializer.now) (calls_of (trees_of f (inner_of f root))) _ (first-left f c.requires.is_forest c.requires.contents root);
+      ahead = ahead-none g.S.Serializer.step g.S.Serializer.refuses (g.S.Serializer.view c.args.serializer.now)
+          (calls_of (trees_of f (inner_of f root))) _ (first-left f c.requires.is_forest c.requires.contents root);
       same_references = refl;
     })
 
@@ -27,7 +28,8 @@ returns-in_err-spot-clause-walks g c =
     let new = g.S.Serializer.view c.advance.new.serializer in
     let calls = calls_of (trees_of f (inner_of f root)) in
     walks-stopped step refuses old new calls c.in_err-spot.field-0.0 c.from_residual.result c.from_residual.ensures.1
-    (ahead-stopped step refuses old mid new calls (calls_left f root c.turns.spot) c.in_err-spot.field-0.0 c.turns.invariant.ahead c.in_err-spot.ensures.advances)
+    (ahead-stopped step refuses old mid new calls (calls_left f root c.turns.spot) c.in_err-spot.field-0.0
+    c.turns.invariant.ahead c.in_err-spot.ensures.advances)
 
 pub turns-preserved : goal.turns-preserved
 turns-preserved g c =
@@ -35,8 +37,10 @@ turns-preserved g c =
     let root = c.args.root in
     record {
       spot = c.in_ok-spot.ensures.advances.0;
-      ahead = ahead-more g.S.Serializer.step g.S.Serializer.refuses (g.S.Serializer.view c.args.serializer.now) (g.S.Serializer.view c.turns.serializer) (g.S.Serializer.view c.advance.new.serializer)
-          (calls_of (trees_of f (inner_of f root))) (calls_left f root c.turns.spot) (calls_left f root c.in_ok-spot.spot) c.turns.invariant.ahead c.in_ok-spot.ensures.advances.1;
+      ahead = ahead-more g.S.Serializer.step g.S.Serializer.refuses (g.S.Serializer.view c.args.serializer.now)
+          (g.S.Serializer.view c.turns.serializer) (g.S.Serializer.view c.advance.new.serializer)
+          (calls_of (trees_of f (inner_of f root))) (calls_left f root c.turns.spot)
+          (calls_left f root c.in_ok-spot.spot) c.turns.invariant.ahead c.in_ok-spot.ensures.advances.1;
       same_references = c.in_ok-spot.ensures.same_references ∙ c.turns.invariant.same_references;
     }
 
@@ -44,5 +48,7 @@ pub returns-clause-walks : goal.returns-clause-walks
 returns-clause-walks g c =
     let f = c.args.forest.now in
     let root = c.args.root in
-    ahead-all g.S.Serializer.step g.S.Serializer.refuses (g.S.Serializer.view c.args.serializer.now) (g.S.Serializer.view c.turns.serializer) (calls_of (trees_of f (inner_of f root))) (calls_left f root c.turns.spot) c.turns.invariant.ahead
+    ahead-all g.S.Serializer.step g.S.Serializer.refuses (g.S.Serializer.view c.args.serializer.now)
+    (g.S.Serializer.view c.turns.serializer) (calls_of (trees_of f (inner_of f root)))
+    (calls_left f root c.turns.spot) c.turns.invariant.ahead
     (end-left f c.requires.is_forest c.requires.contents root c.turns.spot (sym c.is_end.ensures ∙ c.turns-test.false))

@@ -7,7 +7,8 @@ use Rattle.html_forest.proofs.walk.walk.Given as goal
 abbrev pub invariant-turns : goal.invariant-turns
 invariant-turns g l = record {
   spot : IsSpot l.forest l.root l.spot;
-  ahead : IsAhead g.S.Serializer.step (g.S.Serializer.view l.fn.serializer) (calls_of (trees_of l.forest (inner_of l.forest l.root))) (calls_left l.forest l.root l.spot) (g.S.Serializer.view l.serializer);
+  ahead : IsAhead g.S.Serializer.step (g.S.Serializer.view l.fn.serializer)
+      (calls_of (trees_of l.forest (inner_of l.forest l.root))) (calls_left l.forest l.root l.spot) (g.S.Serializer.view l.serializer);
   same_references : g.S.Serializer.references l.serializer ≡ g.S.Serializer.references l.fn.serializer;
 }
 

@@ -2,17 +2,25 @@ use Rattle.std.proofs.Common.{◌≡◌, ◌≤◌, ◌<◌, ◌++◌, take, ref
 use Rattle.std.proofs.lemmas.Grind.{common_steps}
 use Rattle.std.proofs.lemmas.List.{length-take}
 use Rattle.html_input.specs.Reading.{IsFront, StaysAtFault}
-use Rattle.html_input.proofs.Utf8.{IsFront-nil, moved-none, moved-more, shows-fault, shows-end, begun-shown, BeginsText-front, front-kept, front-all}
+use Rattle.html_input.proofs.Utf8.{IsFront-nil, moved-none, moved-more, shows-fault, shows-end, begun-shown, BeginsText-front}
+use Rattle.html_input.proofs.Utf8.{front-kept, front-all}
 use Rattle.html_input.proofs.read.read_text.Goals as goal
 
 pub loop-count-init : goal.loop-count-init
 loop-count-init g c =
-    record { moved = moved-none _ _ c.new-bytes.ensures.items; front = IsFront-nil _ c.new-bytes.ensures.items; counted = refl; same_references = refl; room = refl }
+    record {
+      moved = moved-none _ _ c.new-bytes.ensures.items;
+      front = IsFront-nil _ c.new-bytes.ensures.items;
+      counted = refl;
+      same_references = refl;
+      room = refl;
+    }
 
 pub returns-in_default-clause-err : goal.returns-in_default-clause-err
 returns-in_default-clause-err g c =
     let bytes = c.loop-count.bytes.items in
-    begun-shown _ _ _ bytes c.loop-count.invariant.moved c.in_default.ensures.kept (BeginsText-front bytes c.loop-count.valid c.loop-count.invariant.front)
+    begun-shown _ _ _ bytes c.loop-count.invariant.moved c.in_default.ensures.kept
+    (BeginsText-front bytes c.loop-count.valid c.loop-count.invariant.front)
 
 pub returns-in_default-clause-counted : goal.returns-in_default-clause-counted
 returns-in_default-clause-counted g c = search rules
@@ -34,7 +42,8 @@ returns-then-valid-len-clause-err g c =
     let room = c.loop-count.invariant.room in
     let some : 0 < length c.loop-count.buffer = omega arith in
     let moved = rw zero at c.in-Ok.ensures.moved in
-    shows-end _ _ _ c.loop-count.bytes.items c.loop-count.valid c.loop-count.invariant.moved moved (c.in-Ok.ensures.end zero some) c.loop-count.invariant.front
+    shows-end _ _ _ c.loop-count.bytes.items c.loop-count.valid c.loop-count.invariant.moved moved
+    (c.in-Ok.ensures.end zero some) c.loop-count.invariant.front
     (omega (arith, c.if-valid-len.true, c.len.ensures))
 
 pub loop-count-preserved : goal.loop-count-preserved
@@ -49,9 +58,12 @@ loop-count-preserved g c =
 
 pub valid_front-requires-clause-front : goal.valid_front-requires-clause-front
 valid_front-requires-clause-front g c =
-    front-kept c.loop-count.bytes.items (take c.in-Ok.count c.read_some.new.buffer) c.extend_from_slice.new.self.items c.as_slice.result.now c.loop-count.valid c.loop-count.invariant.front
+    front-kept c.loop-count.bytes.items (take c.in-Ok.count c.read_some.new.buffer)
+    c.extend_from_slice.new.self.items c.as_slice.result.now c.loop-count.valid c.loop-count.invariant.front
     c.in_ok-extend_from_slice.ensures.items c.as_slice.ensures.value
 
 pub unwrap-requires : goal.unwrap-requires
 unwrap-requires g c =
-    c.from_utf8.ensures.succeeds (front-all c.loop-count.bytes.items c.loop-count.valid c.len.result _ c.loop-count.invariant.front c.len.ensures (sym c.loop-count.bytes.ok.0) c.if-valid-len.false)
+    c.from_utf8.ensures.succeeds
+    (front-all c.loop-count.bytes.items c.loop-count.valid c.len.result _ c.loop-count.invariant.front
+    c.len.ensures (sym c.loop-count.bytes.ok.0) c.if-valid-len.false)

@@ -16,5 +16,6 @@ returns-in-Err-clause-err c front text long =
 
 pub returns-clause-ok : goal.returns-clause-ok
 returns-clause-ok c =
-    split-front c.args.bytes.items c.as_slice.result.now c.split_off.new.self.items _ c.in_ok-cut.cut.items c.in-Ok.valid c.as_slice.ensures.value c.in-Ok.ensures.ok c.in_ok-cut.ensures.items
+    split-front c.args.bytes.items c.as_slice.result.now c.split_off.new.self.items _ c.in_ok-cut.cut.items
+    c.in-Ok.valid c.as_slice.ensures.value c.in-Ok.ensures.ok c.in_ok-cut.ensures.items
     (ap (λ v. v.items) c.from_utf8_unchecked.ensures.value) c.in_ok-cut.ensures.tail

@@ -10,4 +10,5 @@ bounds-families-from c =
 pub returns-in-Some : goal.returns-in-Some
 returns-in-Some c =
     rw c.in-Some.is (known-family c.in-Some.known.place c.from-in-Some.result (rw c.in-Some.is at c.requires)
-    (ap (λ xs. slice_index xs c.in-Some.known.place) (sym c.families.ensures) ∙ ap (slice_index c.families.result.now) (sym c.from.ensures) ∙ sym c.from-in-Some.ensures))
+    (ap (λ xs. slice_index xs c.in-Some.known.place) (sym c.families.ensures)
+    ∙ ap (slice_index c.families.result.now) (sym c.from.ensures) ∙ sym c.from-in-Some.ensures))

@@ -6,4 +6,5 @@ pub bounds-places-family_of : goal.bounds-places-family_of
 bounds-places-family_of c = omega (arith, ap length c.places.ensures, noted-length c.args.kind c.args.mode, c.family_of.ensures.within)
 
 pub returns : goal.returns
-returns c = c.from.ensures ∙ ap (λ xs. slice_index xs c.family_of.result) c.places.ensures ∙ noted-at c.args.kind c.args.mode c.family_of.result _ c.family_of.ensures
+returns c = c.from.ensures ∙ ap (λ xs. slice_index xs c.family_of.result) c.places.ensures
+    ∙ noted-at c.args.kind c.args.mode c.family_of.result _ c.family_of.ensures

@@ -14,8 +14,10 @@ range_from-requires c =
 pub returns-then-as_bytes-character : goal.returns-then-as_bytes-character
 returns-then-as_bytes-character c =
     let first : get_or c.args.text.now 0 0 ≡ c.args.character = rw c.as_bytes.ensures.value at c.if-as_bytes-character.true in
-    rw c.range_from.ensures.value (behind-some c.args.character c.args.text.now c.utf8.text (is-nonempty _ _ c.is_empty.ensures c.if-is_empty.false) c.requires first)
+    rw c.range_from.ensures.value (behind-some c.args.character c.args.text.now c.utf8.text
+    (is-nonempty _ _ c.is_empty.ensures c.if-is_empty.false) c.requires first)
 
 pub returns-else-as_bytes-character : goal.returns-else-as_bytes-character
 returns-else-as_bytes-character c =
-    behind-other c.args.character c.args.text.now c.utf8.text (is-nonempty _ _ c.is_empty.ensures c.if-is_empty.false) c.requires (rw c.as_bytes.ensures.value at c.if-as_bytes-character.false)
+    behind-other c.args.character c.args.text.now c.utf8.text
+    (is-nonempty _ _ c.is_empty.ensures c.if-is_empty.false) c.requires (rw c.as_bytes.ensures.value at c.if-as_bytes-character.false)

@@ -6,4 +6,5 @@ pub returns-then-is_empty : goal.returns-then-is_empty
 returns-then-is_empty c = rw (no-text c.args.text.now (is-empty _ _ c.is_empty.ensures c.if-is_empty.true)) refl
 
 pub returns-else-is_empty : goal.returns-else-is_empty
-returns-else-is_empty c = rw c.up_to_value_end.ensures (value-some c.args.text.now c.utf8.text (is-nonempty _ _ c.is_empty.ensures c.if-is_empty.false))
+returns-else-is_empty c = rw c.up_to_value_end.ensures
+    (value-some c.args.text.now c.utf8.text (is-nonempty _ _ c.is_empty.ensures c.if-is_empty.false))

@@ -7,5 +7,6 @@ use Rattle.html_names.proofs.renames.adjust_attributes.Goals as goal
 
 pub returns-clause-ok : goal.returns-clause-ok
 returns-clause-ok c space kind =
-    ok-map (λ made. made ≡ map (adjust_attribute c.args.namespace) c.args.attributes) (λ made. made ≡ adjust_attributes space c.args.attributes) c.adjust_each.result
+    ok-map (λ made. made ≡ map (adjust_attribute c.args.namespace) c.args.attributes)
+    (λ made. made ≡ adjust_attributes space c.args.attributes) c.adjust_each.result
     (λ made e. e ∙ attributes-adjusted space c.args.namespace c.args.attributes kind) c.adjust_each.ensures.ok

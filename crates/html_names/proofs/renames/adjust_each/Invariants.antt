@@ -7,4 +7,5 @@ abbrev pub invariant-loop-attribute : goal.invariant-loop-attribute
 invariant-loop-attribute l =
     goal.iterator-loop-attribute.can_next l.attribute-iterator
     × goal.iterator-loop-attribute.is_finite l.attribute-iterator
-    × (l.adjusted.items ++ map (adjust_attribute l.namespace) (into_iter_items l.attribute-iterator) ≡ map (adjust_attribute l.namespace) l.fn.attributes)
+    × (l.adjusted.items ++ map (adjust_attribute l.namespace) (into_iter_items l.attribute-iterator) ≡ map
+    (adjust_attribute l.namespace) l.fn.attributes)

@@ -8,4 +8,5 @@ pub returns-in-Some-clause-within : goal.returns-in-Some-clause-within
 returns-in-Some-clause-within c = rw (c.row_at.ensures, c.foreign.ensures) (row-within c.in-Some.known.place)
 
 pub returns-in-Some-clause-found : goal.returns-in-Some-clause-found
-returns-in-Some-clause-found c whole e = rw (c.row_at.ensures, c.foreign.ensures) (foreign-known c.in-Some.known.place whole (rw e c.in-Some.ensures.found))
+returns-in-Some-clause-found c whole e = rw (c.row_at.ensures, c.foreign.ensures)
+    (foreign-known c.in-Some.known.place whole (rw e c.in-Some.ensures.found))

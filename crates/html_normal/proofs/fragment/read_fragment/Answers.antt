@@ -11,7 +11,8 @@ pub returns-in_err-read_into-clause-err : goal.returns-in_err-read_into-clause-e
 returns-in_err-read_into-clause-err g c =
     let p = err_from_is_err_and c.from_residual-in_err-read_into.result c.from_residual-in_err-read_into.ensures.1 in
     let begins = c.in_ok-parser.ensures.begins in
-    rw (p.1, p.2) (not-refused _ c.in_err-read_into.field-0.0 _ _ (none-refused _ _ _ begins.starts.read begins.taken) c.in_err-read_into.ensures.err)
+    rw (p.1, p.2) (not-refused _ c.in_err-read_into.field-0.0 _ _
+    (none-refused _ _ _ begins.starts.read begins.taken) c.in_err-read_into.ensures.err)
 
 pub returns-in_err-read_into-clause-counted : goal.returns-in_err-read_into-clause-counted
 returns-in_err-read_into-clause-counted g c =
@@ -32,6 +33,8 @@ returns-clause-ok g c =
     let all = c.in_ok-read_into.ensures.ok in
     let read = all.reads.reads _ [] begins.starts.read in
     let gives = rw c.in_ok-read_into.ensures.rest.free at c.in_ok-finish.ensures.gives in
-    fragment-made _ _ c.args.exact.tokenizer c.args.context c.options.result.tokenizer (setting_of forest_answers c.options.result.tree_builder) _ c.in_ok-forest.forest _ _ all.bytes
-    c.read_into.new.parser.input_buffer.characters _ (λ sink is. is) c.options.ensures.tokenizer c.options.ensures.tree_builder (search rules) c.in_ok-forest.ensures.ok
+    fragment-made _ _ c.args.exact.tokenizer c.args.context c.options.result.tokenizer
+    (setting_of forest_answers c.options.result.tree_builder) _ c.in_ok-forest.forest _ _ all.bytes
+    c.read_into.new.parser.input_buffer.characters _ (λ sink is. is) c.options.ensures.tokenizer
+    c.options.ensures.tree_builder (search rules) c.in_ok-forest.ensures.ok
     c.in_ok-read_into.ensures.rest.empty all.text all.moved all.end (gives _ _ read)

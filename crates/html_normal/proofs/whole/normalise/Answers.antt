@@ -11,7 +11,8 @@ returns-in_err-serialize-clause-err g c =
     let given = c.get_document-id in
     let wrote = c.in_err-serialize.ensures.text (walked given.new.self given.result c.default.result.traversal_scope) refl in
     rw (p.1, p.2)
-    (write-failed c.default.result given.new.self c.in_ok-forest.forest given.result c.default.ensures given.ensures.document given.ensures.same
+    (write-failed c.default.result given.new.self c.in_ok-forest.forest given.result c.default.ensures
+    given.ensures.document given.ensures.same
     given.ensures.is_forest.document_first _ c.args.exact.tokenizer c.in_err-serialize.field-0.0 _ _ _ _ c.in_ok-forest.ensures.ok wrote)
 
 pub returns-in_err-serialize-clause-read_failures : goal.returns-in_err-serialize-clause-read_failures
@@ -30,5 +31,7 @@ pub returns-clause-ok : goal.returns-clause-ok
 returns-clause-ok g c whole told =
     let given = c.get_document-id in
     let wrote = c.in_ok-serialize.ensures.text (walked given.new.self given.result c.default.result.traversal_scope) refl in
-    normalised c.default.result given.new.self c.in_ok-forest.forest given.result c.default.ensures given.ensures.document given.ensures.same
-    given.ensures.is_forest.document_first _ c.args.exact.tokenizer whole _ _ _ _ _ _ (c.in_ok-forest.ensures.ok whole told) wrote c.in_ok-plain.ensures.ok c.quirks.ensures c.error_count.ensures
+    normalised c.default.result given.new.self c.in_ok-forest.forest given.result c.default.ensures
+    given.ensures.document given.ensures.same
+    given.ensures.is_forest.document_first _ c.args.exact.tokenizer whole _ _ _ _ _ _
+    (c.in_ok-forest.ensures.ok whole told) wrote c.in_ok-plain.ensures.ok c.quirks.ensures c.error_count.ensures

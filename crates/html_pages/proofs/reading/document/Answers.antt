@@ -9,8 +9,10 @@ use Rattle.html_pages.proofs.reading.document.Goals as goal
 pub returns-clause-ok : goal.returns-clause-ok
 returns-clause-ok c =
     on-ok c.whole.result c.whole.ensures.ok
-    (λ out built. page-made _ (λ f. f) (λ sink made is. is) c.args.references false c.options.result.tokenizer (setting_of forest_answers c.options.result.tree_builder) c.in_ok-forest.forest (string_bytes c.args.page) out
-    c.options.ensures.tokenizer c.options.ensures.tree_builder c.in_ok-forest.ensures.ok (IsUtf8-string_bytes c.args.page) (built _ c.in_ok-parser.ensures.begins))
+    (λ out built. page-made _ (λ f. f) (λ sink made is. is) c.args.references false c.options.result.tokenizer
+    (setting_of forest_answers c.options.result.tree_builder) c.in_ok-forest.forest (string_bytes c.args.page) out
+    c.options.ensures.tokenizer c.options.ensures.tree_builder c.in_ok-forest.ensures.ok
+    (IsUtf8-string_bytes c.args.page) (built _ c.in_ok-parser.ensures.begins))
 
 pub returns-clause-fault : goal.returns-clause-fault
 returns-clause-fault c = on-err c.whole.result c.whole.ensures.fault (λ fault h. h _ c.in_ok-parser.ensures.begins)

@@ -15,5 +15,8 @@ returns-in_err-made-clause-fault c =
 
 pub returns-clause-ok : goal.returns-clause-ok
 returns-clause-ok c =
-    page-made _ (λ (n : NotedForest). n.forest) (λ sink made is. ap (λ (n : NotedForest). n.forest) is) c.args.references true c.options.result.tokenizer (setting_of forest_answers c.options.result.tree_builder) c.in_ok-forest.forest.forest (string_bytes c.args.page) c.in_ok-made.made
-    c.options.ensures.tokenizer c.options.ensures.tree_builder c.in_ok-forest.ensures.ok (IsUtf8-string_bytes c.args.page) (c.in_ok-made.ensures.ok _ c.in_ok-parser.ensures.begins)
+    page-made _ (λ (n : NotedForest). n.forest) (λ sink made is. ap (λ (n : NotedForest). n.forest) is)
+    c.args.references true c.options.result.tokenizer (setting_of forest_answers c.options.result.tree_builder)
+    c.in_ok-forest.forest.forest (string_bytes c.args.page) c.in_ok-made.made
+    c.options.ensures.tokenizer c.options.ensures.tree_builder c.in_ok-forest.ensures.ok
+    (IsUtf8-string_bytes c.args.page) (c.in_ok-made.ensures.ok _ c.in_ok-parser.ensures.begins)

@@ -10,8 +10,11 @@ returns-clause-begins g c =
     let sink = g.Sink.TreeSink in
     let setting = setting_of (answers_of sink.integration_point sink.allows_shadow_roots sink.attaches_shadow) c.args.opts.tree_builder in
     let begun = c.new-builder.ensures.begun ∙ ap (λ f. before_document setting f) c.get_document.ensures.same in
-    let tree = subst IsTree c.get_document.ensures.same (record { forest = c.get_document.ensures.is_forest; contents = c.get_document.ensures.contents }) in
+    let tree = subst IsTree c.get_document.ensures.same
+    (record { forest = c.get_document.ensures.is_forest; contents = c.get_document.ensures.contents }) in
     record {
-      starts = subst (λ s. Starts sink (from_state c.args.table c.args.opts.tokenizer s) c.over.result.has_failed c.over.result.tokenizer c.over.result.input_buffer) begun c.over.ensures;
-      taken = λ text. c.each_text_has_a_document.ensures.document c.args.table c.args.opts.tokenizer setting (sink.forest c.args.sink) tree c.requires.top text;
+      starts = subst (λ s. Starts sink (from_state c.args.table c.args.opts.tokenizer s) c.over.result.has_failed
+          c.over.result.tokenizer c.over.result.input_buffer) begun c.over.ensures;
+      taken = λ text. c.each_text_has_a_document.ensures.document c.args.table c.args.opts.tokenizer setting
+          (sink.forest c.args.sink) tree c.requires.top text;
     }

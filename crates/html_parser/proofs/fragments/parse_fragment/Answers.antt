@@ -11,7 +11,8 @@ parse_fragment_for_element-requires-clause-top g c =
     let sink = g.Sink.TreeSink in
     let f = sink.forest c.get_document.new.self in
     let top = ap (λ x. above_of x 0) c.get_document.ensures.same ∙ c.requires.top in
-    ap (λ x. above_of x 0) c.in_ok-context.ensures.ok ∙ new-top f c.args.context_name c.args.context_attrs (flags_by c.args.context_name c.args.context_attrs) c.get_document.ensures.is_forest top
+    ap (λ x. above_of x 0) c.in_ok-context.ensures.ok ∙ new-top f c.args.context_name c.args.context_attrs
+    (flags_by c.args.context_name c.args.context_attrs) c.get_document.ensures.is_forest top
 
 pub parse_fragment_for_element-requires-clause-context : goal.parse_fragment_for_element-requires-clause-context
 parse_fragment_for_element-requires-clause-context g c =
@@ -28,5 +29,8 @@ pub returns-clause-begins : goal.returns-clause-begins
 returns-clause-begins g c =
     let sink = g.Sink.TreeSink in
     let setting = setting_of (answers_of sink.integration_point sink.allows_shadow_roots sink.attaches_shadow) c.args.opts.tree_builder in
-    let same = new-beginning c.args.table c.args.opts.tokenizer setting c.args.context_name c.args.context_attrs c.args.scripting (sink.forest c.args.sink) (sink.forest c.get_document.new.self) _ _ c.get_document.ensures.same c.get_document.ensures.is_forest c.in_ok-context.ensures.named c.in_ok-context.ensures.ok in
-    subst (λ b. IfOk c.parse_fragment_for_element.result (λ parser. Begins sink b parser.has_failed parser.tokenizer parser.input_buffer)) same c.parse_fragment_for_element.ensures.begins
+    let same = new-beginning c.args.table c.args.opts.tokenizer setting c.args.context_name c.args.context_attrs
+    c.args.scripting (sink.forest c.args.sink) (sink.forest c.get_document.new.self) _ _
+    c.get_document.ensures.same c.get_document.ensures.is_forest c.in_ok-context.ensures.named c.in_ok-context.ensures.ok in
+    subst (λ b. IfOk c.parse_fragment_for_element.result
+    (λ parser. Begins sink b parser.has_failed parser.tokenizer parser.input_buffer)) same c.parse_fragment_for_element.ensures.begins

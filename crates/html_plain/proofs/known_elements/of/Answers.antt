@@ -7,4 +7,5 @@ pub bounds-table-from : goal.bounds-table-from
 bounds-table-from c = omega (arith, ap length c.table.ensures, as_many, c.from.ensures, c.requires)
 
 pub returns : goal.returns
-returns c = ap (λ l. slice_index_or l c.from.result None) c.table.ensures ∙ (ap (λ n. slice_index_or ELEMENTS n None) c.from.ensures ∙ element-at c.args.known.place)
+returns c = ap (λ l. slice_index_or l c.from.result None) c.table.ensures
+    ∙ (ap (λ n. slice_index_or ELEMENTS n None) c.from.ensures ∙ element-at c.args.known.place)

@@ -5,4 +5,10 @@ use Rattle.html_plain.proofs.laws.forms_are_written.Goals as goal
 
 pub returns : goal.returns
 unfolding written
-returns c = record { doctype = λ scripting rest. refl; text = λ scripting text rest. refl; comment = λ scripting text rest. refl; break = break-written; element = element-written }
+returns c = record {
+  doctype = λ scripting rest. refl;
+  text = λ scripting text rest. refl;
+  comment = λ scripting text rest. refl;
+  break = break-written;
+  element = element-written;
+}

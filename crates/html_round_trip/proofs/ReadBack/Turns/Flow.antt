@@ -9,7 +9,8 @@ use Rattle.html_plain.specs.declared.elements.Level.{Level}
 use Rattle.html_plain.specs.declared.elements.Level.TheVariants.{One, Two, Three, Four, Five, Six}
 use Rattle.html_plain.specs.declared.elements.ListKind.TheVariants.{Unordered, Ordered}
 use Rattle.html_plain.specs.declared.elements.PlainElement.{PlainElement}
-use Rattle.html_plain.specs.declared.elements.PlainElement.TheVariants.{Paragraph, Heading, Division, List as ListElement, Item, Table, Break, Formatted, Link}
+use Rattle.html_plain.specs.declared.elements.PlainElement.TheVariants.{Paragraph, Heading, Division, List as ListElement, Item}
+use Rattle.html_plain.specs.declared.elements.PlainElement.TheVariants.{Table, Break, Formatted, Link}
 use Rattle.html_rules.specs.Actions.{frameset_not_ok, frameset_not_ok_unless_white, set_mode}
 use Rattle.html_rules.specs.Adoption.{adoption_agency, handle_misnested_a_tags}
 use Rattle.html_rules.specs.Choice.{choose}
@@ -19,7 +20,8 @@ use Rattle.html_rules.specs.Names as names
 use Rattle.html_rules.specs.Places.{append_comment, append_text, insert_element, put_element}
 use Rattle.html_rules.specs.Rules.{Finished, rows, turn, turn_of, using_rules_for}
 use Rattle.html_rules.specs.Sets.{names_of}
-use Rattle.html_rules.specs.Stack.{close_item, close_p_element, close_p_element_in_button_scope, expect_to_close, generate_implied_end_except, generate_implied_end_tags, parse_error, pop_but_root, pop_until}
+use Rattle.html_rules.specs.Stack.{close_item, close_p_element, close_p_element_in_button_scope, expect_to_close}
+use Rattle.html_rules.specs.Stack.{generate_implied_end_except, generate_implied_end_tags, parse_error, pop_but_root, pop_until}
 use Rattle.html_rules.specs.State.{Entry, Open, State, current_is, is_in}
 use Rattle.html_rules.specs.declared.insertion_mode.InsertionMode.TheVariants as mode
 use Rattle.html_rules.specs.declared.tag_set.TagSet.TheVariants as set
@@ -61,11 +63,14 @@ after_heading s = choose (current_is (is_in set.HeadingTag) s.open_elems) (λ _.
 abbrev pub after_link : State → State
 after_link s = choose (is_some (last_named (codes "a") s.active_formatting)) (λ _. handle_misnested_a_tags s) (λ _. s)
 
-module _ (o : Around) (head : Option ℕ) (n : ℕ) (top : PlainElement) (f : Forest) (os : List Open) (es : List Entry) (ok : Bool) (attrs : List Attribute) where
+module _ (o : Around) (head : Option ℕ) (n : ℕ) (top : PlainElement) (f : Forest) (os : List Open) (es : List Entry)
+    (ok : Bool) (attrs : List Attribute) where
   abbrev here : Home → State
   here b = at o head (mode_in b) f (opened n top ∷ os) es ok
 
-  pub start-block : (k : PlainElement) → is_simple_block k ≡ true → (b : Home) → turn (start_token (spelled k) attrs) (here b) ≡ turn_of (insert_element names.Html (spelled k) attrs false (close_p_element_in_button_scope (here b))) (Finished false)
+  pub start-block : (k : PlainElement) → is_simple_block k ≡ true → (b : Home)
+      → turn (start_token (spelled k) attrs) (here b) ≡ turn_of
+      (insert_element names.Html (spelled k) attrs false (close_p_element_in_button_scope (here b))) (Finished false)
   unfolding turn is_foreign using_rules_for rows names_of
   start-block Paragraph h OfBody = refl
   start-block Paragraph h OfCell = refl
@@ -77,7 +82,9 @@ module _ (o : Around) (head : Option ℕ) (n : ℕ) (top : PlainElement) (f : Fo
   start-block (ListElement Ordered) h OfCell = refl
   start-block k h b = absurd (cc)
 
-  pub start-heading : (level : Level) (b : Home) → turn (start_token (spelled (Heading level)) attrs) (here b) ≡ turn_of (insert_element names.Html (spelled (Heading level)) attrs false (after_heading (close_p_element_in_button_scope (here b)))) (Finished false)
+  pub start-heading : (level : Level) (b : Home) → turn (start_token (spelled (Heading level)) attrs)
+      (here b) ≡ turn_of (insert_element names.Html (spelled (Heading level)) attrs false
+      (after_heading (close_p_element_in_button_scope (here b)))) (Finished false)
   unfolding turn is_foreign using_rules_for rows names_of
   start-heading One OfBody = refl
   start-heading One OfCell = refl
@@ -92,17 +99,22 @@ module _ (o : Around) (head : Option ℕ) (n : ℕ) (top : PlainElement) (f : Fo
   start-heading Six OfBody = refl
   start-heading Six OfCell = refl
 
-  pub start-item : (b : Home) → turn (start_token (spelled Item) attrs) (here b) ≡ turn_of (insert_element names.Html (spelled Item) attrs false (close_p_element_in_button_scope (close_item set.Li (frameset_not_ok (here b))))) (Finished false)
+  pub start-item : (b : Home) → turn (start_token (spelled Item) attrs) (here b) ≡ turn_of
+      (insert_element names.Html (spelled Item) attrs false
+      (close_p_element_in_button_scope (close_item set.Li (frameset_not_ok (here b))))) (Finished false)
   unfolding turn is_foreign using_rules_for rows names_of
   start-item OfBody = refl
   start-item OfCell = refl
 
-  pub start-table : (b : Home) → turn (start_token (spelled Table) attrs) (here b) ≡ turn_of (set_mode mode.InTable (frameset_not_ok (insert_element names.Html (spelled Table) attrs false (close_p_element_in_button_scope (here b))))) (Finished false)
+  pub start-table : (b : Home) → turn (start_token (spelled Table) attrs) (here b) ≡ turn_of
+      (set_mode mode.InTable (frameset_not_ok
+      (insert_element names.Html (spelled Table) attrs false (close_p_element_in_button_scope (here b))))) (Finished false)
   unfolding turn is_foreign using_rules_for rows names_of
   start-table OfBody = refl
   start-table OfCell = refl
 
-  pub start-format : (k : PlainElement) → is_format k ≡ true → (b : Home) → turn (start_token (spelled k) attrs) (here b) ≡ turn_of (create_formatting_element_for (tag_of k attrs) (reconstruct_active_formatting_elements (here b))) (Finished false)
+  pub start-format : (k : PlainElement) → is_format k ≡ true → (b : Home) → turn (start_token (spelled k) attrs)
+      (here b) ≡ turn_of (create_formatting_element_for (tag_of k attrs) (reconstruct_active_formatting_elements (here b))) (Finished false)
   unfolding turn is_foreign using_rules_for rows names_of
   start-format (Formatted Bold) h OfBody = refl
   start-format (Formatted Bold) h OfCell = refl
@@ -114,22 +126,27 @@ module _ (o : Around) (head : Option ℕ) (n : ℕ) (top : PlainElement) (f : Fo
   start-format (Formatted Code) h OfCell = refl
   start-format k h b = absurd (cc)
 
-  pub start-link : (b : Home) → turn (start_token (spelled Link) attrs) (here b) ≡ turn_of (create_formatting_element_for (tag_of Link attrs) (reconstruct_active_formatting_elements (after_link (here b)))) (Finished false)
+  pub start-link : (b : Home) → turn (start_token (spelled Link) attrs) (here b) ≡ turn_of
+      (create_formatting_element_for (tag_of Link attrs) (reconstruct_active_formatting_elements (after_link (here b)))) (Finished false)
   unfolding turn is_foreign using_rules_for rows names_of
   start-link OfBody = refl
   start-link OfCell = refl
 
-  pub start-break : (b : Home) → turn (start_token (spelled Break) attrs) (here b) ≡ turn_of (frameset_not_ok (put_element names.Html (spelled Break) attrs false (reconstruct_active_formatting_elements (here b)))) (Finished true)
+  pub start-break : (b : Home) → turn (start_token (spelled Break) attrs) (here b) ≡ turn_of
+      (frameset_not_ok (put_element names.Html (spelled Break) attrs false
+      (reconstruct_active_formatting_elements (here b)))) (Finished true)
   unfolding turn is_foreign using_rules_for rows names_of
   start-break OfBody = refl
   start-break OfCell = refl
 
-  pub character-there : (c : ℕ) (b : Home) → turn (CharacterTokens (c ∷ [])) (here b) ≡ turn_of (append_text (c ∷ []) (frameset_not_ok_unless_white (c ∷ []) (reconstruct_active_formatting_elements (here b)))) (Finished false)
+  pub character-there : (c : ℕ) (b : Home) → turn (CharacterTokens (c ∷ [])) (here b) ≡ turn_of
+      (append_text (c ∷ []) (frameset_not_ok_unless_white (c ∷ []) (reconstruct_active_formatting_elements (here b)))) (Finished false)
   unfolding turn is_foreign using_rules_for rows names_of
   character-there c OfBody = refl
   character-there c OfCell = refl
 
-  pub comment-there : (text : List ℕ) (b : Home) → turn (CommentToken text) (here b) ≡ turn_of (append_comment text (here b)) (Finished false)
+  pub comment-there : (text : List ℕ) (b : Home) → turn (CommentToken text) (here b) ≡ turn_of
+      (append_comment text (here b)) (Finished false)
   unfolding turn is_foreign using_rules_for rows names_of
   comment-there text OfBody = refl
   comment-there text OfCell = refl
@@ -138,8 +155,10 @@ module _ (o : Around) (head : Option ℕ) (n : ℕ) (f : Forest) (os : List Open
   abbrev within : PlainElement → Home → State
   within k b = at o head (mode_in b) f (opened n k ∷ os) es ok
 
-  pub end-simple : (k : PlainElement) → is_simply_ended k ≡ true → (b : Home) → turn (end_token (spelled k)) (within k b) ≡ turn_of (at o head (mode_in b) f os es ok) (Finished false)
-  unfolding turn is_foreign using_rules_for rows names_of generate_implied_end_tags generate_implied_end_except expect_to_close pop_until close_p_element close_p_element_in_button_scope
+  pub end-simple : (k : PlainElement) → is_simply_ended k ≡ true → (b : Home) → turn (end_token (spelled k))
+      (within k b) ≡ turn_of (at o head (mode_in b) f os es ok) (Finished false)
+  unfolding turn is_foreign using_rules_for rows names_of generate_implied_end_tags generate_implied_end_except
+      expect_to_close pop_until close_p_element close_p_element_in_button_scope
   end-simple Paragraph h OfBody = refl
   end-simple Paragraph h OfCell = refl
   end-simple Division h OfBody = refl
@@ -164,7 +183,8 @@ module _ (o : Around) (head : Option ℕ) (n : ℕ) (f : Forest) (os : List Open
   end-simple Item h OfCell = refl
   end-simple k h b = absurd (cc)
 
-  pub end-formatting : (k : PlainElement) → is_formatting k ≡ true → (b : Home) → turn (end_token (spelled k)) (within k b) ≡ turn_of (adoption_agency (spelled k) (within k b)) (Finished false)
+  pub end-formatting : (k : PlainElement) → is_formatting k ≡ true → (b : Home) → turn (end_token (spelled k))
+      (within k b) ≡ turn_of (adoption_agency (spelled k) (within k b)) (Finished false)
   unfolding turn is_foreign using_rules_for rows names_of
   end-formatting (Formatted Bold) h OfBody = refl
   end-formatting (Formatted Bold) h OfCell = refl

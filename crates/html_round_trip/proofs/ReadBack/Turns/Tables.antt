@@ -20,7 +20,8 @@ use Rattle.html_rules.specs.declared.insertion_mode.InsertionMode.TheVariants as
 use Rattle.html_round_trip.specs.Slices.Forms.{end_token, start_token}
 use Rattle.html_tokens.specs.declared.tags.Tag.{Tag}
 use Rattle.html_tokens.specs.declared.token.Token.TheVariants.{CharacterTokens, TagToken}
-use Rattle.html_round_trip.specs.ReadBack.States.{Around, Part, OfTable, OfBodies, OfRow, at, mode_of_part, opened, part_element, waiting_at}
+use Rattle.html_round_trip.specs.ReadBack.States.{Around, Part, OfTable, OfBodies, OfRow, at, mode_of_part, opened}
+use Rattle.html_round_trip.specs.ReadBack.States.{part_element, waiting_at}
 
 module _ (o : Around) (head : Option ℕ) (n : ℕ) (f : Forest) (os : List Open) (es : List Entry) (ok : Bool) where
   abbrev inside : Part → State
@@ -30,21 +31,26 @@ module _ (o : Around) (head : Option ℕ) (n : ℕ) (f : Forest) (os : List Open
   inside_waiting part text = waiting_at o head (mode_of_part part) f (opened n (part_element part) ∷ os) es ok text
 
   module _ (attrs : List Attribute) where
-    pub start-table_body : turn (start_token (spelled TableBody) attrs) (inside OfTable) ≡ turn_of (set_mode mode.InTableBody (insert_element names.Html (spelled TableBody) attrs false (inside OfTable))) (Finished false)
+    pub start-table_body : turn (start_token (spelled TableBody) attrs) (inside OfTable) ≡ turn_of
+        (set_mode mode.InTableBody (insert_element names.Html (spelled TableBody) attrs false (inside OfTable))) (Finished false)
     unfolding turn is_foreign using_rules_for rows names_of pop_until_current
     start-table_body = refl
 
-    pub start-row : turn (start_token (spelled Row) attrs) (inside OfBodies) ≡ turn_of (set_mode mode.InRow (insert_element names.Html (spelled Row) attrs false (inside OfBodies))) (Finished false)
+    pub start-row : turn (start_token (spelled Row) attrs) (inside OfBodies) ≡ turn_of
+        (set_mode mode.InRow (insert_element names.Html (spelled Row) attrs false (inside OfBodies))) (Finished false)
     unfolding turn is_foreign using_rules_for rows names_of pop_until_current
     start-row = refl
 
-    pub start-cell : (kind : CellKind) → turn (start_token (spelled (Cell kind)) attrs) (inside OfRow) ≡ turn_of (push_marker (set_mode mode.InCell (insert_element names.Html (spelled (Cell kind)) attrs false (inside OfRow)))) (Finished false)
+    pub start-cell : (kind : CellKind) → turn (start_token (spelled (Cell kind)) attrs) (inside OfRow) ≡ turn_of
+        (push_marker (set_mode mode.InCell (insert_element names.Html (spelled (Cell kind)) attrs false (inside OfRow)))) (Finished false)
     unfolding turn is_foreign using_rules_for rows names_of pop_until_current
     start-cell Data = refl
     start-cell Header = refl
 
-  pub end-cell : (kind : CellKind) → turn (end_token (spelled (Cell kind))) (at o head mode.InCell f (opened n (Cell kind) ∷ os) (Marker ∷ es) ok) ≡ turn_of (at o head mode.InRow f os es ok) (Finished false)
-  unfolding turn is_foreign using_rules_for rows names_of generate_implied_end_tags expect_to_close pop_until clear_active_formatting_to_marker set_mode
+  pub end-cell : (kind : CellKind) → turn (end_token (spelled (Cell kind)))
+      (at o head mode.InCell f (opened n (Cell kind) ∷ os) (Marker ∷ es) ok) ≡ turn_of (at o head mode.InRow f os es ok) (Finished false)
+  unfolding turn is_foreign using_rules_for rows names_of generate_implied_end_tags expect_to_close pop_until
+      clear_active_formatting_to_marker set_mode
   end-cell Data = refl
   end-cell Header = refl
 
@@ -56,7 +62,8 @@ module _ (o : Around) (head : Option ℕ) (n : ℕ) (f : Forest) (os : List Open
   unfolding turn is_foreign using_rules_for rows names_of pop_until_current pop_but_root set_mode
   end-table_body = refl
 
-  pub end-table : turn (end_token (spelled Table)) (inside OfTable) ≡ turn_of (reset_insertion_mode (at o head mode.InTable f os es ok)) (Finished false)
+  pub end-table : turn (end_token (spelled Table)) (inside OfTable) ≡ turn_of
+      (reset_insertion_mode (at o head mode.InTable f os es ok)) (Finished false)
   unfolding turn is_foreign using_rules_for rows names_of pop_until
   end-table = refl
 
@@ -68,14 +75,16 @@ module _ (o : Around) (head : Option ℕ) (n : ℕ) (f : Forest) (os : List Open
   first-character c OfRow = refl
 
   -- every other one
-  pub next-character : (c : ℕ) (part : Part) (text : List ℕ) → turn (CharacterTokens (c ∷ [])) (inside_waiting part text) ≡ turn_of (inside_waiting part (text ++ c ∷ [])) (Finished false)
+  pub next-character : (c : ℕ) (part : Part) (text : List ℕ) → turn (CharacterTokens (c ∷ []))
+      (inside_waiting part text) ≡ turn_of (inside_waiting part (text ++ c ∷ [])) (Finished false)
   unfolding turn is_foreign using_rules_for rows keep_text
   next-character c OfTable text = refl
   next-character c OfBodies text = refl
   next-character c OfRow text = refl
 
   -- what waits is told before a tag is taken
-  pub tag-place_after_text : (tag : Tag) (part : Part) (text : List ℕ) → turn (TagToken tag) (inside_waiting part text) ≡ turn_of (restore_mode (insert_pending_text (inside_waiting part text))) Again
+  pub tag-place_after_text : (tag : Tag) (part : Part) (text : List ℕ) → turn (TagToken tag)
+      (inside_waiting part text) ≡ turn_of (restore_mode (insert_pending_text (inside_waiting part text))) Again
   unfolding turn is_foreign using_rules_for rows
   tag-place_after_text tag OfTable text = refl
   tag-place_after_text tag OfBodies text = refl

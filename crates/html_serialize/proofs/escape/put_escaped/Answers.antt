@@ -10,5 +10,6 @@ pub returns-clause-puts : goal.returns-clause-puts
 returns-clause-puts g c =
     let mode = mode_of c.args.escaping in
     let same : escape_bytes mode false c.as_bytes.result.now ≡ encode_utf8_all (escape_in mode (chars c.args.text.now)) =
-    ap (escape_bytes mode false) (c.as_bytes.ensures.value ∙ sym (encodes-chars c.args.text.now c.utf8.text)) ∙ escape_bytes-encodes mode (chars c.args.text.now) in
+    ap (escape_bytes mode false) (c.as_bytes.ensures.value ∙ sym (encodes-chars c.args.text.now c.utf8.text))
+    ∙ escape_bytes-encodes mode (chars c.args.text.now) in
     rw (← same) c.put_escaped_bytes.ensures.puts

@@ -24,7 +24,8 @@ runs-preserved g c =
           before.1.0 ∙ ap (λ (rest : List ℕ). before.0 ++ rest) (escape_bytes-through mode bytes start at low next)
               ∙ sym (append_assoc before.0 through (escape_bytes mode false (drop (place_after bytes at) bytes)))
               ∙ ap (λ (n : ℕ). (before.0 ++ through) ++ escape_bytes mode false (drop n bytes)) (sym place),
-          c.in_ok-start.ensures.puts ∙ ap (λ (t : _). with_bytes t through) before.1.1 ∙ with_bytes-append (told_by g.Wr.Target.written g.Wr.Target.failures c.args.writer.now) before.0 through,
+          c.in_ok-start.ensures.puts ∙ ap (λ (t : _). with_bytes t through) before.1.1
+              ∙ with_bytes-append (told_by g.Wr.Target.written g.Wr.Target.failures c.args.writer.now) before.0 through,
         ),
       );
       same_references = c.in_ok-start.ensures.same_references ∙ c.runs.invariant.same_references;
@@ -37,5 +38,7 @@ returns-in_err-start-clause-puts g c =
     let start = c.runs.start in
     let at = c.next_escaped-at.result in
     let before = c.runs.invariant.done in
-    Puts-failed _ _ _ before.0 (written_through bytes start at) (escape_bytes mode false (drop (place_after bytes at) bytes)) _ _ _ c.from_residual.ensures.1 before.1.1 c.in_err-start.ensures.puts
-    (before.1.0 ∙ ap (λ (rest : List ℕ). before.0 ++ rest) (escape_bytes-through mode bytes start at c.next_escaped-at.ensures.low c.next_escaped-at.ensures.next))
+    Puts-failed _ _ _ before.0 (written_through bytes start at)
+    (escape_bytes mode false (drop (place_after bytes at) bytes)) _ _ _ c.from_residual.ensures.1 before.1.1 c.in_err-start.ensures.puts
+    (before.1.0 ∙ ap (λ (rest : List ℕ). before.0 ++ rest)
+    (escape_bytes-through mode bytes start at c.next_escaped-at.ensures.low c.next_escaped-at.ensures.next))

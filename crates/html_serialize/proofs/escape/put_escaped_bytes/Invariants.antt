@@ -6,8 +6,10 @@ use Rattle.html_serialize.proofs.escape.put_escaped_bytes.Given as goal
 abbrev pub invariant-runs : goal.invariant-runs
 invariant-runs g l = record {
   within : l.start ≤ length l.bytes;
-  done : (done : List ℕ) × ((escape_bytes (mode_of l.escaping) false l.bytes ≡ done ++ escape_bytes (mode_of l.escaping) false (drop l.start l.bytes))
-      × (told_by g.Wr.Target.written g.Wr.Target.failures l.writer ≡ with_bytes (told_by g.Wr.Target.written g.Wr.Target.failures l.fn.writer) done));
+  done : (done : List ℕ) × ((escape_bytes (mode_of l.escaping) false l.bytes ≡ done
+      ++ escape_bytes (mode_of l.escaping) false (drop l.start l.bytes))
+      × (told_by g.Wr.Target.written g.Wr.Target.failures l.writer ≡ with_bytes
+      (told_by g.Wr.Target.written g.Wr.Target.failures l.fn.writer) done));
   same_references : g.Wr.Target.references l.writer ≡ g.Wr.Target.references l.fn.writer;
 }
 

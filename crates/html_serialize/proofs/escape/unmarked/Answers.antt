@@ -6,7 +6,8 @@ use Rattle.html_serialize.proofs.escape.unmarked.Goals as goal
 
 pub returns-then-marked-eq0-clause-before : goal.returns-then-marked-eq0-clause-before
 returns-then-marked-eq0-clause-before c =
-    none_from_empty_mask (is_marked c.args.quote) c.args.bytes.now c.args.at 16 0 c.requires (sym c.marks-marked.ensures ∙ c.if-marked-eq0.true)
+    none_from_empty_mask (is_marked c.args.quote) c.args.bytes.now c.args.at 16 0 c.requires
+    (sym c.marks-marked.ensures ∙ c.if-marked-eq0.true)
 
 pub returns-clause-within : goal.returns-clause-within
 returns-clause-within c =
@@ -14,7 +15,8 @@ returns-clause-within c =
     let xs = take 16 (drop c.args.at c.args.bytes.now) in
     let long : length xs ≡ 16 = length-chunk c.args.at 16 c.args.bytes.now c.requires in
     let some : 0 < mask_l (map p xs) = omega (arith, c.marks-marked.ensures, c.if-marked-eq0.false) in
-    run_in_chunk_le p c.args.bytes.now c.args.at 16 _ 0 c.requires (ap (λ m. lib.Count.count_trailing_zeros 64 m) c.marks-marked.ensures ∙ trailing_mask_l p 64 xs (omega arith) some)
+    run_in_chunk_le p c.args.bytes.now c.args.at 16 _ 0 c.requires
+    (ap (λ m. lib.Count.count_trailing_zeros 64 m) c.marks-marked.ensures ∙ trailing_mask_l p 64 xs (omega arith) some)
 
 pub returns-clause-before : goal.returns-clause-before
 returns-clause-before c =
@@ -22,4 +24,5 @@ returns-clause-before c =
     let xs = take 16 (drop c.args.at c.args.bytes.now) in
     let long : length xs ≡ 16 = length-chunk c.args.at 16 c.args.bytes.now c.requires in
     let some : 0 < mask_l (map p xs) = omega (arith, c.marks-marked.ensures, c.if-marked-eq0.false) in
-    run_in_chunk_fails p c.args.bytes.now c.args.at 16 _ 0 c.requires (ap (λ m. lib.Count.count_trailing_zeros 64 m) c.marks-marked.ensures ∙ trailing_mask_l p 64 xs (omega arith) some)
+    run_in_chunk_fails p c.args.bytes.now c.args.at 16 _ 0 c.requires
+    (ap (λ m. lib.Count.count_trailing_zeros 64 m) c.marks-marked.ensures ∙ trailing_mask_l p 64 xs (omega arith) some)

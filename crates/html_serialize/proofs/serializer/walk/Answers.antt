@@ -13,5 +13,18 @@ at_start s (call ∷ calls) fault is = inl (is, refl)
 
 pub returns-in-Err-clause-serializes : goal.returns-in-Err-clause-serializes
 returns-in-Err-clause-serializes g c =
-    let s = started c.args.opts.scripting_enabled c.args.opts.create_missing_parent c.args.opts.traversal_scope (told_by g.Wr.Target.written g.Wr.Target.failures c.args.writer) in
-    (s, (refl, record { made = []; left = _; reached = s; parts = refl; ran = refl; stopped = at_start s _ c.in-Err.fault c.in-Err.ensures.fault }))
+    let s = started c.args.opts.scripting_enabled c.args.opts.create_missing_parent c.args.opts.traversal_scope
+    (told_by g.Wr.Target.written g.Wr.Target.failures c.args.writer) in (
+      s,
+      (
+        refl,
+        record {
+          made = [];
+          left = _;
+          reached = s;
+          parts = refl;
+          ran = refl;
+          stopped = at_start s _ c.in-Err.fault c.in-Err.ensures.fault;
+        },
+      ),
+    )

@@ -5,6 +5,8 @@ use Rattle.html_serialize.proofs.tags.put_attributes.Given as goal
 
 abbrev pub invariant-loop-attribute : goal.invariant-loop-attribute
 invariant-loop-attribute g l = record {
-  so_far : told_by g.Wr.Target.written g.Wr.Target.failures l.writer ≡ with_bytes (told_by g.Wr.Target.written g.Wr.Target.failures l.fn.writer) (encode_utf8_all (written_attributes (take l.attribute-index l.attrs)));
+  so_far : told_by g.Wr.Target.written g.Wr.Target.failures l.writer ≡ with_bytes
+      (told_by g.Wr.Target.written g.Wr.Target.failures l.fn.writer)
+      (encode_utf8_all (written_attributes (take l.attribute-index l.attrs)));
   same_references : g.Wr.Target.references l.writer ≡ g.Wr.Target.references l.fn.writer;
 }

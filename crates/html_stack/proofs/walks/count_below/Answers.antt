@@ -10,13 +10,16 @@ loop-i-init g c = IsWalked-end open_of (left_below (passes c.args.wanted)) c.arg
 
 pub returns-then-is_wanted-clause-left : goal.returns-then-is_wanted-clause-left
 returns-then-is_wanted-clause-left g c node =
-    sym (walk-at open_of (left_below (passes c.args.wanted)) c.args.elements.now c.loop-i.i _ c.index-elements-i.result c.loop-i.invariant (omega arith) c.index-elements-i.is node
+    sym (walk-at open_of (left_below (passes c.args.wanted)) c.args.elements.now c.loop-i.i _
+    c.index-elements-i.result c.loop-i.invariant (omega arith) c.index-elements-i.is node
     ∙ rw (← c.if-is_wanted.ensures node) refl)
 
 pub loop-i-preserved : goal.loop-i-preserved
 loop-i-preserved g c =
-    walk-on open_of (left_below (passes c.args.wanted)) c.args.elements.now c.loop-i.i _ c.index-elements-i.result c.loop-i.invariant (omega arith) c.index-elements-i.is
+    walk-on open_of (left_below (passes c.args.wanted)) c.args.elements.now c.loop-i.i _ c.index-elements-i.result
+    c.loop-i.invariant (omega arith) c.index-elements-i.is
     (λ node. rw (← c.if-is_wanted.ensures node) refl)
 
 pub returns-clause-left : goal.returns-clause-left
-returns-clause-left g c node = sym (walk-none open_of (left_below (passes c.args.wanted)) c.args.elements.now c.loop-i.i c.loop-i.invariant (omega arith) node)
+returns-clause-left g c node =
+    sym (walk-none open_of (left_below (passes c.args.wanted)) c.args.elements.now c.loop-i.i c.loop-i.invariant (omega arith) node)

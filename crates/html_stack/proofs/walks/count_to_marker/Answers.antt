@@ -10,12 +10,14 @@ loop-i-init g c = IsWalked-end entry_of after_marker c.args.entries.now
 
 pub returns-then-is_marker-clause-left : goal.returns-then-is_marker-clause-left
 returns-then-is_marker-clause-left g c node =
-    sym (walk-at entry_of after_marker c.args.entries.now c.loop-i.i _ c.index-entries-i.result c.loop-i.invariant (omega arith) c.index-entries-i.is node
+    sym (walk-at entry_of after_marker c.args.entries.now c.loop-i.i _ c.index-entries-i.result c.loop-i.invariant
+    (omega arith) c.index-entries-i.is node
     ∙ behind-mark (entry_of node c.index-entries-i.result) _ (c.if-is_marker.ensures node))
 
 pub loop-i-preserved : goal.loop-i-preserved
 loop-i-preserved g c =
-    walk-on entry_of after_marker c.args.entries.now c.loop-i.i _ c.index-entries-i.result c.loop-i.invariant (omega arith) c.index-entries-i.is
+    walk-on entry_of after_marker c.args.entries.now c.loop-i.i _ c.index-entries-i.result c.loop-i.invariant
+    (omega arith) c.index-entries-i.is
     (λ node. behind-element (entry_of node c.index-entries-i.result) _ (c.if-is_marker.ensures node))
 
 pub returns-clause-left : goal.returns-clause-left

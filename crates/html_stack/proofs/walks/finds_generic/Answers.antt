@@ -10,18 +10,22 @@ loop-i-init g c = IsWalked-end open_of (finds_generic (passes c.args.wanted)) c.
 
 pub returns-then-is_wanted : goal.returns-then-is_wanted
 returns-then-is_wanted g c node =
-    sym (walk-at open_of (finds_generic (passes c.args.wanted)) c.args.elements.now c.loop-i.i _ c.index-elements-i.result c.loop-i.invariant (omega arith) c.index-elements-i.is node
+    sym (walk-at open_of (finds_generic (passes c.args.wanted)) c.args.elements.now c.loop-i.i _
+    c.index-elements-i.result c.loop-i.invariant (omega arith) c.index-elements-i.is node
     ∙ rw (← c.if-is_wanted.ensures node) refl)
 
 pub returns-then-is_in : goal.returns-then-is_in
 returns-then-is_in g c node =
-    sym (walk-at open_of (finds_generic (passes c.args.wanted)) c.args.elements.now c.loop-i.i _ c.index-elements-i.result c.loop-i.invariant (omega arith) c.index-elements-i.is node
+    sym (walk-at open_of (finds_generic (passes c.args.wanted)) c.args.elements.now c.loop-i.i _
+    c.index-elements-i.result c.loop-i.invariant (omega arith) c.index-elements-i.is node
     ∙ rw (← c.if-is_wanted.ensures node, ← c.if-is_in.ensures) refl)
 
 pub loop-i-preserved : goal.loop-i-preserved
 loop-i-preserved g c =
-    walk-on open_of (finds_generic (passes c.args.wanted)) c.args.elements.now c.loop-i.i _ c.index-elements-i.result c.loop-i.invariant (omega arith) c.index-elements-i.is
+    walk-on open_of (finds_generic (passes c.args.wanted)) c.args.elements.now c.loop-i.i _
+    c.index-elements-i.result c.loop-i.invariant (omega arith) c.index-elements-i.is
     (λ node. rw (← c.if-is_wanted.ensures node, ← c.if-is_in.ensures) refl)
 
 pub returns : goal.returns
-returns g c node = sym (walk-none open_of (finds_generic (passes c.args.wanted)) c.args.elements.now c.loop-i.i c.loop-i.invariant (omega arith) node)
+returns g c node = sym (walk-none open_of (finds_generic (passes c.args.wanted)) c.args.elements.now c.loop-i.i
+    c.loop-i.invariant (omega arith) node)

@@ -4,4 +4,6 @@ use Rattle.html_rules_laws.proofs.TreePreserved.Standing.{fewer-Standing, part-f
 use Rattle.html_stack_tests.proofs.formatting.close_all.Goals as goal
 
 pub returns : goal.returns
-returns c = rw c.pop_until_current.ensures (fewer-Standing c.args._forest.now c.args.stack.now.active_formatting c.args.stack.now.open_elems _ (part-from (is_in Html) c.args.stack.now.open_elems) c.requires)
+returns c = rw c.pop_until_current.ensures
+    (fewer-Standing c.args._forest.now c.args.stack.now.active_formatting c.args.stack.now.open_elems _
+    (part-from (is_in Html) c.args.stack.now.open_elems) c.requires)

@@ -10,15 +10,19 @@ returns-in-Err-clause-refused g c line =
     let T = g.S.TokenSink in
     let some : 0 < length c.args.pieces.items = omega (arith, c.requires.some, c.args.pieces.ok) in
     let left = c.loop-text.invariant.0 ∙ ap (told T.step (T.view c.loop-text.sink)) c.in-Some.ensures.steps.0 in
-    (told-refused T.is_sound T.step T.ended T.is_quiet g.met.S.TokenSink.laws T.number (T.view c.args.sink.now) (T.view c.loop-text.sink) c.requires.sound c.args.pieces.items
-    c.next.new.self.rest.items c.in-Some.text c.in-Some.line some left c.in-Err.fault (T.view c.process_token.new.self) c.in-Err.ensures.gives line)
+    (told-refused T.is_sound T.step T.ended T.is_quiet g.met.S.TokenSink.laws T.number (T.view c.args.sink.now)
+    (T.view c.loop-text.sink) c.requires.sound c.args.pieces.items
+    c.next.new.self.rest.items c.in-Some.text c.in-Some.line some left c.in-Err.fault
+    (T.view c.process_token.new.self) c.in-Err.ensures.gives line)
 
 pub returns-clause-whole : goal.returns-clause-whole
 returns-clause-whole g c line =
     let T = g.S.TokenSink in
     let some : 0 < length c.args.pieces.items = omega (arith, c.requires.some, c.args.pieces.ok) in
-    let none : length c.loop-text.text-iterator.rest.items ≡ 0 = omega (arith, c.in-None.ensures.steps, c.loop-text.text-iterator.rest.ok) in
-    sym (told-whole T.is_sound T.step T.ended T.is_quiet g.met.S.TokenSink.laws (T.view c.args.sink.now) c.requires.sound c.args.pieces.items some line)
+    let none : length c.loop-text.text-iterator.rest.items ≡ 0 =
+    omega (arith, c.in-None.ensures.steps, c.loop-text.text-iterator.rest.ok) in
+    sym (told-whole T.is_sound T.step T.ended T.is_quiet g.met.S.TokenSink.laws (T.view c.args.sink.now)
+    c.requires.sound c.args.pieces.items some line)
     ∙ c.loop-text.invariant.0
     ∙ ap (told T.step (T.view c.loop-text.sink)) (nil_from_length c.loop-text.text-iterator.rest.items none)
 

@@ -15,8 +15,11 @@ range_from-requires c =
 pub returns-then-as_bytes-eq10 : goal.returns-then-as_bytes-eq10
 returns-then-as_bytes-eq10 c =
     let first : get_or c.args.text.now 0 0 ≡ 10 = rw c.as_bytes.ensures.value at c.if-as_bytes-eq10.true in
-    rw (c.if-not-ignore_lf.false, c.range_from.ensures.value) (line_feed-dropped c.args.text.now c.utf8.text (is-nonempty _ _ c.is_empty.ensures c.if-is_empty.false) first)
+    rw (c.if-not-ignore_lf.false, c.range_from.ensures.value)
+    (line_feed-dropped c.args.text.now c.utf8.text (is-nonempty _ _ c.is_empty.ensures c.if-is_empty.false) first)
 
 pub returns-else-as_bytes-eq10 : goal.returns-else-as_bytes-eq10
 returns-else-as_bytes-eq10 c =
-    rw c.if-not-ignore_lf.false (line_feed-other c.args.text.now c.utf8.text (is-nonempty _ _ c.is_empty.ensures c.if-is_empty.false) (rw c.as_bytes.ensures.value at c.if-as_bytes-eq10.false))
+    rw c.if-not-ignore_lf.false
+    (line_feed-other c.args.text.now c.utf8.text (is-nonempty _ _ c.is_empty.ensures c.if-is_empty.false)
+    (rw c.as_bytes.ensures.value at c.if-as_bytes-eq10.false))

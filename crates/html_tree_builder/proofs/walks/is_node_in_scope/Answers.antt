@@ -7,22 +7,31 @@ use Rattle.html_stack.proofs.WalksBack.{IsWalked-end, walk-at, walk-none, walk-o
 use Rattle.html_tree_builder.proofs.walks.is_node_in_scope.Goals as goal
 
 pub loop-i-init : goal.loop-i-init
-loop-i-init g c = IsWalked-end (λ n. open_of g.Sink.TreeSink.node) (in_scope DefaultScope (is_number (g.Sink.TreeSink.node c.args.node.now))) c.args.elements.now
+loop-i-init g c = IsWalked-end (λ n. open_of g.Sink.TreeSink.node)
+    (in_scope DefaultScope (is_number (g.Sink.TreeSink.node c.args.node.now))) c.args.elements.now
 
 pub returns-then-same_node : goal.returns-then-same_node
 returns-then-same_node g c =
-    sym (walk-at (λ n. open_of g.Sink.TreeSink.node) (in_scope DefaultScope (is_number (g.Sink.TreeSink.node c.args.node.now))) c.args.elements.now c.loop-i.i _ c.index-elements-i.result c.loop-i.invariant (omega arith) c.index-elements-i.is (λ u. 0)
+    sym (walk-at (λ n. open_of g.Sink.TreeSink.node)
+    (in_scope DefaultScope (is_number (g.Sink.TreeSink.node c.args.node.now))) c.args.elements.now c.loop-i.i
+    _ c.index-elements-i.result c.loop-i.invariant (omega arith) c.index-elements-i.is (λ u. 0)
     ∙ rw (← c.if-same_node.ensures) refl)
 
 pub returns-then-is_in : goal.returns-then-is_in
 returns-then-is_in g c =
-    sym (walk-at (λ n. open_of g.Sink.TreeSink.node) (in_scope DefaultScope (is_number (g.Sink.TreeSink.node c.args.node.now))) c.args.elements.now c.loop-i.i _ c.index-elements-i.result c.loop-i.invariant (omega arith) c.index-elements-i.is (λ u. 0)
+    sym (walk-at (λ n. open_of g.Sink.TreeSink.node)
+    (in_scope DefaultScope (is_number (g.Sink.TreeSink.node c.args.node.now))) c.args.elements.now c.loop-i.i
+    _ c.index-elements-i.result c.loop-i.invariant (omega arith) c.index-elements-i.is (λ u. 0)
     ∙ rw (← c.if-same_node.ensures, ← c.if-is_in.ensures) refl)
 
 pub loop-i-preserved : goal.loop-i-preserved
 loop-i-preserved g c =
-    walk-on (λ n. open_of g.Sink.TreeSink.node) (in_scope DefaultScope (is_number (g.Sink.TreeSink.node c.args.node.now))) c.args.elements.now c.loop-i.i _ c.index-elements-i.result c.loop-i.invariant (omega arith) c.index-elements-i.is
+    walk-on (λ n. open_of g.Sink.TreeSink.node)
+    (in_scope DefaultScope (is_number (g.Sink.TreeSink.node c.args.node.now))) c.args.elements.now c.loop-i.i _
+    c.index-elements-i.result c.loop-i.invariant (omega arith) c.index-elements-i.is
     (λ u. rw (← c.if-same_node.ensures, ← c.if-is_in.ensures) refl)
 
 pub returns : goal.returns
-returns g c = sym (walk-none (λ n. open_of g.Sink.TreeSink.node) (in_scope DefaultScope (is_number (g.Sink.TreeSink.node c.args.node.now))) c.args.elements.now c.loop-i.i c.loop-i.invariant (omega arith) (λ u. 0))
+returns g c = sym (walk-none (λ n. open_of g.Sink.TreeSink.node)
+    (in_scope DefaultScope (is_number (g.Sink.TreeSink.node c.args.node.now))) c.args.elements.now c.loop-i.i
+    c.loop-i.invariant (omega arith) (λ u. 0))

@@ -6,4 +6,5 @@ use Rattle.markup.proofs.attribute_index.has_local_name.Goals as goal
 
 pub returns-in-Some : goal.returns-in-Some
 returns-in-Some c =
-    c.contains_key.ensures ∙ (ap (λ i. is_some (place_in i.places c.args.name.now)) c.deref.ensures ∙ IsIndex-names c.in-Some.index.value c.args.attributes.now (FitsIndex-at _ _ _ c.in-Some.is c.requires) c.args.name.now)
+    c.contains_key.ensures ∙ (ap (λ i. is_some (place_in i.places c.args.name.now)) c.deref.ensures
+    ∙ IsIndex-names c.in-Some.index.value c.args.attributes.now (FitsIndex-at _ _ _ c.in-Some.is c.requires) c.args.name.now)

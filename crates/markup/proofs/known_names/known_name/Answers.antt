@@ -30,7 +30,8 @@ returns-in-Some-clause-found c =
     let same = (bytes_eq-Decides c.in-Some.known.now.now c.args.name.now).0 (sym c.if-eq.ensures) in
     its_characters c.place_of-place.result c.args.name.now (record {
       within = rw (← c.table.ensures, length-map table (λ name. name.now)) bound;
-      there = rw (← c.table.ensures) (get_or-map (λ name. name.now) table c.place_of-place.result c.args.name [] bound ∙ ap (λ name. name.now) (sym (c.in-Some.ensures.lookup.3.1 c.args.name)) ∙ same);
+      there = rw (← c.table.ensures) (get_or-map (λ name. name.now) table c.place_of-place.result c.args.name
+          [] bound ∙ ap (λ name. name.now) (sym (c.in-Some.ensures.lookup.3.1 c.args.name)) ∙ same);
     })
 
 pub returns-in_default-clause-missing : goal.returns-in_default-clause-missing
@@ -42,7 +43,9 @@ returns-in_default-clause-missing c =
     let none : list_any (bytes_eq bytes) names ≡ false =
     none_placed bytes place (c.place_of-place.ensures ∙ ap place_at c.hash_of.ensures) (λ l at.
     let there : c.in-Some.known.now.now ≡ bytes =
-    ap (λ name. name.now) (found.1 c.args.name) ∙ sym (get_or-map (λ name. name.now) table place c.args.name bytes found.0) ∙ ap (λ t. slice_index_or t place bytes) c.table.ensures ∙ at in
+    ap (λ name. name.now) (found.1 c.args.name)
+    ∙ sym (get_or-map (λ name. name.now) table place c.args.name bytes found.0)
+    ∙ ap (λ t. slice_index_or t place bytes) c.table.ensures ∙ at in
     c.if-eq.ensures ∙ (bytes_eq-Decides _ _).1 there) in
     sym (among_plain bytes c.utf8.name names names-plain) ∙ none
 

@@ -7,5 +7,6 @@ returns-clause-tree g c =
     let f = g.S.TreeSink.forest c.args.sink.now in
     let sibling = g.S.TreeSink.node c.args.sibling.now in
     IsTree-either c.append_before_sibling.result _ _ _ c.append_before_sibling.ensures.ok c.append_before_sibling.ensures.err
-    (IsTree-put_child g.S.TreeSink.node f (place_before sibling (parent_of f sibling)) _ c.requires.tree (IsPlace-before f sibling c.requires.sibling) c.requires.child)
+    (IsTree-put_child g.S.TreeSink.node f (place_before sibling (parent_of f sibling)) _ c.requires.tree
+    (IsPlace-before f sibling c.requires.sibling) c.requires.child)
     c.requires.tree

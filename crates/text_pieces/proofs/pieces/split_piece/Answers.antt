@@ -11,4 +11,5 @@ returns-then-end-eq0-clause-whole c = rw chars-nil (sym (append-nil (chars c.arg
 pub returns-clause-whole : goal.returns-clause-whole
 returns-clause-whole c =
     let end = c.floor_char_boundary-end in
-    rw (c.split_at.ensures.front, c.split_at.ensures.back) (chars-cut c.args.text.now end.result (IsUtf8-take _ _ c.utf8.text end.ensures.boundary))
+    rw (c.split_at.ensures.front, c.split_at.ensures.back)
+    (chars-cut c.args.text.now end.result (IsUtf8-take _ _ c.utf8.text end.ensures.boundary))

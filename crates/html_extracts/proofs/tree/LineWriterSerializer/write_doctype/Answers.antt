@@ -10,5 +10,6 @@ pub returns-clause-answers : goal.returns-clause-answers
 returns-clause-answers g c =
     let indent = c.args.self.now.indent.items in
     let text = c.args.name.now in
-    told (WriteDoctype (chars text)) indent _ _ _ (line indent (codes "<!DOCTYPE " ++ text ++ codes ">")) (ap (λ v. v.items) c.in_ok-put_line.ensures.indent) c.in_ok-put_line.ensures.ok
+    told (WriteDoctype (chars text)) indent _ _ _ (line indent (codes "<!DOCTYPE " ++ text ++ codes ">"))
+    (ap (λ v. v.items) c.in_ok-put_line.ensures.indent) c.in_ok-put_line.ensures.ok
     (ap (λ (bytes : List ℕ). line indent (codes "<!DOCTYPE " ++ bytes ++ codes ">")) (sym (encodes-chars text c.utf8.name)))

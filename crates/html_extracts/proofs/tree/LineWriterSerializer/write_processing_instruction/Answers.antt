@@ -11,7 +11,9 @@ returns-clause-answers g c =
     let indent = c.args.self.now.indent.items in
     let target = c.args.target.now in
     let text = c.args.contents.now in
-    told (WriteProcessingInstruction (chars target) (chars text)) indent _ _ _ (line indent (codes "<?" ++ target ++ codes " " ++ text ++ codes ">")) (ap (λ v. v.items) c.in_ok-put_instruction.ensures.indent)
+    told (WriteProcessingInstruction (chars target) (chars text)) indent _ _ _
+    (line indent (codes "<?" ++ target ++ codes " " ++ text ++ codes ">")) (ap (λ v. v.items) c.in_ok-put_instruction.ensures.indent)
     c.in_ok-put_instruction.ensures.ok
     (ap (λ (bytes : List ℕ). line indent (codes "<?" ++ bytes ++ codes " " ++ text ++ codes ">")) (sym (encodes-chars target c.utf8.target))
-    ∙ ap (λ (bytes : List ℕ). line indent (codes "<?" ++ encode_utf8_all (chars target) ++ codes " " ++ bytes ++ codes ">")) (sym (encodes-chars text c.utf8.contents)))
+    ∙ ap (λ (bytes : List ℕ). line indent (codes "<?" ++ encode_utf8_all (chars target) ++ codes " " ++ bytes
+    ++ codes ">")) (sym (encodes-chars text c.utf8.contents)))

@@ -10,5 +10,6 @@ pub returns-clause-answers : goal.returns-clause-answers
 returns-clause-answers g c =
     let indent = c.args.self.now.indent.items in
     let text = c.args.text.now in
-    told (WriteText (chars text)) indent _ _ _ (line indent (codes "\"" ++ text ++ codes "\"")) (ap (λ v. v.items) c.in_ok-put_line.ensures.indent) c.in_ok-put_line.ensures.ok
+    told (WriteText (chars text)) indent _ _ _ (line indent (codes "\"" ++ text ++ codes "\""))
+    (ap (λ v. v.items) c.in_ok-put_line.ensures.indent) c.in_ok-put_line.ensures.ok
     (ap (λ (bytes : List ℕ). line indent (codes "\"" ++ bytes ++ codes "\"")) (sym (encodes-chars text c.utf8.text)))

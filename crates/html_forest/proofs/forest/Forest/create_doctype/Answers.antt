@@ -12,7 +12,9 @@ invariant_of-self-2 c =
     let h = c.self.invariant in
     let made = c.in_ok-entry.ensures.made in
     rw (c.add_node.ensures.entries, c.add_node.ensures.links, c.in_ok-reserve.ensures.items)
-    (held _ t _ _ _ (data-pushed s t es _ _ (IsGrown-same s) h.stored made) (IsKept-with_node _ _ _ _ h.kept (record { contents = refl; template = refl; name = refl })) (AreStored-pushed s t es _ _ (IsGrown-same s) h.stored made))
+    (held _ t _ _ _ (data-pushed s t es _ _ (IsGrown-same s) h.stored made)
+    (IsKept-with_node _ _ _ _ h.kept (record { contents = refl; template = refl; name = refl }))
+    (AreStored-pushed s t es _ _ (IsGrown-same s) h.stored made))
 
 pub returns-clause-ok : goal.returns-clause-ok
 returns-clause-ok c =
@@ -22,4 +24,5 @@ returns-clause-ok c =
     let h = c.self.invariant in
     let made = c.in_ok-entry.ensures.made in
     rw (← c.self.view_is, c.add_node.ensures.entries, c.add_node.ensures.links, c.in_ok-reserve.ensures.items)
-    (held-shown _ t _ _ _ (data-pushed s t es _ _ (IsGrown-same s) h.stored made) (IsKept-with_node _ _ _ _ h.kept (record { contents = refl; template = refl; name = refl })))
+    (held-shown _ t _ _ _ (data-pushed s t es _ _ (IsGrown-same s) h.stored made)
+    (IsKept-with_node _ _ _ _ h.kept (record { contents = refl; template = refl; name = refl })))

@@ -11,7 +11,8 @@ invariant_of-self-2 c =
     let h = c.self.invariant in
     let made = c.in_ok-entry.ensures.made in
     rw (c.add_node.ensures.entries, c.add_node.ensures.links, c.in_ok-reserve.ensures.items)
-    (held _ t _ _ _ (data-pushed s t es _ _ c.html_element.ensures.grown h.stored made) (IsKept-with_node _ _ _ _ h.kept c.requires) (AreStored-pushed s t es _ _ c.html_element.ensures.grown h.stored made))
+    (held _ t _ _ _ (data-pushed s t es _ _ c.html_element.ensures.grown h.stored made)
+    (IsKept-with_node _ _ _ _ h.kept c.requires) (AreStored-pushed s t es _ _ c.html_element.ensures.grown h.stored made))
 
 pub returns-clause-ok : goal.returns-clause-ok
 returns-clause-ok c =
@@ -29,7 +30,8 @@ invariant_of-self-in_err-entry c =
     let t = c.html_element.new.self in
     let es = entries_of c.self.inside.nodes.items in
     rw c.in_ok-reserve.ensures.items
-    (held _ t es _ _ (data-grown s t es c.html_element.ensures.grown c.self.invariant.stored) c.self.invariant.kept (AreStored-grown s t es c.html_element.ensures.grown c.self.invariant.stored))
+    (held _ t es _ _ (data-grown s t es c.html_element.ensures.grown c.self.invariant.stored) c.self.invariant.kept
+    (AreStored-grown s t es c.html_element.ensures.grown c.self.invariant.stored))
 
 pub returns-in_err-entry-clause-err : goal.returns-in_err-entry-clause-err
 returns-in_err-entry-clause-err c =
@@ -37,4 +39,5 @@ returns-in_err-entry-clause-err c =
     let t = c.html_element.new.self in
     let es = entries_of c.self.inside.nodes.items in
     OnErr-always c.from_residual-in_err-entry.result
-    (rw (← c.self.view_is, c.in_ok-reserve.ensures.items) (held-shown _ t es _ _ (data-grown s t es c.html_element.ensures.grown c.self.invariant.stored) c.self.invariant.kept))
+    (rw (← c.self.view_is, c.in_ok-reserve.ensures.items)
+    (held-shown _ t es _ _ (data-grown s t es c.html_element.ensures.grown c.self.invariant.stored) c.self.invariant.kept))

@@ -3,7 +3,8 @@ use Rattle.markup.specs.Forest.NodeData.{Element}
 use Rattle.html_forest.specs.Entries.{IsMade}
 use Rattle.html_forest.specs.Views.{entries_of}
 use Rattle.html_forest.proofs.Kept.{IsKept-with_template}
-use Rattle.html_forest.proofs.Stored.{AreStored-grown, AreStored-pushed_template, OnErr-always, data-grown, data-pushed_template, held, held-shown}
+use Rattle.html_forest.proofs.Stored.{AreStored-grown, AreStored-pushed_template, OnErr-always, data-grown}
+use Rattle.html_forest.proofs.Stored.{data-pushed_template, held, held-shown}
 use Rattle.html_forest.proofs.forest.Forest.create_template.Goals as goal
 
 pub invariant_of-self-2 : goal.invariant_of-self-2
@@ -13,9 +14,19 @@ invariant_of-self-2 c =
     let es = entries_of c.self.inside.nodes.items in
     let h = c.self.invariant in
     let made : IsMade t c.in_ok-entry.entry (Element c.args.name c.args.attrs true c.args.flags.mathml_annotation_xml_integration_point) =
-    subst (λ (b : Bool). IsMade t c.in_ok-entry.entry (Element c.args.name c.args.attrs b c.args.flags.mathml_annotation_xml_integration_point)) c.requires.template c.in_ok-entry.ensures.made in
-    rw (c.add_node-2.ensures.entries, c.add_node-2.ensures.links, c.add_node.ensures.entries, c.add_node.ensures.links, c.in_ok-reserve.ensures.items)
-    (held _ t _ _ _ (data-pushed_template s t es _ _ c.element.ensures.grown h.stored made) (IsKept-with_template _ _ _ _ _ _ h.kept c.requires.named) (AreStored-pushed_template s t es _ _ c.element.ensures.grown h.stored made))
+    subst (λ (b : Bool). IsMade t c.in_ok-entry.entry
+    (Element c.args.name c.args.attrs b c.args.flags.mathml_annotation_xml_integration_point))
+    c.requires.template c.in_ok-entry.ensures.made in
+    rw (
+      c.add_node-2.ensures.entries,
+      c.add_node-2.ensures.links,
+      c.add_node.ensures.entries,
+      c.add_node.ensures.links,
+      c.in_ok-reserve.ensures.items,
+    )
+    (held _ t _ _ _ (data-pushed_template s t es _ _ c.element.ensures.grown h.stored made)
+    (IsKept-with_template _ _ _ _ _ _ h.kept c.requires.named)
+    (AreStored-pushed_template s t es _ _ c.element.ensures.grown h.stored made))
 
 pub returns-clause-ok : goal.returns-clause-ok
 returns-clause-ok c =
@@ -24,9 +35,20 @@ returns-clause-ok c =
     let es = entries_of c.self.inside.nodes.items in
     let h = c.self.invariant in
     let made : IsMade t c.in_ok-entry.entry (Element c.args.name c.args.attrs true c.args.flags.mathml_annotation_xml_integration_point) =
-    subst (λ (b : Bool). IsMade t c.in_ok-entry.entry (Element c.args.name c.args.attrs b c.args.flags.mathml_annotation_xml_integration_point)) c.requires.template c.in_ok-entry.ensures.made in
-    rw (← c.self.view_is, c.add_node-2.ensures.entries, c.add_node-2.ensures.links, c.add_node.ensures.entries, c.add_node.ensures.links, c.in_ok-reserve.ensures.items, c.requires.template)
-    (held-shown _ t _ _ _ (data-pushed_template s t es _ _ c.element.ensures.grown h.stored made) (IsKept-with_template _ _ _ _ _ _ h.kept c.requires.named))
+    subst (λ (b : Bool). IsMade t c.in_ok-entry.entry
+    (Element c.args.name c.args.attrs b c.args.flags.mathml_annotation_xml_integration_point))
+    c.requires.template c.in_ok-entry.ensures.made in
+    rw (
+      ← c.self.view_is,
+      c.add_node-2.ensures.entries,
+      c.add_node-2.ensures.links,
+      c.add_node.ensures.entries,
+      c.add_node.ensures.links,
+      c.in_ok-reserve.ensures.items,
+      c.requires.template,
+    )
+    (held-shown _ t _ _ _ (data-pushed_template s t es _ _ c.element.ensures.grown h.stored made)
+    (IsKept-with_template _ _ _ _ _ _ h.kept c.requires.named))
 
 pub invariant_of-self-in_err-entry : goal.invariant_of-self-in_err-entry
 invariant_of-self-in_err-entry c =
@@ -34,7 +56,8 @@ invariant_of-self-in_err-entry c =
     let t = c.element.new.self in
     let es = entries_of c.self.inside.nodes.items in
     rw c.in_ok-reserve.ensures.items
-    (held _ t es _ _ (data-grown s t es c.element.ensures.grown c.self.invariant.stored) c.self.invariant.kept (AreStored-grown s t es c.element.ensures.grown c.self.invariant.stored))
+    (held _ t es _ _ (data-grown s t es c.element.ensures.grown c.self.invariant.stored) c.self.invariant.kept
+    (AreStored-grown s t es c.element.ensures.grown c.self.invariant.stored))
 
 pub returns-in_err-entry-clause-err : goal.returns-in_err-entry-clause-err
 returns-in_err-entry-clause-err c =
@@ -42,4 +65,5 @@ returns-in_err-entry-clause-err c =
     let t = c.element.new.self in
     let es = entries_of c.self.inside.nodes.items in
     OnErr-always c.from_residual-in_err-entry.result
-    (rw (← c.self.view_is, c.in_ok-reserve.ensures.items) (held-shown _ t es _ _ (data-grown s t es c.element.ensures.grown c.self.invariant.stored) c.self.invariant.kept))
+    (rw (← c.self.view_is, c.in_ok-reserve.ensures.items)
+    (held-shown _ t es _ _ (data-grown s t es c.element.ensures.grown c.self.invariant.stored) c.self.invariant.kept))

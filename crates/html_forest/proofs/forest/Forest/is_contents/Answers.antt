@@ -12,7 +12,8 @@ returns-in-Contents c =
     let f = forest_view s c.self.inside.nodes.items c.self.inside.quirks c.self.inside.errors in
     let found = rw (c.deref.ensures.value, c.number.ensures) at c.in-Some.ensures.lookup in
     let there : c.args.id < length c.self.inside.nodes.items = ltb-true _ _ (sym found.0) in
-    rw (← c.self.view_is) (sym (ap is_contents (sym (about-here f s _ _ _ c.self.invariant.kept there found.1) ∙ ap (data_in s) c.in-Contents.is)))
+    rw (← c.self.view_is) (sym
+    (ap is_contents (sym (about-here f s _ _ _ c.self.invariant.kept there found.1) ∙ ap (data_in s) c.in-Contents.is)))
 
 pub returns-in_default : goal.returns-in_default
 returns-in_default c =
@@ -20,4 +21,5 @@ returns-in_default c =
     let f = forest_view s c.self.inside.nodes.items c.self.inside.quirks c.self.inside.errors in
     let found = rw (c.deref.ensures.value, c.number.ensures) at c.in-Some.ensures.lookup in
     let there : c.args.id < length c.self.inside.nodes.items = ltb-true _ _ (sym found.0) in
-    rw (← c.self.view_is) (sym (ap is_contents (sym (about-here f s _ _ _ c.self.invariant.kept there found.1)) ∙ other-than-contents s c.in-Some.node.now.entry c.in_default.not-Contents))
+    rw (← c.self.view_is) (sym (ap is_contents (sym (about-here f s _ _ _ c.self.invariant.kept there found.1))
+    ∙ other-than-contents s c.in-Some.node.now.entry c.in_default.not-Contents))

@@ -7,4 +7,5 @@ pub returns-in-Before : goal.returns-in-Before
 returns-in-Before c =
     let stands = rw (← c.self.view_is, c.in-Before.is) at c.requires in
     rw (← c.self.view_is, c.in-Before.is, c.node-in-Before.ensures, c.links-in-Before.ensures)
-    (ap (λ (l : Links). l.previous) (c.self.invariant.kept.is_linked c.in-Before.sibling) ∙ previous-here _ _ _ c.self.invariant.kept.is_forest stands)
+    (ap (λ (l : Links). l.previous) (c.self.invariant.kept.is_linked c.in-Before.sibling)
+    ∙ previous-here _ _ _ c.self.invariant.kept.is_forest stands)

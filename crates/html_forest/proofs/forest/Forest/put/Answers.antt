@@ -17,15 +17,21 @@ link_between-requires-clause-parent c =
 pub link_between-requires-clause-previous : goal.link_between-requires-clause-previous
 link_between-requires-clause-previous c =
     let f = forest_view c.self.inside.store c.self.inside.nodes.items c.self.inside.quirks c.self.inside.errors in
-    rw (c.previous_at-previous.ensures, ← c.self.view_is) (below-count f c.self.inside.nodes.items _ _ c.self.invariant.kept (omega arith) (previous-there f (place_view c.args.place.now) c.self.invariant.kept.is_forest))
+    rw (c.previous_at-previous.ensures, ← c.self.view_is)
+    (below-count f c.self.inside.nodes.items _ _ c.self.invariant.kept (omega arith)
+    (previous-there f (place_view c.args.place.now) c.self.invariant.kept.is_forest))
 
 pub link_between-requires-clause-next : goal.link_between-requires-clause-next
 link_between-requires-clause-next c =
     let f = forest_view c.self.inside.store c.self.inside.nodes.items c.self.inside.quirks c.self.inside.errors in
     let place = rw (← c.self.view_is) at c.requires.place in
-    rw c.around-parent.ensures (below-count f c.self.inside.nodes.items _ _ c.self.invariant.kept (omega arith) (next-there f (place_view c.args.place.now) c.self.invariant.kept.is_forest place))
+    rw c.around-parent.ensures (below-count f c.self.inside.nodes.items _ _ c.self.invariant.kept (omega arith)
+    (next-there f (place_view c.args.place.now) c.self.invariant.kept.is_forest place))
 
-kept : (c : goal.After-link_between) → IsKept (put (forest_view c.self.inside.store c.self.inside.nodes.items c.self.inside.quirks c.self.inside.errors) (place_view c.args.place.now) c.args.child) (abouts_of c.self.inside.store c.self.inside.nodes.items) (links_of c.link_between.new.nodes.items)
+kept : (c : goal.After-link_between)
+    → IsKept (put (forest_view c.self.inside.store c.self.inside.nodes.items c.self.inside.quirks
+    c.self.inside.errors) (place_view c.args.place.now) c.args.child)
+    (abouts_of c.self.inside.store c.self.inside.nodes.items) (links_of c.link_between.new.nodes.items)
 kept c =
     let place = rw (← c.self.view_is) at c.requires.place in
     let loose = rw (← c.self.view_is) at c.requires.child in

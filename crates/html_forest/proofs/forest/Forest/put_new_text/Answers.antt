@@ -13,4 +13,5 @@ pub put-requires-clause-child : goal.put-requires-clause-child
 put-requires-clause-child c =
     let place = rw (← c.self.view_is) at c.requires in
     let made = IsMade-with_node _ (Text c.args.text) c.self.invariant.kept.is_forest refl in
-    rw (c.in_ok-made.ensures.ok, c.in_ok-made.ensures.named, ← c.self.view_is) (made.loose _ (IsParent-place _ _ c.self.invariant.kept.is_forest place).there)
+    rw (c.in_ok-made.ensures.ok, c.in_ok-made.ensures.named, ← c.self.view_is)
+    (made.loose _ (IsParent-place _ _ c.self.invariant.kept.is_forest place).there)

@@ -11,7 +11,9 @@ returns-then-is_template c =
     let f = forest_view s c.self.inside.nodes.items c.self.inside.quirks c.self.inside.errors in
     let found = rw (c.deref.ensures.value, c.number.ensures) at c.in-Some.ensures.lookup in
     let there : c.args.id < length c.self.inside.nodes.items = ltb-true _ _ (sym found.0) in
-    let template : template_of (data_of f c.args.id) ≡ true = sym (ap template_of (about-here f s _ _ _ c.self.invariant.kept there found.1)) ∙ (sym (template-is s c.in-Some.node.now.entry) ∙ (sym c.is_template.ensures ∙ c.if-is_template.true)) in
+    let template : template_of (data_of f c.args.id) ≡ true =
+    sym (ap template_of (about-here f s _ _ _ c.self.invariant.kept there found.1))
+    ∙ (sym (template-is s c.in-Some.node.now.entry) ∙ (sym c.is_template.ensures ∙ c.if-is_template.true)) in
     rw (← c.self.view_is, c.new.ensures, c.number-then-is_template.ensures, template) refl
 
 pub returns-else-is_template : goal.returns-else-is_template
@@ -20,5 +22,7 @@ returns-else-is_template c =
     let f = forest_view s c.self.inside.nodes.items c.self.inside.quirks c.self.inside.errors in
     let found = rw (c.deref.ensures.value, c.number.ensures) at c.in-Some.ensures.lookup in
     let there : c.args.id < length c.self.inside.nodes.items = ltb-true _ _ (sym found.0) in
-    let plain : template_of (data_of f c.args.id) ≡ false = sym (ap template_of (about-here f s _ _ _ c.self.invariant.kept there found.1)) ∙ (sym (template-is s c.in-Some.node.now.entry) ∙ (sym c.is_template.ensures ∙ c.if-is_template.false)) in
+    let plain : template_of (data_of f c.args.id) ≡ false =
+    sym (ap template_of (about-here f s _ _ _ c.self.invariant.kept there found.1))
+    ∙ (sym (template-is s c.in-Some.node.now.entry) ∙ (sym c.is_template.ensures ∙ c.if-is_template.false)) in
     rw (← c.self.view_is, plain) refl

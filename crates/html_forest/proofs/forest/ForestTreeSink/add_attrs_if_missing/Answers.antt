@@ -6,7 +6,8 @@ invariant_of-self c =
     let there = rw (← c.self.view_is) at c.requires in
     rw c.add_attributes.ensures.links
     (record {
-      kept = IsKept-given c.add_attributes.result _ _ _ _ c.args.target.now c.args.attributes c.self.invariant.kept there c.add_attributes.ensures.ok c.add_attributes.ensures.err;
+      kept = IsKept-given c.add_attributes.result _ _ _ _ c.args.target.now c.args.attributes c.self.invariant.kept
+          there c.add_attributes.ensures.ok c.add_attributes.ensures.err;
       stored = c.add_attributes.ensures.stored;
     })
 
@@ -14,4 +15,5 @@ pub returns-clause-ok : goal.returns-clause-ok
 returns-clause-ok c =
     let there = rw (← c.self.view_is) at c.requires in
     rw (← c.self.view_is, c.add_attributes.ensures.links)
-    (given-shown c.add_attributes.result _ _ _ _ c.args.target.now c.args.attributes c.self.invariant.kept there c.add_attributes.ensures.ok)
+    (given-shown c.add_attributes.result _ _ _ _ c.args.target.now c.args.attributes c.self.invariant.kept there
+    c.add_attributes.ensures.ok)

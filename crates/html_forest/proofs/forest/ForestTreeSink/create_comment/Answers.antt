@@ -12,7 +12,9 @@ invariant_of-self-2 c =
     let h = c.self.invariant in
     let made = c.in_ok-entry.ensures.made in
     rw (c.add_node.ensures.entries, c.add_node.ensures.links, c.in_ok-reserve.ensures.items)
-    (held _ t _ _ _ (data-pushed s t es _ _ c.comment.ensures.grown h.stored made) (IsKept-with_node _ _ _ _ h.kept (record { contents = refl; template = refl; name = refl })) (AreStored-pushed s t es _ _ c.comment.ensures.grown h.stored made))
+    (held _ t _ _ _ (data-pushed s t es _ _ c.comment.ensures.grown h.stored made)
+    (IsKept-with_node _ _ _ _ h.kept (record { contents = refl; template = refl; name = refl }))
+    (AreStored-pushed s t es _ _ c.comment.ensures.grown h.stored made))
 
 pub returns-clause-ok : goal.returns-clause-ok
 returns-clause-ok c =
@@ -22,7 +24,8 @@ returns-clause-ok c =
     let h = c.self.invariant in
     let made = c.in_ok-entry.ensures.made in
     rw (← c.self.view_is, c.add_node.ensures.entries, c.add_node.ensures.links, c.in_ok-reserve.ensures.items)
-    (held-shown _ t _ _ _ (data-pushed s t es _ _ c.comment.ensures.grown h.stored made) (IsKept-with_node _ _ _ _ h.kept (record { contents = refl; template = refl; name = refl })))
+    (held-shown _ t _ _ _ (data-pushed s t es _ _ c.comment.ensures.grown h.stored made)
+    (IsKept-with_node _ _ _ _ h.kept (record { contents = refl; template = refl; name = refl })))
 
 pub invariant_of-self-in_err-entry : goal.invariant_of-self-in_err-entry
 invariant_of-self-in_err-entry c =
@@ -30,7 +33,8 @@ invariant_of-self-in_err-entry c =
     let t = c.comment.new.self in
     let es = entries_of c.self.inside.nodes.items in
     rw c.in_ok-reserve.ensures.items
-    (held _ t es _ _ (data-grown s t es c.comment.ensures.grown c.self.invariant.stored) c.self.invariant.kept (AreStored-grown s t es c.comment.ensures.grown c.self.invariant.stored))
+    (held _ t es _ _ (data-grown s t es c.comment.ensures.grown c.self.invariant.stored) c.self.invariant.kept
+    (AreStored-grown s t es c.comment.ensures.grown c.self.invariant.stored))
 
 pub returns-in_err-entry-clause-err : goal.returns-in_err-entry-clause-err
 returns-in_err-entry-clause-err c =
@@ -38,4 +42,5 @@ returns-in_err-entry-clause-err c =
     let t = c.comment.new.self in
     let es = entries_of c.self.inside.nodes.items in
     OnErr-always c.from_residual-in_err-entry.result
-    (rw (← c.self.view_is, c.in_ok-reserve.ensures.items) (held-shown _ t es _ _ (data-grown s t es c.comment.ensures.grown c.self.invariant.stored) c.self.invariant.kept))
+    (rw (← c.self.view_is, c.in_ok-reserve.ensures.items)
+    (held-shown _ t es _ _ (data-grown s t es c.comment.ensures.grown c.self.invariant.stored) c.self.invariant.kept))

@@ -18,18 +18,26 @@ unlink-requires-clause-parent c =
 pub unlink-requires-clause-previous : goal.unlink-requires-clause-previous
 unlink-requires-clause-previous c =
     let f = forest_view c.self.inside.store c.self.inside.nodes.items c.self.inside.quirks c.self.inside.errors in
-    rw (c.self.invariant.kept.is_linked c.args.target.now) (below-count f c.self.inside.nodes.items _ _ c.self.invariant.kept (omega arith) (linked-there f c.self.inside.nodes.items c.args.target.now c.self.invariant.kept).0)
+    rw (c.self.invariant.kept.is_linked c.args.target.now)
+    (below-count f c.self.inside.nodes.items _ _ c.self.invariant.kept (omega arith)
+    (linked-there f c.self.inside.nodes.items c.args.target.now c.self.invariant.kept).0)
 
 pub unlink-requires-clause-next : goal.unlink-requires-clause-next
 unlink-requires-clause-next c =
     let f = forest_view c.self.inside.store c.self.inside.nodes.items c.self.inside.quirks c.self.inside.errors in
-    rw (c.self.invariant.kept.is_linked c.args.target.now) (below-count f c.self.inside.nodes.items _ _ c.self.invariant.kept (omega arith) (linked-there f c.self.inside.nodes.items c.args.target.now c.self.invariant.kept).1)
+    rw (c.self.invariant.kept.is_linked c.args.target.now)
+    (below-count f c.self.inside.nodes.items _ _ c.self.invariant.kept (omega arith)
+    (linked-there f c.self.inside.nodes.items c.args.target.now c.self.invariant.kept).1)
 
-kept : (c : goal.After-unlink) → IsKept (remove_under (forest_view c.self.inside.store c.self.inside.nodes.items c.self.inside.quirks c.self.inside.errors) c.args.target.now (Some c.in-Some.parent)) (abouts_of c.self.inside.store c.self.inside.nodes.items) (links_of c.unlink.new.nodes.items)
+kept : (c : goal.After-unlink)
+    → IsKept (remove_under (forest_view c.self.inside.store c.self.inside.nodes.items c.self.inside.quirks
+    c.self.inside.errors) c.args.target.now (Some c.in-Some.parent))
+    (abouts_of c.self.inside.store c.self.inside.nodes.items) (links_of c.unlink.new.nodes.items)
 kept c =
     let f = forest_view c.self.inside.store c.self.inside.nodes.items c.self.inside.quirks c.self.inside.errors in
     let stands : parent_of f c.args.target.now ≡ Some c.in-Some.parent = sym (rw (← c.self.view_is) at c.in-Some.ensures) in
-    subst (λ (o : Option ℕ). IsKept (remove_under f c.args.target.now o) (abouts_of c.self.inside.store c.self.inside.nodes.items) (links_of c.unlink.new.nodes.items)) stands
+    subst (λ (o : Option ℕ). IsKept (remove_under f c.args.target.now o)
+    (abouts_of c.self.inside.store c.self.inside.nodes.items) (links_of c.unlink.new.nodes.items)) stands
     (IsKept-removed f _ _ _ c.args.target.now c.in-Some.parent c.self.invariant.kept stands
     (omega (arith, length-links_of c.self.inside.nodes.items, length-links_of c.unlink.new.nodes.items, c.unlink.ensures.len))
     c.unlink.ensures.links)
@@ -41,4 +49,5 @@ pub returns-in-Some : goal.returns-in-Some
 returns-in-Some c =
     let f = forest_view c.self.inside.store c.self.inside.nodes.items c.self.inside.quirks c.self.inside.errors in
     let stands : parent_of f c.args.target.now ≡ Some c.in-Some.parent = sym (rw (← c.self.view_is) at c.in-Some.ensures) in
-    rw (← c.self.view_is, c.unlink.ensures.entries) (shown _ _ _ (kept c) ∙ ap (λ (o : Option ℕ). remove_under f c.args.target.now o) (sym stands))
+    rw (← c.self.view_is, c.unlink.ensures.entries)
+    (shown _ _ _ (kept c) ∙ ap (λ (o : Option ℕ). remove_under f c.args.target.now o) (sym stands))

@@ -7,8 +7,10 @@ use Rattle.html_forest.proofs.store.Store.comment.Goals as goal
 
 pub returns-clause-made : goal.returns-clause-made
 returns-clause-made c =
-    let same : length c.as_str.result.now ≡ length c.as_str-len.result.now = ap length (same_bytes _ _ c.args.text c.as_str.utf8 c.as_str-len.utf8 c.as_str.ensures c.as_str-len.ensures) in
+    let same : length c.as_str.result.now ≡ length c.as_str-len.result.now =
+    ap length (same_bytes _ _ c.args.text c.as_str.utf8 c.as_str-len.utf8 c.as_str.ensures c.as_str-len.ensures) in
     record {
       stored = subst (λ n. IsRange (string_bytes c.put_characters.new.self.texts) c.in_ok-at.at n) same c.in_ok-at.ensures.range;
-      shown = ap (λ (cs : List ℕ). Node cs) (ap (text_in c.put_characters.new.self c.in_ok-at.at) (sym same) ∙ (c.in_ok-at.ensures.ok ∙ c.as_str.ensures));
+      shown = ap (λ (cs : List ℕ). Node cs) (ap (text_in c.put_characters.new.self c.in_ok-at.at) (sym same)
+          ∙ (c.in_ok-at.ensures.ok ∙ c.as_str.ensures));
     }

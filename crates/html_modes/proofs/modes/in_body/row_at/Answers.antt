@@ -5,24 +5,32 @@ use Rattle.html_modes.proofs.modes.in_body.row_at.Goals as goal
 
 pub returns-then-place-lt17 : goal.returns-then-place-lt17
 returns-then-place-lt17 c =
-    got c.structure.result.now (take 17 in_body) c.args.place c.get.result c.get.ensures.lookup c.structure.ensures ∙ get-take 17 in_body c.args.place c.if-place-lt17.true
+    got c.structure.result.now (take 17 in_body) c.args.place c.get.result c.get.ensures.lookup c.structure.ensures
+    ∙ get-take 17 in_body c.args.place c.if-place-lt17.true
 
 pub returns-then-place-lt39 : goal.returns-then-place-lt39
 returns-then-place-lt39 c =
-    got c.blocks-then-place-lt39.result.now (take 22 (drop 17 in_body)) (c.args.place - 17) c.get-then-place-lt39.result c.get-then-place-lt39.ensures.lookup c.blocks-then-place-lt39.ensures
-    ∙ get-part 22 17 in_body (c.args.place - 17) c.args.place (omega (arith, c.if-place-lt17.false, c.if-place-lt39.true)) (omega (arith, c.if-place-lt17.false))
+    got c.blocks-then-place-lt39.result.now (take 22 (drop 17 in_body)) (c.args.place - 17)
+    c.get-then-place-lt39.result c.get-then-place-lt39.ensures.lookup c.blocks-then-place-lt39.ensures
+    ∙ get-part 22 17 in_body (c.args.place - 17) c.args.place
+    (omega (arith, c.if-place-lt17.false, c.if-place-lt39.true)) (omega (arith, c.if-place-lt17.false))
 
 pub returns-then-place-lt58 : goal.returns-then-place-lt58
 returns-then-place-lt58 c =
-    got c.formatting.result.now (take 19 (drop 39 in_body)) (c.args.place - 39) c.get-then-place-lt58.result c.get-then-place-lt58.ensures.lookup c.formatting.ensures
-    ∙ get-part 19 39 in_body (c.args.place - 39) c.args.place (omega (arith, c.if-place-lt39.false, c.if-place-lt58.true)) (omega (arith, c.if-place-lt39.false))
+    got c.formatting.result.now (take 19 (drop 39 in_body)) (c.args.place - 39) c.get-then-place-lt58.result
+    c.get-then-place-lt58.ensures.lookup c.formatting.ensures
+    ∙ get-part 19 39 in_body (c.args.place - 39) c.args.place
+    (omega (arith, c.if-place-lt39.false, c.if-place-lt58.true)) (omega (arith, c.if-place-lt39.false))
 
 pub returns-then-place-lt72 : goal.returns-then-place-lt72
 returns-then-place-lt72 c =
-    got c.content.result.now (take 14 (drop 58 in_body)) (c.args.place - 58) c.get-then-place-lt72.result c.get-then-place-lt72.ensures.lookup c.content.ensures
-    ∙ get-part 14 58 in_body (c.args.place - 58) c.args.place (omega (arith, c.if-place-lt58.false, c.if-place-lt72.true)) (omega (arith, c.if-place-lt58.false))
+    got c.content.result.now (take 14 (drop 58 in_body)) (c.args.place - 58) c.get-then-place-lt72.result
+    c.get-then-place-lt72.ensures.lookup c.content.ensures
+    ∙ get-part 14 58 in_body (c.args.place - 58) c.args.place
+    (omega (arith, c.if-place-lt58.false, c.if-place-lt72.true)) (omega (arith, c.if-place-lt58.false))
 
 pub returns-else-place-lt72 : goal.returns-else-place-lt72
 returns-else-place-lt72 c =
-    got c.rest.result.now (drop 72 in_body) (c.args.place - 72) c.get-else-place-lt72.result c.get-else-place-lt72.ensures.lookup c.rest.ensures
+    got c.rest.result.now (drop 72 in_body) (c.args.place - 72) c.get-else-place-lt72.result
+    c.get-else-place-lt72.ensures.lookup c.rest.ensures
     ∙ get-drop 72 in_body (c.args.place - 72) c.args.place (omega (arith, c.if-place-lt72.false))

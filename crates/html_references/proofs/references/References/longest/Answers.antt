@@ -12,13 +12,22 @@ returns-in-None c =
     rw (c.deref.ensures.value, c.as_bytes.ensures.value) at c.in-None.ensures.longest
     ∙ (longest-chars c.self.inside.rows.items c.self.inside.order.items c.args.text.now c.self.invariant.order_of c.utf8.text
     ∙ ap (λ rows. longest rows (chars c.args.text.now)) c.self.view_is) in
-    record { row = e; longest = subst (MatchesLongest c.args.self.now (chars c.args.text.now)) (sym e) (longest-matches c.args.self.now (chars c.args.text.now)) }
+    record {
+      row = e;
+      longest = subst (MatchesLongest c.args.self.now (chars c.args.text.now)) (sym e)
+          (longest-matches c.args.self.now (chars c.args.text.now));
+    }
 
 pub returns-in-Some : goal.returns-in-Some
 returns-in-Some c =
     let e =
-    slice_get-get_or c.self.inside.rows.items c.in-Some.place c.index.result.now (rw c.deref.ensures.value at c.in-Some.ensures.within) c.index.ensures
+    slice_get-get_or c.self.inside.rows.items c.in-Some.place c.index.result.now
+    (rw c.deref.ensures.value at c.in-Some.ensures.within) c.index.ensures
     ∙ (rw (c.deref.ensures.value, c.as_bytes.ensures.value) at c.in-Some.ensures.longest
     ∙ (longest-chars c.self.inside.rows.items c.self.inside.order.items c.args.text.now c.self.invariant.order_of c.utf8.text
     ∙ ap (λ rows. longest rows (chars c.args.text.now)) c.self.view_is)) in
-    record { row = e; longest = subst (MatchesLongest c.args.self.now (chars c.args.text.now)) (sym e) (longest-matches c.args.self.now (chars c.args.text.now)) }
+    record {
+      row = e;
+      longest = subst (MatchesLongest c.args.self.now (chars c.args.text.now)) (sym e)
+          (longest-matches c.args.self.now (chars c.args.text.now));
+    }

@@ -8,7 +8,8 @@ use Rattle.html_references.proofs.references.References.new.Goals as goal
 
 pub returns-in_err-order-clause-first : goal.returns-in_err-order-clause-first
 returns-in_err-order-clause-first c =
-    let told : IfErr c.from_residual.result (λ fault. fault ≢ Memory → fault_of c.args.rows.items ≡ Some fault) = first_of (search rules, grind (arith, common_steps)) in
+    let told : IfErr c.from_residual.result (λ fault. fault ≢ Memory → fault_of c.args.rows.items ≡ Some fault) =
+    first_of (search rules, grind (arith, common_steps)) in
     first_told c.args.rows.items c.from_residual.result told
 
 pub returns-clause-table : goal.returns-clause-table

@@ -12,7 +12,8 @@ loop-index-preserved c =
     elim c.if-is_repeated.branch [
       | then-is_repeated w ↦
           rw (w.first-is, w.sooner.ensures)
-          (below-repeat c.args.rows.now c.args.order.now c.loop-index.index c.loop-index.first (c.is_repeated.ensures.0 w.if-is_repeated.true) c.loop-index.invariant)
+          (below-repeat c.args.rows.now c.args.order.now c.loop-index.index c.loop-index.first
+          (c.is_repeated.ensures.0 w.if-is_repeated.true) c.loop-index.invariant)
       | else-is_repeated w ↦
           rw w.first-is
           (below-other c.args.rows.now c.args.order.now c.loop-index.index c.loop-index.first

@@ -8,7 +8,8 @@ pub returns-then-index-order : goal.returns-then-index-order
 returns-then-index-order c =
     let first : c.name_bytes.result.now ≡ ordered_name c.args.rows.now c.args.order.now c.args.index =
     c.name_bytes.ensures
-    ∙ (ap (λ row. row.name) c.index-rows-order.is ∙ sym (name_at-get_or _ _ c.index-rows-order.result (c.requires.arranged.within _ c.requires.within))) in
+    ∙ (ap (λ row. row.name) c.index-rows-order.is
+    ∙ sym (name_at-get_or _ _ c.index-rows-order.result (c.requires.arranged.within _ c.requires.within))) in
     let second : c.name_bytes-then-index-order.result.now ≡ ordered_name c.args.rows.now c.args.order.now (c.args.index + 1) =
     c.name_bytes-then-index-order.ensures
     ∙ (ap (λ row. row.name) c.index-rows-order-then-index-order.is

@@ -10,5 +10,6 @@ loop-place-preserved c k d l =
     (λ (b : k < c.loop-place.place). c.loop-place.invariant k d b)
     (λ (b : c.loop-place.place ≤ k).
     let e : k ≡ c.loop-place.place = omega arith in
-    rw e (ap is_good (get_or_default c.args.rows.now c.loop-place.place d c.index-rows-place.result c.loop-place-test.true ∙ sym c.index-rows-place.is) ∙ (sym c.is_good.ensures ∙ c.if-not-is_good.false)))
+    rw e (ap is_good (get_or_default c.args.rows.now c.loop-place.place d c.index-rows-place.result
+    c.loop-place-test.true ∙ sym c.index-rows-place.is) ∙ (sym c.is_good.ensures ∙ c.if-not-is_good.false)))
     (cases_lt k c.loop-place.place)

@@ -6,4 +6,5 @@ use Rattle.html_references.proofs.references.check.is_named_well.Goals as goal
 pub returns : goal.returns
 returns c =
     c.is_name.ensures
-    ∙ (ap is_reference_name c.as_bytes.ensures.value ∙ (is_reference_name-chars c.as_str.result.now c.as_str.utf8 ∙ ap is_reference_name c.as_str.ensures))
+    ∙ (ap is_reference_name c.as_bytes.ensures.value ∙ (is_reference_name-chars c.as_str.result.now c.as_str.utf8
+    ∙ ap is_reference_name c.as_str.ensures))

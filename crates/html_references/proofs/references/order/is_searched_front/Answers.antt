@@ -10,4 +10,5 @@ pub goes_on_at-requires-clause-first : goal.goes_on_at-requires-clause-first
 goes_on_at-requires-clause-first c = λ i _ b. after_place _ _ _ _ c.in-Err.ensures.absent i b
 
 pub returns-in-Err : goal.returns-in-Err
-returns-in-Err c = c.goes_on_at.ensures ∙ front-unnamed c.args.rows.now c.args.text.now (absent _ c.args.order.now _ _ c.requires c.in-Err.ensures.absent)
+returns-in-Err c = c.goes_on_at.ensures ∙ front-unnamed c.args.rows.now c.args.text.now
+    (absent _ c.args.order.now _ _ c.requires c.in-Err.ensures.absent)

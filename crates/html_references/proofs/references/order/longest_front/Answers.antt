@@ -10,10 +10,13 @@ loop-end-preserved c = record {
   fits = omega arith;
   within =
       rw c.or-longest.ensures
-      (within-more (length c.args.rows.now) c.find.result c.loop-end.longest (found-within c.args.rows.now (take (c.loop-end.end + 1) c.args.text.now) c.find.result c.find.ensures.found) c.loop-end.invariant.within);
+      (within-more (length c.args.rows.now) c.find.result c.loop-end.longest
+      (found-within c.args.rows.now (take (c.loop-end.end + 1) c.args.text.now) c.find.result
+      c.find.ensures.found) c.loop-end.invariant.within);
   longest =
       rw c.or-longest.ensures
-      (longest-more c.args.rows.now c.args.order.now c.args.text.now c.loop-end.end c.find.result c.loop-end.longest c.requires c.loop-end-test.true c.find.ensures.found c.find.ensures.absent c.loop-end.invariant.longest);
+      (longest-more c.args.rows.now c.args.order.now c.args.text.now c.loop-end.end c.find.result c.loop-end.longest
+      c.requires c.loop-end-test.true c.find.ensures.found c.find.ensures.absent c.loop-end.invariant.longest);
 }
 
 pub returns-else-goes_on-clause-longest : goal.returns-else-goes_on-clause-longest

@@ -5,4 +5,7 @@ pub returns : goal.returns
 returns g c rows reads =
     let T = g.S.TokenSink in
     of-readers T.step T.is_quiet T.asks_cdata T.ended rows _
-    (λ X read reader. (text-taken T.step T.is_quiet T.asks_cdata T.ended rows reads read reader, title-taken T.step T.is_quiet T.asks_cdata T.ended rows reads read reader))
+    (λ X read reader. (
+      text-taken T.step T.is_quiet T.asks_cdata T.ended rows reads read reader,
+      title-taken T.step T.is_quiet T.asks_cdata T.ended rows reads read reader,
+    ))

@@ -5,4 +5,5 @@ pub returns-then-self-clause-answers : goal.returns-then-self-clause-answers
 returns-then-self-clause-answers g c = answered-failed _ _ c.if-self.true
 
 pub returns-clause-answers : goal.returns-clause-answers
-returns-clause-answers g c = answered-none _ _ _ _ _ _ c.if-self.false c.is_fatal-self.ensures c.end_elem-answer.ensures.no_memory c.end_elem-answer.ensures.does
+returns-clause-answers g c = answered-none _ _ _ _ _ _ c.if-self.false c.is_fatal-self.ensures
+    c.end_elem-answer.ensures.no_memory c.end_elem-answer.ensures.does

@@ -8,4 +8,5 @@ pub returns-then-self-clause-answers : goal.returns-then-self-clause-answers
 returns-then-self-clause-answers g c = answered-failed _ _ c.if-self.true
 
 pub returns-clause-answers : goal.returns-clause-answers
-returns-clause-answers g c = answered-puts _ _ _ _ _ c.if-self.false c.is_fatal-self.ensures refl (rw (doctype-bytes _ c.args.name.now (encodes-chars c.args.name.now c.utf8.name)) c.put_three-answer.ensures.puts)
+returns-clause-answers g c = answered-puts _ _ _ _ _ c.if-self.false c.is_fatal-self.ensures refl
+    (rw (doctype-bytes _ c.args.name.now (encodes-chars c.args.name.now c.utf8.name)) c.put_three-answer.ensures.puts)

@@ -8,4 +8,6 @@ pub returns-then-self-clause-answers : goal.returns-then-self-clause-answers
 returns-then-self-clause-answers g c = answered-failed _ _ c.if-self.true
 
 pub returns-clause-answers : goal.returns-clause-answers
-returns-clause-answers g c = answered-puts _ _ _ _ _ c.if-self.false c.is_fatal-self.ensures refl (rw (instruction-bytes _ _ c.args.target.now c.args.data.now (encodes-chars c.args.target.now c.utf8.target) (encodes-chars c.args.data.now c.utf8.data)) c.put_five-answer.ensures.puts)
+returns-clause-answers g c = answered-puts _ _ _ _ _ c.if-self.false c.is_fatal-self.ensures refl
+    (rw (instruction-bytes _ _ c.args.target.now c.args.data.now (encodes-chars c.args.target.now c.utf8.target)
+    (encodes-chars c.args.data.now c.utf8.data)) c.put_five-answer.ensures.puts)

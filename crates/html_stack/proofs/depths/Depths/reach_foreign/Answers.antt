@@ -3,4 +3,5 @@ use Rattle.html_stack.proofs.Noted.{none-foreign}
 use Rattle.html_stack.proofs.depths.Depths.reach_foreign.Goals as goal
 
 pub returns-in-Ok : goal.returns-in-Ok
-returns-in-Ok c xs all count is = rw (c.get.ensures, c.in-Ok.ensures.ok, c.empty-lowered.ensures, c.as_str.ensures) (none-foreign xs c.args.self.now c.args.name.now (count ∙ sym all) is)
+returns-in-Ok c xs all count is = rw (c.get.ensures, c.in-Ok.ensures.ok, c.empty-lowered.ensures, c.as_str.ensures)
+    (none-foreign xs c.args.self.now c.args.name.now (count ∙ sym all) is)

@@ -13,4 +13,5 @@ returns-clause-beyond c xs all is =
     let none : NoneNoted Html d.notes.items c.reach-html.result = rw c.as_slice.ensures.value at c.reach-html.ensures.one in
     rw (c.min.ensures, c.max.ensures)
     (none-within (λ x. is_html x.namespace || named_any_case c.args.name.now x) xs _ c.args.count all
-    (none-ended xs c.args.name.now c.reach-html.result c.reach_foreign-named.result _ (omega arith) (omega arith) (none-passes xs d Html c.reach-html.result (count ∙ sym all) is none) (c.reach_foreign-named.ensures xs all count is)))
+    (none-ended xs c.args.name.now c.reach-html.result c.reach_foreign-named.result _ (omega arith) (omega arith)
+    (none-passes xs d Html c.reach-html.result (count ∙ sym all) is none) (c.reach_foreign-named.ensures xs all count is)))

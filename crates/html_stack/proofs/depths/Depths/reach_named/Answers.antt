@@ -13,4 +13,6 @@ returns-clause-beyond c xs all is =
     let none : NoneNoted c.args.sign d.notes.items c.reach-marked.result = rw c.as_slice.ensures.value at c.reach-marked.ensures.one in
     rw (c.min.ensures, c.max.ensures)
     (none-within (λ x. bears c.args.sign x || named_in x.namespace x.name c.args.name.now) xs _ c.args.count all
-    (none-either (bears c.args.sign) (λ x. named_in x.namespace x.name c.args.name.now) xs c.reach-marked.result c.reach_html-named.result _ (omega arith) (omega arith) (none-passes xs d c.args.sign c.reach-marked.result (count ∙ sym all) is none) (c.reach_html-named.ensures xs all count is)))
+    (none-either (bears c.args.sign) (λ x. named_in x.namespace x.name c.args.name.now) xs c.reach-marked.result
+    c.reach_html-named.result _ (omega arith) (omega arith)
+    (none-passes xs d c.args.sign c.reach-marked.result (count ∙ sym all) is none) (c.reach_html-named.ensures xs all count is)))

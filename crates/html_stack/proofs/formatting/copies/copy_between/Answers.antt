@@ -14,12 +14,22 @@ loop-i-init g c =
     let node = g.Sink.TreeSink.node in
     let f = g.Sink.TreeSink.forest c.args.sink.now in
     let entries = entries_of node c.args.entries.now.items in
-    let start : walk_of node f c.args.entries.now.items (record { elements = c.new.result; last = c.args.block.now.handle }) ≡ begun f (node c.args.block.now.handle) entries =
-    ap (λ xs. record { forest = f; active_formatting = entries; copies = map (open_of node) xs; last_node = node c.args.block.now.handle }) c.new.ensures.items in
+    let start : walk_of node f c.args.entries.now.items
+    (record { elements = c.new.result; last = c.args.block.now.handle }) ≡ begun f (node c.args.block.now.handle) entries =
+    ap (λ xs. record {
+      forest = f;
+      active_formatting = entries;
+      copies = map (open_of node) xs;
+      last_node = node c.args.block.now.handle;
+    }) c.new.ensures.items in
     record {
       within = omega arith;
-      walked = subst (λ w. Walked f (node c.args.block.now.handle) w) (sym start) (opened-Walked f (open_of node c.args.block.now) entries c.requires.tree c.requires.listed c.requires.block);
-      same = ap (λ xs. walk 3 (opens_of node xs) (walk_of node f c.args.entries.now.items (record { elements = c.new.result; last = c.args.block.now.handle }))) (take-length c.args.elements.now) ∙ ap (walk 3 (opens_of node c.args.elements.now)) start;
+      walked = subst (λ w. Walked f (node c.args.block.now.handle) w) (sym start)
+          (opened-Walked f (open_of node c.args.block.now) entries c.requires.tree c.requires.listed c.requires.block);
+      same = ap (λ xs. walk 3 (opens_of node xs)
+          (walk_of node f c.args.entries.now.items
+          (record { elements = c.new.result; last = c.args.block.now.handle })))
+          (take-length c.args.elements.now) ∙ ap (walk 3 (opens_of node c.args.elements.now)) start;
     }
 
 pub copy_node-requires : goal.copy_node-requires
@@ -37,7 +47,8 @@ loop-i-preserved-then-left-eq0 g c =
     record {
       within = omega arith;
       walked = walked-out f0 (node c.args.block.now.handle) (open_of node c.index-elements-i.result) w w' e c.loop-i.invariant.walked;
-      same = walk-out node c.args.elements.now c.loop-i.i _ c.loop-i.left c.index-elements-i.result w w' c.if-left-eq0.true (omega arith) (omega arith) c.index-elements-i.is e ∙ c.loop-i.invariant.same;
+      same = walk-out node c.args.elements.now c.loop-i.i _ c.loop-i.left c.index-elements-i.result w w'
+          c.if-left-eq0.true (omega arith) (omega arith) c.index-elements-i.is e ∙ c.loop-i.invariant.same;
     }
 
 pub loop-i-preserved : goal.loop-i-preserved
@@ -50,8 +61,10 @@ loop-i-preserved g c =
     let some : 0 < c.loop-i.left = elim (eq-zero-or-pos c.loop-i.left) [ inl none ↦ absurd (c.if-left-eq0.false none) | inr more ↦ more ] in
     record {
       within = omega arith;
-      walked = walked-in f0 (node c.args.block.now.handle) (open_of node c.index-elements-i.result) w w' c.in_ok-copy_node.ensures.ok c.loop-i.invariant.walked;
-      same = walk-in node c.args.elements.now c.loop-i.i _ c.loop-i.left _ c.index-elements-i.result w w' (omega arith) (omega arith) (omega arith) c.index-elements-i.is c.in_ok-copy_node.ensures.ok ∙ c.loop-i.invariant.same;
+      walked = walked-in f0 (node c.args.block.now.handle) (open_of node c.index-elements-i.result) w w'
+          c.in_ok-copy_node.ensures.ok c.loop-i.invariant.walked;
+      same = walk-in node c.args.elements.now c.loop-i.i _ c.loop-i.left _ c.index-elements-i.result w w'
+          (omega arith) (omega arith) (omega arith) c.index-elements-i.is c.in_ok-copy_node.ensures.ok ∙ c.loop-i.invariant.same;
     }
 
 pub returns-in_err-copy_node-clause-kept : goal.returns-in_err-copy_node-clause-kept
@@ -59,4 +72,6 @@ returns-in_err-copy_node-clause-kept g c =
     let node = g.Sink.TreeSink.node in
     let f0 = g.Sink.TreeSink.forest c.args.sink.now in
     let w = walk_of node (g.Sink.TreeSink.forest c.loop-i.sink) c.loop-i.entries.items c.loop-i.copies in
-    on-err c.from_residual.result (λ xs h. c.in_err-copy_node.ensures.kept xs (walked-Standing f0 (open_of node c.args.block.now) w xs (entries_of node c.args.entries.now.items) c.requires.block c.loop-i.invariant.walked h))
+    on-err c.from_residual.result
+    (λ xs h. c.in_err-copy_node.ensures.kept xs (walked-Standing f0 (open_of node c.args.block.now) w xs
+    (entries_of node c.args.entries.now.items) c.requires.block c.loop-i.invariant.walked h))

@@ -8,9 +8,17 @@ use Rattle.html_stack.proofs.formatting.copies.copy_between.Given as goal
 abbrev pub invariant-loop-i : goal.invariant-loop-i
 invariant-loop-i g l = record {
   within : l.i ≤ length l.elements;
-  walked : Walked (g.Sink.TreeSink.forest l.fn.sink) (g.Sink.TreeSink.node l.block.handle) (walk_of g.Sink.TreeSink.node (g.Sink.TreeSink.forest l.sink) l.entries.items l.copies);
-  same : walk l.left (opens_of g.Sink.TreeSink.node (take l.i l.elements)) (walk_of g.Sink.TreeSink.node (g.Sink.TreeSink.forest l.sink) l.entries.items l.copies)
-      ≡ walk 3 (opens_of g.Sink.TreeSink.node l.elements) (record { forest = g.Sink.TreeSink.forest l.fn.sink; active_formatting = entries_of g.Sink.TreeSink.node l.fn.entries.items; copies = []; last_node = g.Sink.TreeSink.node l.block.handle });
+  walked : Walked (g.Sink.TreeSink.forest l.fn.sink) (g.Sink.TreeSink.node l.block.handle)
+      (walk_of g.Sink.TreeSink.node (g.Sink.TreeSink.forest l.sink) l.entries.items l.copies);
+  same : walk l.left (opens_of g.Sink.TreeSink.node (take l.i l.elements))
+      (walk_of g.Sink.TreeSink.node (g.Sink.TreeSink.forest l.sink) l.entries.items l.copies)
+      ≡ walk 3 (opens_of g.Sink.TreeSink.node l.elements)
+      (record {
+        forest = g.Sink.TreeSink.forest l.fn.sink;
+        active_formatting = entries_of g.Sink.TreeSink.node l.fn.entries.items;
+        copies = [];
+        last_node = g.Sink.TreeSink.node l.block.handle;
+      });
 }
 
 abbrev pub decreases-loop-i : goal.decreases-loop-i

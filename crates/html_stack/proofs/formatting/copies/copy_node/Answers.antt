@@ -19,7 +19,8 @@ returns-in_default-clause-ok g c =
     sym (ap (λ o. copy_if o w) (listed_as-none (node c.args.node.now) (entries_of node items) none))
 
 pub returns-in_err-copy-clause-kept : goal.returns-in_err-copy-clause-kept
-returns-in_err-copy-clause-kept g c = on-err c.from_residual-in_err-copy.result (λ xs h. c.in_err-copy.ensures.kept xs (entries_of g.Sink.TreeSink.node c.args.entries.now.items) h)
+returns-in_err-copy-clause-kept g c = on-err c.from_residual-in_err-copy.result
+    (λ xs h. c.in_err-copy.ensures.kept xs (entries_of g.Sink.TreeSink.node c.args.entries.now.items) h)
 
 pub returns-clause-ok : goal.returns-clause-ok
 returns-clause-ok g c =
@@ -28,8 +29,10 @@ returns-clause-ok g c =
     let k = g.Sink.TreeSink.forest c.copy_over.new.sink in
     let items = c.args.entries.now.items in
     let copy = c.in_ok-copy.copy in
-    let is : IsNewest (entry_of node) (stands_for (node c.args.node.now)) items c.in-Some.place = rw c.as_slice.ensures.value at c.in-Some.ensures in
-    let told : IsTagAt items c.in-Some.place (Some c.in-Some-2.tag) = subst (IsTagAt items c.in-Some.place) c.in-Some-2.is (rw c.as_slice-2.ensures.value at c.in_ok-tag.ensures.tag) in
+    let is : IsNewest (entry_of node) (stands_for (node c.args.node.now)) items c.in-Some.place =
+    rw c.as_slice.ensures.value at c.in-Some.ensures in
+    let told : IsTagAt items c.in-Some.place (Some c.in-Some-2.tag) = subst (IsTagAt items c.in-Some.place)
+    c.in-Some-2.is (rw c.as_slice-2.ensures.value at c.in_ok-tag.ensures.tag) in
     ap (λ xs. walk_of node k xs (record { elements = c.push_reserved.new.self; last = copy.handle })) (c.rename.ensures Marker)
     ∙ copied node f k items c.in-Some.place (node c.args.node.now) told.0 c.in-Some-2.tag c.args.copies.now
     (record { elements = c.push_reserved.new.self; last = copy.handle }) copy is told.1 c.in_ok-copy.ensures.ok c.in_ok-copy.ensures.opened
@@ -39,6 +42,8 @@ pub returns-in_default-2-clause-ok : goal.returns-in_default-2-clause-ok
 returns-in_default-2-clause-ok g c =
     let node = g.Sink.TreeSink.node in
     let items = c.args.entries.now.items in
-    let is : IsNewest (entry_of node) (stands_for (node c.args.node.now)) items c.in-Some.place = rw c.as_slice.ensures.value at c.in-Some.ensures in
-    let told : IsTagAt items c.in-Some.place None = subst (IsTagAt items c.in-Some.place) c.in_default-2.is (rw c.as_slice-2.ensures.value at c.in_ok-tag.ensures.tag) in
+    let is : IsNewest (entry_of node) (stands_for (node c.args.node.now)) items c.in-Some.place =
+    rw c.as_slice.ensures.value at c.in-Some.ensures in
+    let told : IsTagAt items c.in-Some.place None = subst (IsTagAt items c.in-Some.place) c.in_default-2.is
+    (rw c.as_slice-2.ensures.value at c.in_ok-tag.ensures.tag) in
     no-marker node (node c.args.node.now) items c.in-Some.place is told

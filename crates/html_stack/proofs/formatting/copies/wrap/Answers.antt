@@ -21,8 +21,10 @@ append-requires-clause-child g c =
 
 pub returns-in_err-append-clause-kept : goal.returns-in_err-append-clause-kept
 returns-in_err-append-clause-kept g c =
-    let leaves = leaves-removed (g.Sink.TreeSink.forest c.args.sink.now) c.args.element (g.Sink.TreeSink.node c.args.last.now) c.requires.last in
-    on-err c.from_residual-in_err-append.result (rw (c.in_err-append.ensures.err, c.remove_from_parent.ensures, c.in_ok-made.ensures.ok) leaves)
+    let leaves = leaves-removed (g.Sink.TreeSink.forest c.args.sink.now) c.args.element
+    (g.Sink.TreeSink.node c.args.last.now) c.requires.last in
+    on-err c.from_residual-in_err-append.result
+    (rw (c.in_err-append.ensures.err, c.remove_from_parent.ensures, c.in_ok-made.ensures.ok) leaves)
 
 pub returns-in_err-append-clause-grows : goal.returns-in_err-append-clause-grows
 returns-in_err-append-clause-grows g c =
@@ -37,4 +39,9 @@ returns-clause-grows g c =
     omega (arith, c.in_ok-made.ensures.grows, c.in_ok-append.ensures.grows, removed)
 
 pub returns-clause-ok : goal.returns-clause-ok
-returns-clause-ok g c = rw (c.in_ok-append.ensures.ok, c.remove_from_parent.ensures, c.in_ok-made.ensures.ok, c.in_ok-made.ensures.named) refl
+returns-clause-ok g c = rw (
+  c.in_ok-append.ensures.ok,
+  c.remove_from_parent.ensures,
+  c.in_ok-made.ensures.ok,
+  c.in_ok-made.ensures.named,
+) refl

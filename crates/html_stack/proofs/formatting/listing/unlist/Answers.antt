@@ -6,7 +6,10 @@ use Rattle.html_stack.proofs.formatting.listing.unlist.Goals as goal
 pub returns-in-Some : goal.returns-in-Some
 returns-in-Some g c =
     ap (λ xs. entries_of g.Sink.TreeSink.node xs) c.remove.ensures.items
-    ∙ sym (unlisted g.Sink.TreeSink.node (g.Sink.TreeSink.node c.args.node.now) c.args.entries.now.items c.in-Some.i (rw c.as_slice.ensures.value at c.in-Some.ensures))
+    ∙ sym (unlisted g.Sink.TreeSink.node (g.Sink.TreeSink.node c.args.node.now) c.args.entries.now.items c.in-Some.i
+    (rw c.as_slice.ensures.value at c.in-Some.ensures))
 
 pub returns-in_default : goal.returns-in_default
-returns-in_default g c = sym (without-none (g.Sink.TreeSink.node c.args.node.now) (entries_of g.Sink.TreeSink.node c.args.entries.now.items) (rw c.as_slice.ensures.value at c.in_default.ensures))
+returns-in_default g c = sym
+    (without-none (g.Sink.TreeSink.node c.args.node.now) (entries_of g.Sink.TreeSink.node c.args.entries.now.items)
+    (rw c.as_slice.ensures.value at c.in_default.ensures))

@@ -6,7 +6,8 @@ invariant-loop-other g l = record {
   below : length l.others.items ≤ length l.fn.others.items;
   rest : l.others.items ≡ take (length l.others.items) l.fn.others.items;
   at : l.at + length l.others.items ≡ l.from + length l.fn.others.items;
-  items : l.items.items ≡ take l.from l.fn.items.items ++ (reverse (drop (length l.others.items) l.fn.others.items) ++ drop l.at l.fn.items.items);
+  items : l.items.items ≡ take l.from l.fn.items.items ++ (reverse (drop (length l.others.items) l.fn.others.items)
+      ++ drop l.at l.fn.items.items);
 }
 
 abbrev pub decreases-loop-other : goal.decreases-loop-other

@@ -8,5 +8,7 @@ loop-i-preserved g c =
     let node = g.Sink.TreeSink.node in
     record {
       within = omega (arith, c.loop-i.invariant.within);
-      wait = more-wait node (opens_of node c.args.elements.now) c.args.entries.now c.loop-i.i _ c.index-entries-i.result (omega arith) (omega (arith, c.loop-i.invariant.within)) c.index-entries-i.is c.if-not-waits.ensures c.loop-i.invariant.wait;
+      wait = more-wait node (opens_of node c.args.elements.now) c.args.entries.now c.loop-i.i _
+          c.index-entries-i.result (omega arith) (omega (arith, c.loop-i.invariant.within)) c.index-entries-i.is
+          c.if-not-waits.ensures c.loop-i.invariant.wait;
     }

@@ -7,5 +7,6 @@ use Rattle.html_stack.proofs.formatting.opening.waits.Goals as goal
 pub returns-in-Element : goal.returns-in-Element
 returns-in-Element g c =
     let xs = opens_of g.Sink.TreeSink.node c.args.elements.now in
-    waits-by g.Sink.TreeSink.node (g.Sink.TreeSink.node c.in-Element.handle) c.args.elements.now c.on_stack.result c.is_none.result c.is_none.ensures c.on_stack.ensures
+    waits-by g.Sink.TreeSink.node (g.Sink.TreeSink.node c.in-Element.handle) c.args.elements.now c.on_stack.result
+    c.is_none.result c.is_none.ensures c.on_stack.ensures
     ∙ sym (ap (λ e. waits xs (entry_of g.Sink.TreeSink.node e)) c.in-Element.is)

@@ -15,9 +15,13 @@ returns-then-is_in g c =
       within = less;
       block = λ d.
           ap furthest_block (split-at (open_of g.Sink.TreeSink.node) c.args.elements.now c.loop-i.i d less)
-          ∙ block-at (reverse (map (open_of g.Sink.TreeSink.node) (drop (suc c.loop-i.i) c.args.elements.now))) (open_of g.Sink.TreeSink.node (get_or c.args.elements.now c.loop-i.i d)) (opens_of g.Sink.TreeSink.node (take c.loop-i.i c.args.elements.now))
+          ∙ block-at (reverse (map (open_of g.Sink.TreeSink.node) (drop (suc c.loop-i.i) c.args.elements.now)))
+          (open_of g.Sink.TreeSink.node (get_or c.args.elements.now c.loop-i.i d))
+          (opens_of g.Sink.TreeSink.node (take c.loop-i.i c.args.elements.now))
           (block-none (opens_of g.Sink.TreeSink.node (take c.loop-i.i c.args.elements.now)) c.loop-i.invariant)
-          (ap (λ x. is_in SpecialTag (open_of g.Sink.TreeSink.node x)) (get_or_default c.args.elements.now c.loop-i.i d c.index-elements-i.result less ∙ sym c.index-elements-i.is) ∙ sym c.if-is_in.ensures);
+          (ap (λ x. is_in SpecialTag (open_of g.Sink.TreeSink.node x))
+          (get_or_default c.args.elements.now c.loop-i.i d c.index-elements-i.result less
+          ∙ sym c.index-elements-i.is) ∙ sym c.if-is_in.ensures);
     }
 
 pub returns : goal.returns

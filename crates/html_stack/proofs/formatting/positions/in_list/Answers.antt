@@ -10,13 +10,16 @@ loop-i-init g c = none-start (entry_of g.Sink.TreeSink.node) (stands_for (g.Sink
 
 pub returns-then-stands_for : goal.returns-then-stands_for
 returns-then-stands_for g c =
-    none-at (entry_of g.Sink.TreeSink.node) (stands_for (g.Sink.TreeSink.node c.args.node.now)) c.args.entries.now c.loop-i.i _ c.index-entries-i.result c.loop-i.invariant (omega arith) c.index-entries-i.is (sym c.if-stands_for.ensures)
+    none-at (entry_of g.Sink.TreeSink.node) (stands_for (g.Sink.TreeSink.node c.args.node.now)) c.args.entries.now
+    c.loop-i.i _ c.index-entries-i.result c.loop-i.invariant (omega arith) c.index-entries-i.is (sym c.if-stands_for.ensures)
 
 pub loop-i-preserved : goal.loop-i-preserved
 loop-i-preserved g c =
-    none-on (entry_of g.Sink.TreeSink.node) (stands_for (g.Sink.TreeSink.node c.args.node.now)) c.args.entries.now c.loop-i.i _ c.index-entries-i.result c.loop-i.invariant (omega arith) c.index-entries-i.is (sym c.if-stands_for.ensures)
+    none-on (entry_of g.Sink.TreeSink.node) (stands_for (g.Sink.TreeSink.node c.args.node.now)) c.args.entries.now
+    c.loop-i.i _ c.index-entries-i.result c.loop-i.invariant (omega arith) c.index-entries-i.is (sym c.if-stands_for.ensures)
 
 pub returns : goal.returns
 returns g c =
     listed-any (g.Sink.TreeSink.node c.args.node.now) (entries_of g.Sink.TreeSink.node c.args.entries.now)
-    ∙ none-all (entry_of g.Sink.TreeSink.node) (stands_for (g.Sink.TreeSink.node c.args.node.now)) c.args.entries.now c.loop-i.i c.loop-i.invariant (omega arith)
+    ∙ none-all (entry_of g.Sink.TreeSink.node) (stands_for (g.Sink.TreeSink.node c.args.node.now))
+    c.args.entries.now c.loop-i.i c.loop-i.invariant (omega arith)

@@ -9,11 +9,14 @@ loop-i-init g c = none-start (open_of g.Sink.TreeSink.node) (is_number (g.Sink.T
 
 pub returns-then-same_node : goal.returns-then-same_node
 returns-then-same_node g c =
-    none-at (open_of g.Sink.TreeSink.node) (is_number (g.Sink.TreeSink.node c.args.node.now)) c.args.elements.now c.loop-i.i _ c.index-elements-i.result c.loop-i.invariant (omega arith) c.index-elements-i.is (sym c.if-same_node.ensures)
+    none-at (open_of g.Sink.TreeSink.node) (is_number (g.Sink.TreeSink.node c.args.node.now)) c.args.elements.now
+    c.loop-i.i _ c.index-elements-i.result c.loop-i.invariant (omega arith) c.index-elements-i.is (sym c.if-same_node.ensures)
 
 pub loop-i-preserved : goal.loop-i-preserved
 loop-i-preserved g c =
-    none-on (open_of g.Sink.TreeSink.node) (is_number (g.Sink.TreeSink.node c.args.node.now)) c.args.elements.now c.loop-i.i _ c.index-elements-i.result c.loop-i.invariant (omega arith) c.index-elements-i.is (sym c.if-same_node.ensures)
+    none-on (open_of g.Sink.TreeSink.node) (is_number (g.Sink.TreeSink.node c.args.node.now)) c.args.elements.now
+    c.loop-i.i _ c.index-elements-i.result c.loop-i.invariant (omega arith) c.index-elements-i.is (sym c.if-same_node.ensures)
 
 pub returns : goal.returns
-returns g c = none-all (open_of g.Sink.TreeSink.node) (is_number (g.Sink.TreeSink.node c.args.node.now)) c.args.elements.now c.loop-i.i c.loop-i.invariant (omega arith)
+returns g c = none-all (open_of g.Sink.TreeSink.node) (is_number (g.Sink.TreeSink.node c.args.node.now))
+    c.args.elements.now c.loop-i.i c.loop-i.invariant (omega arith)

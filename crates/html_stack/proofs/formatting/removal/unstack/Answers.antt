@@ -8,11 +8,17 @@ use Rattle.html_stack.proofs.formatting.removal.unstack.Goals as goal
 pub returns-in-None : goal.returns-in-None
 returns-in-None g c =
     let none = rw c.as_slice.ensures.value at c.in-None.ensures in
-    record { left = sym (number-none (g.Sink.TreeSink.node c.args.node.now) (opens_of g.Sink.TreeSink.node c.args.elements.now.items) none); found = sym none; noted = c.requires }
+    record {
+      left = sym (number-none (g.Sink.TreeSink.node c.args.node.now)
+          (opens_of g.Sink.TreeSink.node c.args.elements.now.items) none);
+      found = sym none;
+      noted = c.requires;
+    }
 
 pub follow-requires : goal.follow-requires
 follow-requires g c =
-    rw c.as_slice-in-Some.ensures.value (removed-noted c.args.elements.now.items c.remove.new.self.items c.in-Some.i c.cut.new.self c.cut.ensures.within c.remove.ensures.items (c.cut.ensures.noted (named c.args.elements.now.items) c.requires))
+    rw c.as_slice-in-Some.ensures.value (removed-noted c.args.elements.now.items c.remove.new.self.items c.in-Some.i
+    c.cut.new.self c.cut.ensures.within c.remove.ensures.items (c.cut.ensures.noted (named c.args.elements.now.items) c.requires))
 
 pub returns-in-Some : goal.returns-in-Some
 returns-in-Some g c =

@@ -9,7 +9,8 @@ use Rattle.html_stack.specs.Found.{IsTagAt}
 use Rattle.html_stack.specs.Stacks.{entries_of, open_of, opens_of}
 use Rattle.html_stack.specs.declared.entries.FormatEntry.TheVariants.{Marker}
 use Rattle.html_stack.proofs.Adopted.{before-place}
-use Rattle.html_stack.proofs.Agencies.{after-is, any-of, block-place, number-place, rest-is, same-tag, told-grows, told-grows-on, told-stands, turn-adopt, turn-cut}
+use Rattle.html_stack.proofs.Agencies.{after-is, any-of, block-place, number-place, rest-is, same-tag, told-grows}
+use Rattle.html_stack.proofs.Agencies.{told-grows-on, told-stands, turn-adopt, turn-cut}
 use Rattle.html_stack.proofs.ListEdits.{marker-apart}
 use Rattle.html_stack.proofs.Results.{on-err}
 use Rattle.html_stack.proofs.StackEdits.{newest-open, open-node}
@@ -26,13 +27,16 @@ returns-in_default-clause-ok g c name s on =
     let fe : Listed = record { number = n; tag = c.requires.listed.0 } in
     let is = c.requires.opened in
     let d = any-of xs c.args.from is.within in
-    let told_is : g.Sink.TreeSink.forest c.report_unless_current.new.sink ≡ told n (opens_of node xs) f = rw c.as_slice.ensures.value at c.report_unless_current.ensures in
+    let told_is : g.Sink.TreeSink.forest c.report_unless_current.new.sink ≡ told n (opens_of node xs) f =
+    rw c.as_slice.ensures.value at c.report_unless_current.ensures in
     let later = slice_range c.as_slice-2.result.now (c.args.from + 1) (length c.as_slice-2.result.now) in
     let none : furthest_block (opened_after n (opens_of node xs)) ≡ None =
-    ap furthest_block (after-is node n xs later c.args.from d is (rest-is xs c.as_slice-2.result.now (c.args.from + 1) c.as_slice-2.ensures.value)) ∙ c.in_default.ensures in
+    ap furthest_block (after-is node n xs later c.args.from d is
+    (rest-is xs c.as_slice-2.result.now (c.args.from + 1) c.as_slice-2.ensures.value)) ∙ c.in_default.ensures in
     let left = ap (λ zs. opens_of node zs) c.truncate.ensures.items ∙ sym (before-place node n xs c.args.from d is) in
     rw (told_is, c.unlist.ensures)
-    (turn-cut c.args.foster f (opens_of node xs) (opens_of node c.truncate.new.self.items) es fe c.requires.listed.1.newest (newest-open node n xs c.args.from is) c.requires.scope none left name s on)
+    (turn-cut c.args.foster f (opens_of node xs) (opens_of node c.truncate.new.self.items) es fe
+    c.requires.listed.1.newest (newest-open node n xs c.args.from is) c.requires.scope none left name s on)
 
 pub returns-in_err-tag-clause-kept : goal.returns-in_err-tag-clause-kept
 returns-in_err-tag-clause-kept g c =
@@ -41,7 +45,8 @@ returns-in_err-tag-clause-kept g c =
     let f = g.Sink.TreeSink.forest c.args.sink.now in
     let xs = c.args.elements.now.items in
     let es = entries_of node c.args.entries.now.items in
-    let told_is : g.Sink.TreeSink.forest c.report_unless_current.new.sink ≡ told n (opens_of node xs) f = rw c.as_slice.ensures.value at c.report_unless_current.ensures in
+    let told_is : g.Sink.TreeSink.forest c.report_unless_current.new.sink ≡ told n (opens_of node xs) f =
+    rw c.as_slice.ensures.value at c.report_unless_current.ensures in
     on-err c.from_residual.result (rw told_is (told-stands n f (opens_of node xs) es c.requires.standing))
 
 pub adopt-requires-clause-standing : goal.adopt-requires-clause-standing
@@ -51,7 +56,8 @@ adopt-requires-clause-standing g c =
     let f = g.Sink.TreeSink.forest c.args.sink.now in
     let xs = c.args.elements.now.items in
     let es = entries_of node c.args.entries.now.items in
-    let told_is : g.Sink.TreeSink.forest c.report_unless_current.new.sink ≡ told n (opens_of node xs) f = rw c.as_slice.ensures.value at c.report_unless_current.ensures in
+    let told_is : g.Sink.TreeSink.forest c.report_unless_current.new.sink ≡ told n (opens_of node xs) f =
+    rw c.as_slice.ensures.value at c.report_unless_current.ensures in
     rw told_is (told-stands n f (opens_of node xs) es c.requires.standing)
 
 pub adopt-requires-clause-turn : goal.adopt-requires-clause-turn
@@ -64,9 +70,12 @@ adopt-requires-clause-turn g c d =
     let is = c.requires.opened in
     let number = number-place node n xs c.args.from d is in
     let later = slice_range c.as_slice-2.result.now (c.args.from + 1) (length c.as_slice-2.result.now) in
-    let block = block-place node n xs later c.args.from c.in-Some.block d is (rest-is xs c.as_slice-2.result.now (c.args.from + 1) c.as_slice-2.ensures.value) c.in-Some.ensures in
-    let said : IsTagAt items c.args.formatting.place (Some c.in-Some-2.tag) = subst (IsTagAt items c.args.formatting.place) c.in-Some-2.is (rw c.as_slice-3.ensures.value at c.in_ok-tag.ensures.tag) in
-    let tag_is = same-tag c.args.formatting.node said.0 c.requires.listed.0 c.in-Some-2.tag (get_or items c.args.formatting.place Marker) c.requires.listed.1.entry said.1 in
+    let block = block-place node n xs later c.args.from c.in-Some.block d is
+    (rest-is xs c.as_slice-2.result.now (c.args.from + 1) c.as_slice-2.ensures.value) c.in-Some.ensures in
+    let said : IsTagAt items c.args.formatting.place (Some c.in-Some-2.tag) =
+    subst (IsTagAt items c.args.formatting.place) c.in-Some-2.is (rw c.as_slice-3.ensures.value at c.in_ok-tag.ensures.tag) in
+    let tag_is = same-tag c.args.formatting.node said.0 c.requires.listed.0 c.in-Some-2.tag
+    (get_or items c.args.formatting.place Marker) c.requires.listed.1.entry said.1 in
     record {
       listed =
           subst (λ k. listed_as k es ≡ Some (record { number = k; tag = c.in-Some-2.tag })) (sym number)
@@ -99,25 +108,35 @@ returns-clause-ok g c =
     let fe : Listed = record { number = n; tag = c.requires.listed.0 } in
     let is = c.requires.opened in
     let d = any-of xs c.args.from is.within in
-    let told_is : g.Sink.TreeSink.forest c.report_unless_current.new.sink ≡ told n (opens_of node xs) f = rw c.as_slice.ensures.value at c.report_unless_current.ensures in
+    let told_is : g.Sink.TreeSink.forest c.report_unless_current.new.sink ≡ told n (opens_of node xs) f =
+    rw c.as_slice.ensures.value at c.report_unless_current.ensures in
     let number = number-place node n xs c.args.from d is in
     let later = slice_range c.as_slice-2.result.now (c.args.from + 1) (length c.as_slice-2.result.now) in
-    let some = block-place node n xs later c.args.from c.in-Some.block d is (rest-is xs c.as_slice-2.result.now (c.args.from + 1) c.as_slice-2.ensures.value) c.in-Some.ensures in
-    let said : IsTagAt items c.args.formatting.place (Some c.in-Some-2.tag) = subst (IsTagAt items c.args.formatting.place) c.in-Some-2.is (rw c.as_slice-3.ensures.value at c.in_ok-tag.ensures.tag) in
-    let tag_is = same-tag said.0 c.args.formatting.node c.in-Some-2.tag c.requires.listed.0 (get_or items c.args.formatting.place Marker) said.1 c.requires.listed.1.entry in
+    let some = block-place node n xs later c.args.from c.in-Some.block d is
+    (rest-is xs c.as_slice-2.result.now (c.args.from + 1) c.as_slice-2.ensures.value) c.in-Some.ensures in
+    let said : IsTagAt items c.args.formatting.place (Some c.in-Some-2.tag) =
+    subst (IsTagAt items c.args.formatting.place) c.in-Some-2.is (rw c.as_slice-3.ensures.value at c.in_ok-tag.ensures.tag) in
+    let tag_is = same-tag said.0 c.args.formatting.node c.in-Some-2.tag c.requires.listed.0
+    (get_or items c.args.formatting.place Marker) said.1 c.requires.listed.1.entry in
     let block = open_of node (get_or xs (c.args.from + 1 + c.in-Some.block) d) in
     rw c.pop.ensures
-    (turn-adopt c.args.foster f (g.Sink.TreeSink.forest c.adopt.new.sink) (opens_of node xs) (opens_of node c.adopt.new.elements.items) es (entries_of node c.adopt.new.entries.items) fe block
+    (turn-adopt c.args.foster f (g.Sink.TreeSink.forest c.adopt.new.sink) (opens_of node xs)
+    (opens_of node c.adopt.new.elements.items) es (entries_of node c.adopt.new.entries.items) fe block
     c.requires.listed.1.newest (newest-open node n xs c.args.from is) c.requires.scope some
     (λ s on. c.in_ok-adopt.ensures.ok s d on
-    ∙ ap (λ h. turned (with_all s h (opens_of node xs) es) (record { number = node (get_or xs c.args.from d).handle; tag = c.in-Some-2.tag }) block) told_is
-    ∙ ap (λ k. turned (with_all s (told n (opens_of node xs) f) (opens_of node xs) es) (record { number = k; tag = c.in-Some-2.tag }) block) number
+    ∙ ap (λ h. turned (with_all s h (opens_of node xs) es) (record {
+      number = node (get_or xs c.args.from d).handle;
+      tag = c.in-Some-2.tag;
+    }) block) told_is
+    ∙ ap (λ k. turned (with_all s (told n (opens_of node xs) f) (opens_of node xs) es)
+    (record { number = k; tag = c.in-Some-2.tag }) block) number
     ∙ ap (λ t. turned (with_all s (told n (opens_of node xs) f) (opens_of node xs) es) (record { number = n; tag = t }) block) tag_is))
 
 pub returns-in_default-2-clause-ok : goal.returns-in_default-2-clause-ok
 returns-in_default-2-clause-ok g c =
     let items = c.args.entries.now.items in
-    let none : IsTagAt items c.args.formatting.place None = subst (IsTagAt items c.args.formatting.place) c.in_default-2.is (rw c.as_slice-3.ensures.value at c.in_ok-tag.ensures.tag) in
+    let none : IsTagAt items c.args.formatting.place None = subst (IsTagAt items c.args.formatting.place)
+    c.in_default-2.is (rw c.as_slice-3.ensures.value at c.in_ok-tag.ensures.tag) in
     marker-apart (get_or items c.args.formatting.place Marker) c.args.formatting.node c.requires.listed.0 c.requires.listed.1.entry none
 
 pub returns-in_default-clause-grows : goal.returns-in_default-clause-grows
@@ -126,7 +145,8 @@ returns-in_default-clause-grows g c =
     let n = node c.args.formatting.node in
     let f = g.Sink.TreeSink.forest c.args.sink.now in
     let xs = opens_of node c.args.elements.now.items in
-    let told_is : g.Sink.TreeSink.forest c.report_unless_current.new.sink ≡ told n xs f = rw c.as_slice.ensures.value at c.report_unless_current.ensures in
+    let told_is : g.Sink.TreeSink.forest c.report_unless_current.new.sink ≡ told n xs f =
+    rw c.as_slice.ensures.value at c.report_unless_current.ensures in
     told-grows n xs f (g.Sink.TreeSink.forest c.report_unless_current.new.sink) told_is
 
 pub returns-in_err-tag-clause-grows : goal.returns-in_err-tag-clause-grows
@@ -135,7 +155,8 @@ returns-in_err-tag-clause-grows g c =
     let n = node c.args.formatting.node in
     let f = g.Sink.TreeSink.forest c.args.sink.now in
     let xs = opens_of node c.args.elements.now.items in
-    let told_is : g.Sink.TreeSink.forest c.report_unless_current.new.sink ≡ told n xs f = rw c.as_slice.ensures.value at c.report_unless_current.ensures in
+    let told_is : g.Sink.TreeSink.forest c.report_unless_current.new.sink ≡ told n xs f =
+    rw c.as_slice.ensures.value at c.report_unless_current.ensures in
     told-grows n xs f (g.Sink.TreeSink.forest c.report_unless_current.new.sink) told_is
 
 pub returns-in_default-2-clause-grows : goal.returns-in_default-2-clause-grows
@@ -144,7 +165,8 @@ returns-in_default-2-clause-grows g c =
     let n = node c.args.formatting.node in
     let f = g.Sink.TreeSink.forest c.args.sink.now in
     let xs = opens_of node c.args.elements.now.items in
-    let told_is : g.Sink.TreeSink.forest c.report_unless_current.new.sink ≡ told n xs f = rw c.as_slice.ensures.value at c.report_unless_current.ensures in
+    let told_is : g.Sink.TreeSink.forest c.report_unless_current.new.sink ≡ told n xs f =
+    rw c.as_slice.ensures.value at c.report_unless_current.ensures in
     told-grows n xs f (g.Sink.TreeSink.forest c.report_unless_current.new.sink) told_is
 
 pub returns-in_err-adopt-clause-grows : goal.returns-in_err-adopt-clause-grows
@@ -153,8 +175,10 @@ returns-in_err-adopt-clause-grows g c =
     let n = node c.args.formatting.node in
     let f = g.Sink.TreeSink.forest c.args.sink.now in
     let xs = opens_of node c.args.elements.now.items in
-    let told_is : g.Sink.TreeSink.forest c.report_unless_current.new.sink ≡ told n xs f = rw c.as_slice.ensures.value at c.report_unless_current.ensures in
-    told-grows-on n xs f (g.Sink.TreeSink.forest c.report_unless_current.new.sink) (g.Sink.TreeSink.forest c.adopt.new.sink) told_is c.in_err-adopt.ensures.grows
+    let told_is : g.Sink.TreeSink.forest c.report_unless_current.new.sink ≡ told n xs f =
+    rw c.as_slice.ensures.value at c.report_unless_current.ensures in
+    told-grows-on n xs f (g.Sink.TreeSink.forest c.report_unless_current.new.sink)
+    (g.Sink.TreeSink.forest c.adopt.new.sink) told_is c.in_err-adopt.ensures.grows
 
 pub returns-clause-grows : goal.returns-clause-grows
 returns-clause-grows g c =
@@ -162,8 +186,10 @@ returns-clause-grows g c =
     let n = node c.args.formatting.node in
     let f = g.Sink.TreeSink.forest c.args.sink.now in
     let xs = opens_of node c.args.elements.now.items in
-    let told_is : g.Sink.TreeSink.forest c.report_unless_current.new.sink ≡ told n xs f = rw c.as_slice.ensures.value at c.report_unless_current.ensures in
-    rw c.pop.ensures (told-grows-on n xs f (g.Sink.TreeSink.forest c.report_unless_current.new.sink) (g.Sink.TreeSink.forest c.adopt.new.sink) told_is c.in_ok-adopt.ensures.grows)
+    let told_is : g.Sink.TreeSink.forest c.report_unless_current.new.sink ≡ told n xs f =
+    rw c.as_slice.ensures.value at c.report_unless_current.ensures in
+    rw c.pop.ensures (told-grows-on n xs f (g.Sink.TreeSink.forest c.report_unless_current.new.sink)
+    (g.Sink.TreeSink.forest c.adopt.new.sink) told_is c.in_ok-adopt.ensures.grows)
 
 pub returns-in_default-clause-below : goal.returns-in_default-clause-below
 returns-in_default-clause-below g c = front-cut c.args.elements.now.items c.truncate.new.self.items c.args.from c.truncate.ensures.items

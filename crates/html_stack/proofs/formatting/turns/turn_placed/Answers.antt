@@ -35,7 +35,8 @@ returns-in_default-clause-ok g c name s on =
     let es = entries_of node c.args.entries.now.items in
     let fe : Listed = record { number = n; tag = c.requires.listed.0 } in
     let closed : is_open n (opens_of node xs) ≡ false = no-place c.args.place _ _ c.in_default.not-Some c.requires.place in
-    rw (c.parse_error.ensures, c.unlist.ensures) (turn-closed c.args.foster (g.Sink.TreeSink.forest c.args.sink.now) (opens_of node xs) es fe c.requires.listed.1.newest closed name s on)
+    rw (c.parse_error.ensures, c.unlist.ensures) (turn-closed c.args.foster (g.Sink.TreeSink.forest c.args.sink.now)
+    (opens_of node xs) es fe c.requires.listed.1.newest closed name s on)
 
 pub returns-then-has_open-clause-ok : goal.returns-then-has_open-clause-ok
 returns-then-has_open-clause-ok g c name s on =
@@ -47,8 +48,10 @@ returns-then-has_open-clause-ok g c name s on =
     let is : IsNewest (open_of node) (is_number n) xs c.in-Some.from = rw c.in-Some.is at c.requires.place in
     let later = slice_range c.as_slice.result.now (c.in-Some.from + 1) (length c.as_slice.result.now) in
     let scope : in_scope DefaultScope (is_number n) (opens_of node xs) ≡ false =
-    scope-place node n xs later c.in-Some.from (any-of xs c.in-Some.from is.within) is (rest-is xs c.as_slice.result.now (c.in-Some.from + 1) c.as_slice.ensures.value) ∙ ap not (sym (c.if-has_open.ensures node)) in
-    rw c.parse_error-then-has_open.ensures (turn-bounded c.args.foster (g.Sink.TreeSink.forest c.args.sink.now) (opens_of node xs) es fe c.requires.listed.1.newest (newest-open node n xs c.in-Some.from is) scope name s on)
+    scope-place node n xs later c.in-Some.from (any-of xs c.in-Some.from is.within) is
+    (rest-is xs c.as_slice.result.now (c.in-Some.from + 1) c.as_slice.ensures.value) ∙ ap not (sym (c.if-has_open.ensures node)) in
+    rw c.parse_error-then-has_open.ensures (turn-bounded c.args.foster (g.Sink.TreeSink.forest c.args.sink.now)
+    (opens_of node xs) es fe c.requires.listed.1.newest (newest-open node n xs c.in-Some.from is) scope name s on)
 
 pub turn_open-requires-clause-scope : goal.turn_open-requires-clause-scope
 turn_open-requires-clause-scope g c =
@@ -57,4 +60,5 @@ turn_open-requires-clause-scope g c =
     let xs = c.args.elements.now.items in
     let is : IsNewest (open_of node) (is_number n) xs c.in-Some.from = rw c.in-Some.is at c.requires.place in
     let later = slice_range c.as_slice.result.now (c.in-Some.from + 1) (length c.as_slice.result.now) in
-    scope-place node n xs later c.in-Some.from (any-of xs c.in-Some.from is.within) is (rest-is xs c.as_slice.result.now (c.in-Some.from + 1) c.as_slice.ensures.value) ∙ ap not (sym (c.if-has_open.ensures node))
+    scope-place node n xs later c.in-Some.from (any-of xs c.in-Some.from is.within) is
+    (rest-is xs c.as_slice.result.now (c.in-Some.from + 1) c.as_slice.ensures.value) ∙ ap not (sym (c.if-has_open.ensures node))

@@ -7,7 +7,11 @@ use Rattle.html_stack.proofs.WalksBack.{IsWalked}
 use Rattle.html_stack.proofs.inserting.places.foster_point.Given as goal
 
 abbrev pub invariant-loop-i : goal.invariant-loop-i
-invariant-loop-i g l = record { within : l.i ≤ length l.elements; walked : (f : Forest) (root : ℕ) → IsWalked open_of (foster_place f root) l.elements l.i; asked : (root : ℕ) → IsWalked open_of (foster_intended_parent root) l.elements l.i }
+invariant-loop-i g l = record {
+  within : l.i ≤ length l.elements;
+  walked : (f : Forest) (root : ℕ) → IsWalked open_of (foster_place f root) l.elements l.i;
+  asked : (root : ℕ) → IsWalked open_of (foster_intended_parent root) l.elements l.i;
+}
 
 abbrev pub decreases-loop-i : goal.decreases-loop-i
 decreases-loop-i g l = l.i

@@ -8,7 +8,8 @@ use Rattle.html_stack.proofs.stack.Stack.adoption_turns.Given as goal
 
 abbrev pub invariant-loop-left : goal.invariant-loop-left
 invariant-loop-left g l = record {
-  turns : (s : State) → s.foster_parenting ≡ l.foster → adoption_turns l.left l.name (joined s l.self (g.Sink.TreeSink.forest l.sink)) ≡ adoption_turns 8 l.name (joined s l.fn.self (g.Sink.TreeSink.forest l.fn.sink));
+  turns : (s : State) → s.foster_parenting ≡ l.foster → adoption_turns l.left l.name
+      (joined s l.self (g.Sink.TreeSink.forest l.sink)) ≡ adoption_turns 8 l.name (joined s l.fn.self (g.Sink.TreeSink.forest l.fn.sink));
   kept : IsStanding (g.Sink.TreeSink.forest l.sink) l.self.open_elems l.self.active_formatting;
   grown : node_count (g.Sink.TreeSink.forest l.fn.sink) ≤ node_count (g.Sink.TreeSink.forest l.sink);
 }

@@ -6,9 +6,11 @@ pub returns-clause-ok : goal.returns-clause-ok
 returns-clause-ok g c =
     let f = g.Sink.TreeSink.forest c.args.sink.now in
     ok-on c.put_comment.result (λ put s.
-    comment_to_doc-step g.Sink.TreeSink.node s c.args.self.now f (g.Sink.TreeSink.forest c.put_comment.new.sink) c.get_document-document.result c.args.text
+    comment_to_doc-step g.Sink.TreeSink.node s c.args.self.now f (g.Sink.TreeSink.forest c.put_comment.new.sink)
+    c.get_document-document.result c.args.text
     c.get_document-document.ensures.document (rw c.get_document-document.ensures.same at put))
     c.put_comment.ensures.ok
 
 pub returns-clause-kept : goal.returns-clause-kept
-returns-clause-kept g c = c.put_comment.ensures.kept c.args.self.now.open_elems c.args.self.now.active_formatting (rw c.get_document-document.ensures.same c.requires)
+returns-clause-kept g c = c.put_comment.ensures.kept c.args.self.now.open_elems c.args.self.now.active_formatting
+    (rw c.get_document-document.ensures.same c.requires)

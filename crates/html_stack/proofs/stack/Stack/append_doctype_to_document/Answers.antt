@@ -10,7 +10,8 @@ returns-clause-kept g c =
     let f = g.Sink.TreeSink.forest c.args.sink.now in
     let xs = c.args.self.now.open_elems in
     let entries = c.args.self.now.active_formatting in
-    either-on (λ k. IsStanding k xs entries) c.append_doctype_to_document.result (g.Sink.TreeSink.forest c.append_doctype_to_document.new.self)
+    either-on (λ k. IsStanding k xs entries) c.append_doctype_to_document.result
+    (g.Sink.TreeSink.forest c.append_doctype_to_document.new.self)
     (put_new f (Last 0) (Doctype c.or_empty-name.result c.or_empty-public_id.result c.or_empty-system_id.result)) f
     c.append_doctype_to_document.ensures.ok c.append_doctype_to_document.ensures.err
     (leaves-doctype f c.or_empty-name.result c.or_empty-public_id.result c.or_empty-system_id.result c.requires.tree xs entries c.requires)

@@ -13,7 +13,8 @@ returns-clause-ok g c =
     let f = g.Sink.TreeSink.forest c.args.sink.now in
     let xs = c.args.self.now.open_elems in
     ok-on c.insert_at.result (λ made s foster.
-    text-step g.Sink.TreeSink.node s c.args.self.now f (g.Sink.TreeSink.forest c.insert_at.new.sink) c.current_place-point.result c.args.text
+    text-step g.Sink.TreeSink.node s c.args.self.now f (g.Sink.TreeSink.forest c.insert_at.new.sink)
+    c.current_place-point.result c.args.text
     (c.current_place-point.ensures.place f ∙ ap (λ b. place_for b f xs (current_node xs)) (sym foster))
     (rw c.current_place-point.ensures.same at made))
     c.insert_at.ensures.ok
@@ -25,7 +26,10 @@ returns-clause-kept g c =
     let xs = c.args.self.now.open_elems in
     let entries = c.args.self.now.active_formatting in
     let is = c.requires in
-    either-on (λ k. IsStanding k xs entries) c.insert_at.result (g.Sink.TreeSink.forest c.insert_at.new.sink) (put_text now (place_at g.Sink.TreeSink.node now c.current_place-point.result) c.args.text) now
+    either-on (λ k. IsStanding k xs entries) c.insert_at.result (g.Sink.TreeSink.forest c.insert_at.new.sink)
+    (put_text now (place_at g.Sink.TreeSink.node now c.current_place-point.result) c.args.text) now
     c.insert_at.ensures.ok c.insert_at.ensures.err
-    (rw c.current_place-point.ensures.same (leaves-text g.Sink.TreeSink.node c.current_place-point.result f c.args.text is.tree (c.current_place-point.ensures.is_point f is.tree is.opened) xs entries is))
+    (rw c.current_place-point.ensures.same
+    (leaves-text g.Sink.TreeSink.node c.current_place-point.result f c.args.text is.tree
+    (c.current_place-point.ensures.is_point f is.tree is.opened) xs entries is))
     (rw c.current_place-point.ensures.same is)

@@ -14,12 +14,15 @@ pub returns-in_default-clause-ok : goal.returns-in_default-clause-ok
 returns-in_default-clause-ok g c s on =
     let node = g.Sink.TreeSink.node in
     let called = c.requires.name in
-    let none : last_named (codes "a") (entries_of node c.self.inside.active_formatting.items) ≡ None = rw (called, c.as_slice.ensures.value) at c.in_default.ensures in
-    misnested-none (joined s c.args.self.now (g.Sink.TreeSink.forest c.args.sink.now)) (subst (λ (v : Stacked). last_named (codes "a") v.active_formatting ≡ None) c.self.view_is none)
+    let none : last_named (codes "a") (entries_of node c.self.inside.active_formatting.items) ≡ None =
+    rw (called, c.as_slice.ensures.value) at c.in_default.ensures in
+    misnested-none (joined s c.args.self.now (g.Sink.TreeSink.forest c.args.sink.now))
+    (subst (λ (v : Stacked). last_named (codes "a") v.active_formatting ≡ None) c.self.view_is none)
 
 pub adoption_agency-requires-clause-standing : goal.adoption_agency-requires-clause-standing
 adoption_agency-requires-clause-standing g c =
-    rw c.parse_error.ensures (error-stands (g.Sink.TreeSink.forest c.args.sink.now) c.args.self.now.open_elems c.args.self.now.active_formatting c.requires.standing)
+    rw c.parse_error.ensures (error-stands (g.Sink.TreeSink.forest c.args.sink.now) c.args.self.now.open_elems
+    c.args.self.now.active_formatting c.requires.standing)
 
 pub returns-clause-ok : goal.returns-clause-ok
 returns-clause-ok g c s on =
@@ -29,11 +32,16 @@ returns-clause-ok g c s on =
     let n = node c.in-Some.misnested.node in
     let items = c.self.inside.active_formatting.items in
     let a : Listed = record { number = n; tag = c.in-Some.ensures.0 } in
-    let is : IsFormatting node (codes "a") items c.in-Some.misnested.place c.in-Some.misnested.node a.tag = rw (called, c.as_slice.ensures.value) at c.in-Some.ensures.1 in
-    let found : last_named (codes "a") old.active_formatting ≡ Some a = subst (λ (v : Stacked). last_named (codes "a") v.active_formatting ≡ Some a) c.self.view_is is.found in
-    let left = c.remove_from_stack.ensures.left ∙ ap (λ (v : Stacked). record v { open_elems = without_number n v.open_elems }) c.unlist.ensures in
+    let is : IsFormatting node (codes "a") items c.in-Some.misnested.place c.in-Some.misnested.node a.tag =
+    rw (called, c.as_slice.ensures.value) at c.in-Some.ensures.1 in
+    let found : last_named (codes "a") old.active_formatting ≡ Some a =
+    subst (λ (v : Stacked). last_named (codes "a") v.active_formatting ≡ Some a) c.self.view_is is.found in
+    let left = c.remove_from_stack.ensures.left
+    ∙ ap (λ (v : Stacked). record v { open_elems = without_number n v.open_elems }) c.unlist.ensures in
     rw c.remove_from_stack.ensures.same
-    (misnested-ended s old c.adoption_agency.new.self c.remove_from_stack.new.self (g.Sink.TreeSink.forest c.args.sink.now) (g.Sink.TreeSink.forest c.parse_error.new.self) (g.Sink.TreeSink.forest c.adoption_agency.new.sink) a
+    (misnested-ended s old c.adoption_agency.new.self c.remove_from_stack.new.self
+    (g.Sink.TreeSink.forest c.args.sink.now) (g.Sink.TreeSink.forest c.parse_error.new.self)
+    (g.Sink.TreeSink.forest c.adoption_agency.new.sink) a
     found c.parse_error.ensures (rw called at (c.in_ok-adoption_agency.ensures.ok s on)) left)
 
 pub returns-clause-kept : goal.returns-clause-kept
@@ -44,11 +52,19 @@ returns-clause-kept g c =
     let n = node c.in-Some.misnested.node in
     let items = c.self.inside.active_formatting.items in
     let a : Listed = record { number = n; tag = c.in-Some.ensures.0 } in
-    let is : IsFormatting node (codes "a") items c.in-Some.misnested.place c.in-Some.misnested.node a.tag = rw (called, c.as_slice.ensures.value) at c.in-Some.ensures.1 in
-    let found : last_named (codes "a") old.active_formatting ≡ Some a = subst (λ (v : Stacked). last_named (codes "a") v.active_formatting ≡ Some a) c.self.view_is is.found in
-    let left = c.remove_from_stack.ensures.left ∙ ap (λ (v : Stacked). record v { open_elems = without_number n v.open_elems }) c.unlist.ensures in
-    let ended : (s : State) → s.foster_parenting ≡ c.args.foster → joined s c.remove_from_stack.new.self (g.Sink.TreeSink.forest c.adoption_agency.new.sink) ≡ handle_misnested_a_tags (joined s old (g.Sink.TreeSink.forest c.args.sink.now)) = λ s on.
-    misnested-ended s old c.adoption_agency.new.self c.remove_from_stack.new.self (g.Sink.TreeSink.forest c.args.sink.now) (g.Sink.TreeSink.forest c.parse_error.new.self) (g.Sink.TreeSink.forest c.adoption_agency.new.sink) a
+    let is : IsFormatting node (codes "a") items c.in-Some.misnested.place c.in-Some.misnested.node a.tag =
+    rw (called, c.as_slice.ensures.value) at c.in-Some.ensures.1 in
+    let found : last_named (codes "a") old.active_formatting ≡ Some a =
+    subst (λ (v : Stacked). last_named (codes "a") v.active_formatting ≡ Some a) c.self.view_is is.found in
+    let left = c.remove_from_stack.ensures.left
+    ∙ ap (λ (v : Stacked). record v { open_elems = without_number n v.open_elems }) c.unlist.ensures in
+    let ended : (s : State) → s.foster_parenting ≡ c.args.foster → joined s c.remove_from_stack.new.self
+    (g.Sink.TreeSink.forest c.adoption_agency.new.sink) ≡ handle_misnested_a_tags
+    (joined s old (g.Sink.TreeSink.forest c.args.sink.now)) = λ s on.
+    misnested-ended s old c.adoption_agency.new.self c.remove_from_stack.new.self
+    (g.Sink.TreeSink.forest c.args.sink.now) (g.Sink.TreeSink.forest c.parse_error.new.self)
+    (g.Sink.TreeSink.forest c.adoption_agency.new.sink) a
     found c.parse_error.ensures (rw called at (c.in_ok-adoption_agency.ensures.ok s on)) left in
     rw c.remove_from_stack.ensures.same
-    (kept-by handle_misnested_a_tags misnested_a-Standing c.args.foster old c.remove_from_stack.new.self (g.Sink.TreeSink.forest c.args.sink.now) (g.Sink.TreeSink.forest c.adoption_agency.new.sink) ended c.requires.standing)
+    (kept-by handle_misnested_a_tags misnested_a-Standing c.args.foster old c.remove_from_stack.new.self
+    (g.Sink.TreeSink.forest c.args.sink.now) (g.Sink.TreeSink.forest c.adoption_agency.new.sink) ended c.requires.standing)

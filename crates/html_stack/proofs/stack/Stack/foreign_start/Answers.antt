@@ -14,4 +14,5 @@ unfolding foreign_start
 returns-in_ok-name-in-Some-clause-ok g c =
     let found = rw c.open_elems.ensures at (c.in-Some.ensures g.Sink.TreeSink.node) in
     let name = c.in_ok-name-in-Some.ensures.ok c.in-Some.node.now.name.namespace c.kind.ensures in
-    ok-on c.enter_foreign.result (λ step s foster context. step s foster ∙ rw (context, found, c.in_ok-namespace-in-Some.ensures.ok, name) refl) c.enter_foreign.ensures.ok
+    ok-on c.enter_foreign.result (λ step s foster context. step s foster
+    ∙ rw (context, found, c.in_ok-namespace-in-Some.ensures.ok, name) refl) c.enter_foreign.ensures.ok

@@ -8,5 +8,6 @@ use Rattle.html_stack.proofs.stack.Stack.insert_and_pop_element_for.Goals as goa
 pub returns-clause-ok : goal.returns-clause-ok
 returns-clause-ok g c =
     ok-on c.insert_element.result (λ step s foster.
-    step s foster ∙ put-for Html c.args.tag.name c.args.tag.attrs c.args.tag.had_duplicate_attributes c.for_tag-element.result (joined s c.args.self.now (g.Sink.TreeSink.forest c.args.sink.now)) c.for_tag-element.ensures.of)
+    step s foster ∙ put-for Html c.args.tag.name c.args.tag.attrs c.args.tag.had_duplicate_attributes
+    c.for_tag-element.result (joined s c.args.self.now (g.Sink.TreeSink.forest c.args.sink.now)) c.for_tag-element.ensures.of)
     c.insert_element.ensures.ok

@@ -8,5 +8,6 @@ use Rattle.html_stack.proofs.stack.Stack.insert_phantom.Goals as goal
 pub returns-clause-ok : goal.returns-clause-ok
 returns-clause-ok g c =
     ok-on c.insert_element.result (λ step s foster.
-    step s foster ∙ inserted-for Html c.args.name [] false c.html-element.result (joined s c.args.self.now (g.Sink.TreeSink.forest c.args.sink.now)) (rw c.new.ensures at c.html-element.ensures.of))
+    step s foster ∙ inserted-for Html c.args.name [] false c.html-element.result
+    (joined s c.args.self.now (g.Sink.TreeSink.forest c.args.sink.now)) (rw c.new.ensures at c.html-element.ensures.of))
     c.insert_element.ensures.ok

@@ -8,5 +8,7 @@ use Rattle.html_stack.proofs.stack.Stack.insert_started_script.Goals as goal
 pub returns-clause-ok : goal.returns-clause-ok
 returns-clause-ok g c =
     ok-on c.insert_element.result (λ step s foster.
-    step s foster ∙ inserted-for Html c.args.tag.name c.args.tag.attrs c.args.tag.had_duplicate_attributes c.started_script-element.result (joined s c.args.self.now (g.Sink.TreeSink.forest c.args.sink.now)) c.started_script-element.ensures.of)
+    step s foster ∙ inserted-for Html c.args.tag.name c.args.tag.attrs c.args.tag.had_duplicate_attributes
+    c.started_script-element.result (joined s c.args.self.now (g.Sink.TreeSink.forest c.args.sink.now))
+    c.started_script-element.ensures.of)
     c.insert_element.ensures.ok

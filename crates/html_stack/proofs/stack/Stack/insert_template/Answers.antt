@@ -19,10 +19,13 @@ returns-then-may_be_shadow_root-clause-ok g c =
     (λ step s foster context answers.
     let old : State = joined s c.args.self.now f in
     let host = number_of (adjusted_by (context_of node c.args.context) c.args.self.now.open_elems) in
-    let by : attach_shadow_root tag (number_of (adjusted_by s.context_elem c.args.self.now.open_elems)) (open_element Html tag.name tag.attrs tag.had_duplicate_attributes old) ≡ insert_template tag old =
+    let by : attach_shadow_root tag (number_of (adjusted_by s.context_elem c.args.self.now.open_elems))
+    (open_element Html tag.name tag.attrs tag.had_duplicate_attributes old) ≡ insert_template tag old =
     template-by true tag old (rw (answers, foster, ← c.as_slice.ensures) c.if-may_be_shadow_root.ensures.answer) in
-    let by_host : attach_shadow_root tag host (open_element Html tag.name tag.attrs tag.had_duplicate_attributes old) ≡ insert_template tag old = rw (← context) by in
-    let here : attach_shadow_root tag (node c.shadow_host-host.result) (open_element Html tag.name tag.attrs tag.had_duplicate_attributes (joined s c.args.self.now before)) ≡ insert_template tag old =
+    let by_host : attach_shadow_root tag host
+    (open_element Html tag.name tag.attrs tag.had_duplicate_attributes old) ≡ insert_template tag old = rw (← context) by in
+    let here : attach_shadow_root tag (node c.shadow_host-host.result)
+    (open_element Html tag.name tag.attrs tag.had_duplicate_attributes (joined s c.args.self.now before)) ≡ insert_template tag old =
     rw (c.shadow_host-host.ensures.number, c.shadow_host-host.ensures.same, c.if-may_be_shadow_root.ensures.same) by_host in
     step s foster answers ∙ here)
     c.attach_shadow_root.ensures.ok
@@ -31,4 +34,5 @@ pub returns-clause-ok : goal.returns-clause-ok
 returns-clause-ok g c s foster context answers =
     let f = g.Sink.TreeSink.forest c.args.sink.now in
     rw c.if-may_be_shadow_root.ensures.same at (c.in_ok-insert_element_for.ensures.ok s foster)
-    ∙ template-by false c.args.tag (joined s c.args.self.now f) (rw (answers, foster, ← c.as_slice.ensures) c.if-may_be_shadow_root.ensures.answer)
+    ∙ template-by false c.args.tag (joined s c.args.self.now f)
+    (rw (answers, foster, ← c.as_slice.ensures) c.if-may_be_shadow_root.ensures.answer)

@@ -6,4 +6,6 @@ use Rattle.html_stack.proofs.stack.Stack.pop.Goals as goal
 
 pub invariant_of-self-2 : goal.invariant_of-self-2
 invariant_of-self-2 g c =
-    fewer-noted c.self.inside.open_elems.items c.pop.new.self.items (option_to_list c.pop.result) c.cut.new.self c.pop.ensures.items (omega (arith, c.cut.ensures.within, c.len.ensures)) (c.cut.ensures.noted (named c.self.inside.open_elems.items) c.self.invariant)
+    fewer-noted c.self.inside.open_elems.items c.pop.new.self.items (option_to_list c.pop.result) c.cut.new.self
+    c.pop.ensures.items (omega (arith, c.cut.ensures.within, c.len.ensures))
+    (c.cut.ensures.noted (named c.self.inside.open_elems.items) c.self.invariant)

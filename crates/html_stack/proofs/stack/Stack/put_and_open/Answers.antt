@@ -2,12 +2,15 @@ use Rattle.html_stack.proofs.Points.{opens-Standing}
 use Rattle.html_stack.proofs.stack.Stack.put_and_open.Goals as goal
 
 pub returns-in_err-handle-clause-kept : goal.returns-in_err-handle-clause-kept
-returns-in_err-handle-clause-kept g c = c.put_element.ensures.kept c.args.self.now.open_elems c.args.self.now.active_formatting c.requires.standing
+returns-in_err-handle-clause-kept g c = c.put_element.ensures.kept c.args.self.now.open_elems
+    c.args.self.now.active_formatting c.requires.standing
 
 pub returns-in_err-push-clause-kept : goal.returns-in_err-push-clause-kept
-returns-in_err-push-clause-kept g c = rw c.in_err-push.ensures.err (c.put_element.ensures.kept c.args.self.now.open_elems c.args.self.now.active_formatting c.requires.standing)
+returns-in_err-push-clause-kept g c = rw c.in_err-push.ensures.err
+    (c.put_element.ensures.kept c.args.self.now.open_elems c.args.self.now.active_formatting c.requires.standing)
 
 pub returns-clause-kept : goal.returns-clause-kept
 returns-clause-kept g c =
     rw (c.in_ok-push.ensures.ok, c.in_ok-handle.ensures.ok, c.in_ok-handle.ensures.named, c.in_ok-name.ensures.ok)
-    (opens-Standing g.Sink.TreeSink.node c.args.point (g.Sink.TreeSink.forest c.args.sink.now) c.args.element c.args.self.now.open_elems c.args.self.now.active_formatting c.requires.point c.requires.standing)
+    (opens-Standing g.Sink.TreeSink.node c.args.point (g.Sink.TreeSink.forest c.args.sink.now) c.args.element
+    c.args.self.now.open_elems c.args.self.now.active_formatting c.requires.point c.requires.standing)

@@ -10,5 +10,6 @@ returns g c =
     let node = g.Sink.TreeSink.node in
     let items = c.self.inside.open_elems.items in
     let none = c.reach-reach.ensures.beyond (named items) (rw c.as_slice-open.ensures.value (length-named items)) c.self.invariant in
-    subst (λ (v : Stacked). IsBeyond (λ x. bears c.args.one x || bears c.args.other x) (opens_of node (take c.reach-reach.result c.as_slice-open.result.now)) v.open_elems) c.self.view_is
+    subst (λ (v : Stacked). IsBeyond (λ x. bears c.args.one x || bears c.args.other x)
+    (opens_of node (take c.reach-reach.result c.as_slice-open.result.now)) v.open_elems) c.self.view_is
     (rw c.as_slice-open.ensures.value (beyond node (λ x. bears c.args.one x || bears c.args.other x) items c.reach-reach.result none))

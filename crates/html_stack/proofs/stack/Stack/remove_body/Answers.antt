@@ -10,4 +10,5 @@ returns-clause-step g c s = rw (c.pop_until_current.ensures, ← c.take_body_out
 
 pub returns-clause-kept : goal.returns-clause-kept
 returns-clause-kept g c =
-    kept-always remove_body remove_body-Standing c.args.self.now c.pop_until_current.new.self (g.Sink.TreeSink.forest c.args.sink.now) (g.Sink.TreeSink.forest c.take_body_out.new.sink) (returns-clause-step g c) c.requires
+    kept-always remove_body remove_body-Standing c.args.self.now c.pop_until_current.new.self
+    (g.Sink.TreeSink.forest c.args.sink.now) (g.Sink.TreeSink.forest c.take_body_out.new.sink) (returns-clause-step g c) c.requires

@@ -11,4 +11,5 @@ returns g c =
     let wait = rw (c.as_slice.ensures.value, c.as_slice-2.ensures.value) at c.count_settled.ensures.wait in
     let stay = rw (c.as_slice.ensures.value, c.as_slice-2.ensures.value) at c.count_settled.ensures.stay in
     subst (λ (v : Stacked). IsDivided v.open_elems v.active_formatting c.count_settled.result) c.self.view_is
-    (divided node (opens_of node c.self.inside.open_elems.items) c.self.inside.active_formatting.items c.count_settled.result within wait stay)
+    (divided node (opens_of node c.self.inside.open_elems.items) c.self.inside.active_formatting.items
+    c.count_settled.result within wait stay)

@@ -16,4 +16,5 @@ pub returns : goal.returns
 returns g c =
     let m = g.Sink.TokenSink in
     after-other m c.args.self.now c.finish_without_value.new.self _ _ _ c.requires.at
-    (sym c.is_white_space.ensures ∙ c.if-is_white_space.false) c.if-c-eq61.false c.in_ok-finish_without_value.ensures.ok c.before_attribute_name_state.ensures
+    (sym c.is_white_space.ensures ∙ c.if-is_white_space.false) c.if-c-eq61.false
+    c.in_ok-finish_without_value.ensures.ok c.before_attribute_name_state.ensures

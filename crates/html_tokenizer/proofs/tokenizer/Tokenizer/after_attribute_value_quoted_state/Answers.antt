@@ -13,4 +13,6 @@ returns-in_err-report_if g c =
 pub returns : goal.returns
 returns g c =
     let m = g.Sink.TokenSink in
-    keeps_erred m (_) c.args.self.now c.report_if.new.self _ c.args.c _ c.in_ok-report_if.ensures (λ e. behind-absorbs m c.args.self.now c.args.c c.requires.at (ap not (sym c.ends_tag_name.ensures) ∙ e)) c.consume_after_value.ensures
+    keeps_erred m (_) c.args.self.now c.report_if.new.self _ c.args.c _ c.in_ok-report_if.ensures
+    (λ e. behind-absorbs m c.args.self.now c.args.c c.requires.at (ap not (sym c.ends_tag_name.ensures) ∙ e))
+    c.consume_after_value.ensures

@@ -11,4 +11,6 @@ returns-in_err-report_fault g c =
 pub returns : goal.returns
 returns g c =
     let m = g.Sink.TokenSink in
-    keeps_erred m _ c.args.self.now c.report_fault.new.self _ c.args.c _ c.in_ok-report_fault.ensures (λ e. identifier-absorbs m g.met.Sink.TokenSink.laws c.args.self.now c.args.c c.args.kind c.requires.at) c.consume_after_identifier.ensures
+    keeps_erred m _ c.args.self.now c.report_fault.new.self _ c.args.c _ c.in_ok-report_fault.ensures
+    (λ e. identifier-absorbs m g.met.Sink.TokenSink.laws c.args.self.now c.args.c c.args.kind c.requires.at)
+    c.consume_after_identifier.ensures

@@ -12,4 +12,5 @@ returns-in_err-report_if g c =
 pub returns : goal.returns
 returns g c =
     let m = g.Sink.TokenSink in
-    unknown-ended m _ c.args.self.now c.report_if.new.self _ c.args.c _ c.requires.fresh c.requires.fits c.in_ok-report_if.ensures c.step.ensures
+    unknown-ended m _ c.args.self.now c.report_if.new.self _ c.args.c _ c.requires.fresh c.requires.fits
+    c.in_ok-report_if.ensures c.step.ensures

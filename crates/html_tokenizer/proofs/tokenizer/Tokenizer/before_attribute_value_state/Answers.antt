@@ -11,4 +11,5 @@ returns-in_err-report_if g c =
 pub returns : goal.returns
 returns g c =
     let m = g.Sink.TokenSink in
-    keeps_erred m (_) c.args.self.now c.report_if.new.self _ c.args.c _ c.in_ok-report_if.ensures (λ e. value_before-absorbs m c.args.self.now c.args.c c.requires.at e) c.consume_before_value.ensures
+    keeps_erred m (_) c.args.self.now c.report_if.new.self _ c.args.c _ c.in_ok-report_if.ensures
+    (λ e. value_before-absorbs m c.args.self.now c.args.c c.requires.at e) c.consume_before_value.ensures

@@ -12,4 +12,6 @@ returns-in_err-report_null g c =
 pub returns : goal.returns
 returns g c =
     let m = g.Sink.TokenSink in
-    keeps_erred m (nat_eq c.args.c 0) c.args.self.now c.report_null.new.self _ c.args.c _ c.in_ok-report_null.ensures (λ e. bogus-absorbs m g.met.Sink.TokenSink.laws c.args.self.now c.args.c c.requires.at) c.consume_in_bogus_comment.ensures
+    keeps_erred m (nat_eq c.args.c 0) c.args.self.now c.report_null.new.self _ c.args.c _
+    c.in_ok-report_null.ensures (λ e. bogus-absorbs m g.met.Sink.TokenSink.laws c.args.self.now c.args.c
+    c.requires.at) c.consume_in_bogus_comment.ensures

@@ -9,9 +9,11 @@ returns-then-c-eq93 g c =
 pub returns-in_err-emit_char : goal.returns-in_err-emit_char
 returns-in_err-emit_char g c =
     let m = g.Sink.TokenSink in
-    bracket-failed m g.met.Sink.TokenSink.laws _ _ _ _ _ c.requires.at c.requires.sound c.if-c-eq93.false c.from_residual.ensures.1 c.in_err-emit_char.ensures
+    bracket-failed m g.met.Sink.TokenSink.laws _ _ _ _ _ c.requires.at c.requires.sound c.if-c-eq93.false
+    c.from_residual.ensures.1 c.in_err-emit_char.ensures
 
 pub returns : goal.returns
 returns g c =
     let m = g.Sink.TokenSink in
-    bracket-kept m g.met.Sink.TokenSink.laws _ c.emit_char.new.self _ _ _ c.requires.at c.requires.sound c.if-c-eq93.false c.in_ok-emit_char.ensures c.cdata_section_state.ensures
+    bracket-kept m g.met.Sink.TokenSink.laws _ c.emit_char.new.self _ _ _ c.requires.at c.requires.sound
+    c.if-c-eq93.false c.in_ok-emit_char.ensures c.cdata_section_state.ensures

@@ -10,4 +10,5 @@ returns-then-c-eq45 g c =
 pub returns : goal.returns
 returns g c =
     let m = g.Sink.TokenSink in
-    end_dash-other m g.met.Sink.TokenSink.laws c.args.self.now _ c.args.c _ c.push.new.self c.comment_state.ensures c.requires.at c.in_ok-push.ensures.ok (ne_eqb c.args.c 45 c.if-c-eq45.false)
+    end_dash-other m g.met.Sink.TokenSink.laws c.args.self.now _ c.args.c _ c.push.new.self c.comment_state.ensures
+    c.requires.at c.in_ok-push.ensures.ok (ne_eqb c.args.c 45 c.if-c-eq45.false)

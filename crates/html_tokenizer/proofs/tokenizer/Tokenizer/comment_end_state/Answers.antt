@@ -15,7 +15,8 @@ returns-in_err-report_if g c =
 pub returns : goal.returns
 returns g c =
     let m = g.Sink.TokenSink in
-    keeps_erred m _ c.args.self.now c.report_if.new.self _ c.args.c _ c.in_ok-report_if.ensures (λ e. end-absorbs m g.met.Sink.TokenSink.laws c.args.self.now c.args.c c.requires.at (elim c.if-c-ne62.branch [
+    keeps_erred m _ c.args.self.now c.report_if.new.self _ c.args.c _ c.in_ok-report_if.ensures
+    (λ e. end-absorbs m g.met.Sink.TokenSink.laws c.args.self.now c.args.c c.requires.at (elim c.if-c-ne62.branch [
       | then-c-ne62 w ↦ ne_eqb 62 c.args.c (λ same. w.if-c-ne62.true (sym same))
       | else-c-ne62 w ↦ absurd (let no : true ≡ false = sym e ∙ w.is_nested-is ∙ ap (λ d. not (nat_eq d 62)) w.if-c-ne62.false in cc)
     ])) c.consume_after_dashes.ensures

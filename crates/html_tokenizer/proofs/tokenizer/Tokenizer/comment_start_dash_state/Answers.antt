@@ -8,21 +8,26 @@ use Rattle.html_tokenizer.proofs.tokenizer.Tokenizer.comment_start_dash_state.Go
 pub returns-then-c-eq45 : goal.returns-then-c-eq45
 returns-then-c-eq45 g c =
     let m = g.Sink.TokenSink in
-    rw c.if-c-eq45.true (start_dash-dash m g.met.Sink.TokenSink.laws c.args.self.now c.requires.sound c.clear.new.self c.clear.ensures c.requires.at)
+    rw c.if-c-eq45.true (start_dash-dash m g.met.Sink.TokenSink.laws c.args.self.now c.requires.sound
+    c.clear.new.self c.clear.ensures c.requires.at)
 
 pub returns-in_err-emit_faulty_comment : goal.returns-in_err-emit_faulty_comment
 returns-in_err-emit_faulty_comment g c =
     let m = g.Sink.TokenSink in
     comment-failed m g.met.Sink.TokenSink.laws
-    a_fault _ _ _ state.CommentStartDash c.clear.new.self _ _ c.if-c-eq62.true c.requires.at c.requires.sound c.from_residual.ensures.1 c.in_err-emit_faulty_comment.ensures (rw c.clear.ensures (start_dash-says m g.met.Sink.TokenSink.laws _))
+    a_fault _ _ _ state.CommentStartDash c.clear.new.self _ _ c.if-c-eq62.true c.requires.at c.requires.sound
+    c.from_residual.ensures.1 c.in_err-emit_faulty_comment.ensures (rw c.clear.ensures (start_dash-says m g.met.Sink.TokenSink.laws _))
 
 pub returns-then-c-eq62 : goal.returns-then-c-eq62
 returns-then-c-eq62 g c =
     let m = g.Sink.TokenSink in
     comment-took m g.met.Sink.TokenSink.laws
-    _ _ _ state.CommentStartDash c.clear.new.self c.if-c-eq62.true c.requires.at c.requires.sound c.in_ok-emit_faulty_comment.ensures (rw c.clear.ensures (start_dash-says m g.met.Sink.TokenSink.laws _))
+    _ _ _ state.CommentStartDash c.clear.new.self c.if-c-eq62.true c.requires.at c.requires.sound
+    c.in_ok-emit_faulty_comment.ensures (rw c.clear.ensures (start_dash-says m g.met.Sink.TokenSink.laws _))
 
 pub returns : goal.returns
 returns g c =
     let m = g.Sink.TokenSink in
-    start_dash-other m g.met.Sink.TokenSink.laws c.args.self.now _ c.args.c _ c.push.new.self c.comment_state.ensures c.requires.at (rw c.clear.ensures at c.in_ok-push.ensures.ok) (ne_eqb 62 c.args.c (λ e. c.if-c-eq62.false (sym e))) (ne_eqb c.args.c 45 c.if-c-eq45.false)
+    start_dash-other m g.met.Sink.TokenSink.laws c.args.self.now _ c.args.c _ c.push.new.self
+    c.comment_state.ensures c.requires.at (rw c.clear.ensures at c.in_ok-push.ensures.ok)
+    (ne_eqb 62 c.args.c (λ e. c.if-c-eq62.false (sym e))) (ne_eqb c.args.c 45 c.if-c-eq45.false)

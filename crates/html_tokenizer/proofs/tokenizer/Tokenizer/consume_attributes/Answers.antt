@@ -11,6 +11,8 @@ pub loop-name-preserved : goal.loop-name-preserved
 loop-name-preserved g c =
     let m = g.Sink.TokenSink in (
       c.in_ok-rest.ensures.utf8,
-      attributes-more m c.args.self.now c.loop-name.self c.begin_attribute.new.self c.consume_equals.new.self _ _ _ _ _ c.in-Some.ensures.at c.loop-name.invariant.1 c.in-Some.ensures.name c.in_ok-begin_attribute.ensures.ok c.in_ok-rest.ensures.ok,
+      attributes-more m c.args.self.now c.loop-name.self c.begin_attribute.new.self c.consume_equals.new.self _ _ _
+          _ _ c.in-Some.ensures.at c.loop-name.invariant.1 c.in-Some.ensures.name c.in_ok-begin_attribute.ensures.ok
+          c.in_ok-rest.ensures.ok,
       c.consume_equals.ensures.sink ∙ c.begin_attribute.ensures.sink ∙ c.loop-name.invariant.2,
     )

@@ -1,5 +1,6 @@
 use Rattle.std.proofs.Common.{◌∙◌, sym}
-use Rattle.html_tokenizer.proofs.Attributes.Values.{value_before-space, value_before-close, value_before-quote, value_before-apostrophe, value_before-other}
+use Rattle.html_tokenizer.proofs.Attributes.Values.{value_before-space, value_before-close, value_before-quote}
+use Rattle.html_tokenizer.proofs.Attributes.Values.{value_before-apostrophe, value_before-other}
 use Rattle.html_tokenizer.proofs.tokenizer.Tokenizer.consume_before_value.Goals as goal
 
 pub returns-then-is_white_space : goal.returns-then-is_white_space
@@ -27,4 +28,5 @@ pub returns : goal.returns
 returns g c =
     let m = g.Sink.TokenSink in
     value_before-other m c.args.self.now _ _ _ _ c.requires.at
-    (sym c.is_white_space.ensures ∙ c.if-is_white_space.false) c.if-c-eq62.false c.if-c-eq34.false c.if-c-eq39.false c.clear.ensures c.unquoted_value_state.ensures
+    (sym c.is_white_space.ensures ∙ c.if-is_white_space.false) c.if-c-eq62.false c.if-c-eq34.false c.if-c-eq39.false
+    c.clear.ensures c.unquoted_value_state.ensures

@@ -11,4 +11,5 @@ returns-in_default-clause-ok g c =
 pub returns-clause-ok : goal.returns-clause-ok
 returns-clause-ok g c =
     let m = g.Sink.TokenSink in
-    IfOk-weaker c.consume_value.result _ _ (λ rest front. equals-front m c.args.self.now c.consume_value.new.self _ _ _ c.requires.at c.requires.sound c.in-Some.ensures.whole front) c.consume_value.ensures.ok
+    IfOk-weaker c.consume_value.result _ _ (λ rest front. equals-front m c.args.self.now c.consume_value.new.self _
+    _ _ c.requires.at c.requires.sound c.in-Some.ensures.whole front) c.consume_value.ensures.ok

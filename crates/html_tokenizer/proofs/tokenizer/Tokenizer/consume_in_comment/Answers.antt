@@ -10,4 +10,5 @@ returns-then-c-eq45 g c =
 pub returns : goal.returns
 returns g c =
     let m = g.Sink.TokenSink in
-    comment-push m g.met.Sink.TokenSink.laws c.args.self.now c.args.c c.requires.sound c.push.new.self c.requires.at (ne_eqb c.args.c 45 c.if-c-eq45.false) (rw c.shown.ensures at c.in_ok-push.ensures.ok)
+    comment-push m g.met.Sink.TokenSink.laws c.args.self.now c.args.c c.requires.sound c.push.new.self c.requires.at
+    (ne_eqb c.args.c 45 c.if-c-eq45.false) (rw c.shown.ensures at c.in_ok-push.ensures.ok)

@@ -8,21 +8,29 @@ use Rattle.html_tokenizer.proofs.tokenizer.Tokenizer.consume_in_doctype_name.Goa
 pub returns-then-is_white_space : goal.returns-then-is_white_space
 returns-then-is_white_space g c =
     let m = g.Sink.TokenSink in
-    rw c.finish_name.ensures (name-white m g.met.Sink.TokenSink.laws c.args.self.now c.args.c c.requires.sound [] c.new.result (record no_doctype { name = Some c.args.self.now.temporary }) c.requires.at (sym c.is_white_space.ensures ∙ c.if-is_white_space.true) refl c.new.ensures refl)
+    rw c.finish_name.ensures (name-white m g.met.Sink.TokenSink.laws c.args.self.now c.args.c c.requires.sound
+    [] c.new.result (record no_doctype { name = Some c.args.self.now.temporary }) c.requires.at
+    (sym c.is_white_space.ensures ∙ c.if-is_white_space.true) refl c.new.ensures refl)
 
 pub returns-in_err-emit_doctype : goal.returns-in_err-emit_doctype
 returns-in_err-emit_doctype g c =
     let m = g.Sink.TokenSink in
     doctype-failed m g.met.Sink.TokenSink.laws
-    c.args.self.now _ _ state.DoctypeName [] false (record no_doctype { name = Some c.args.self.now.temporary }) _ _ c.if-c-eq62.true c.requires.at c.requires.sound c.from_residual.ensures.1 (rw c.finish_name-then-c-eq62.ensures at c.in_err-emit_doctype.ensures) (name-says m g.met.Sink.TokenSink.laws c.args.self.now [])
+    c.args.self.now _ _ state.DoctypeName [] false (record no_doctype { name = Some c.args.self.now.temporary }) _ _
+    c.if-c-eq62.true c.requires.at c.requires.sound c.from_residual.ensures.1
+    (rw c.finish_name-then-c-eq62.ensures at c.in_err-emit_doctype.ensures) (name-says m g.met.Sink.TokenSink.laws c.args.self.now [])
 
 pub returns-then-c-eq62 : goal.returns-then-c-eq62
 returns-then-c-eq62 g c =
     let m = g.Sink.TokenSink in
     doctype-took m g.met.Sink.TokenSink.laws
-    c.args.self.now _ _ state.DoctypeName [] false (record no_doctype { name = Some c.args.self.now.temporary }) c.if-c-eq62.true c.requires.at c.requires.sound (rw c.finish_name-then-c-eq62.ensures at c.in_ok-emit_doctype.ensures) (name-says m g.met.Sink.TokenSink.laws c.args.self.now [])
+    c.args.self.now _ _ state.DoctypeName [] false (record no_doctype { name = Some c.args.self.now.temporary })
+    c.if-c-eq62.true c.requires.at c.requires.sound
+    (rw c.finish_name-then-c-eq62.ensures at c.in_ok-emit_doctype.ensures) (name-says m g.met.Sink.TokenSink.laws c.args.self.now [])
 
 pub returns : goal.returns
 returns g c =
     let m = g.Sink.TokenSink in
-    name-push m g.met.Sink.TokenSink.laws c.args.self.now c.args.c c.requires.sound c.push.new.self c.requires.at (sym c.is_white_space.ensures ∙ c.if-is_white_space.false) (ne_eqb c.args.c 62 c.if-c-eq62.false) (rw c.lowered.ensures at c.in_ok-push.ensures.ok)
+    name-push m g.met.Sink.TokenSink.laws c.args.self.now c.args.c c.requires.sound c.push.new.self c.requires.at
+    (sym c.is_white_space.ensures ∙ c.if-is_white_space.false) (ne_eqb c.args.c 62 c.if-c-eq62.false)
+    (rw c.lowered.ensures at c.in_ok-push.ensures.ok)

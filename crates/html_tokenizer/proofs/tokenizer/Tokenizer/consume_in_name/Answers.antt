@@ -10,4 +10,5 @@ returns-then-ends_name g c =
 pub returns : goal.returns
 returns g c =
     let m = g.Sink.TokenSink in
-    name-more m _ _ _ c.requires.at c.requires.sound (sym c.ends_name.ensures ∙ c.if-ends_name.false) (rw c.lowered.ensures at c.in_ok-push.ensures.ok)
+    name-more m _ _ _ c.requires.at c.requires.sound (sym c.ends_name.ensures ∙ c.if-ends_name.false)
+    (rw c.lowered.ensures at c.in_ok-push.ensures.ok)

@@ -4,7 +4,8 @@ use Rattle.html_tokenizer.proofs.tokenizer.Tokenizer.consume_in_quoted_value.Goa
 pub returns-then-c-quote : goal.returns-then-c-quote
 returns-then-c-quote g c =
     let m = g.Sink.TokenSink in
-    quoted-close m c.args.self.now c.finish_attribute.new.self _ _ _ c.requires.at c.requires.sound c.requires.quote c.if-c-quote.true c.in_ok-finish_attribute.ensures.ok
+    quoted-close m c.args.self.now c.finish_attribute.new.self _ _ _ c.requires.at c.requires.sound c.requires.quote
+    c.if-c-quote.true c.in_ok-finish_attribute.ensures.ok
 
 pub returns-then-c-eq38 : goal.returns-then-c-eq38
 returns-then-c-eq38 g c =

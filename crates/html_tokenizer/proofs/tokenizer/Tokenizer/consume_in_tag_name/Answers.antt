@@ -21,4 +21,5 @@ pub returns : goal.returns
 returns g c =
     let m = g.Sink.TokenSink in
     tag_name-more m _ _ _ c.requires.at c.requires.sound
-    (sym c.is_white_space.ensures ∙ c.if-is_white_space.false) c.if-c-eq47.false c.if-c-eq62.false (rw c.lowered.ensures at c.in_ok-push.ensures.ok)
+    (sym c.is_white_space.ensures ∙ c.if-is_white_space.false) c.if-c-eq47.false c.if-c-eq62.false
+    (rw c.lowered.ensures at c.in_ok-push.ensures.ok)

@@ -10,4 +10,5 @@ returns-in_err-report_unquoted_faults g c =
 pub returns : goal.returns
 returns g c =
     let m = g.Sink.TokenSink in
-    unquoted_run-kept m c.args.self.now c.report_unquoted_faults.new.self _ _ _ c.requires.run c.requires.sound c.requires.at (rw c.as_str.ensures at c.in_ok-report_unquoted_faults.ensures) c.append.ensures.ok c.append.ensures.fault
+    unquoted_run-kept m c.args.self.now c.report_unquoted_faults.new.self _ _ _ c.requires.run c.requires.sound
+    c.requires.at (rw c.as_str.ensures at c.in_ok-report_unquoted_faults.ensures) c.append.ensures.ok c.append.ensures.fault

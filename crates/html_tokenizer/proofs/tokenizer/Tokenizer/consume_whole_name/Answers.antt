@@ -3,4 +3,5 @@ use Rattle.html_tokenizer.proofs.tokenizer.Tokenizer.consume_whole_name.Goals as
 
 pub returns : goal.returns
 returns g c =
-    λ cs whole. whole-valued g.Sink.TokenSink c.args.kind c.args.self.now cs _ c.args.found c.push_found.result c.requires.at c.requires.sound whole c.push_found.ensures.ok c.push_found.ensures.fault
+    λ cs whole. whole-valued g.Sink.TokenSink c.args.kind c.args.self.now cs _ c.args.found c.push_found.result
+    c.requires.at c.requires.sound whole c.push_found.ensures.ok c.push_found.ensures.fault

@@ -19,4 +19,5 @@ returns-then-c-eq0 g c =
 pub returns : goal.returns
 returns g c =
     let m = g.Sink.TokenSink in
-    data-kept m g.met.Sink.TokenSink.laws _ _ _ _ c.requires.at c.requires.sound c.if-c-eq60.false c.if-c-eq38.false c.if-c-eq0.false c.consume_char.ensures
+    data-kept m g.met.Sink.TokenSink.laws _ _ _ _ c.requires.at c.requires.sound c.if-c-eq60.false c.if-c-eq38.false
+    c.if-c-eq0.false c.consume_char.ensures

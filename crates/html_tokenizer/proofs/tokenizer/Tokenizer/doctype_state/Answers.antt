@@ -13,4 +13,6 @@ returns-in_err-report_if g c =
 pub returns : goal.returns
 returns g c =
     let m = g.Sink.TokenSink in
-    keeps_erred m _ c.args.self.now c.report_if.new.self _ c.args.c _ c.in_ok-report_if.ensures (λ e. doctype-absorbs m g.met.Sink.TokenSink.laws c.args.self.now c.args.c c.requires.at (sym (ap not c.ends_word.ensures) ∙ e)) c.consume_after_doctype.ensures
+    keeps_erred m _ c.args.self.now c.report_if.new.self _ c.args.c _ c.in_ok-report_if.ensures
+    (λ e. doctype-absorbs m g.met.Sink.TokenSink.laws c.args.self.now c.args.c c.requires.at
+    (sym (ap not c.ends_word.ensures) ∙ e)) c.consume_after_doctype.ensures

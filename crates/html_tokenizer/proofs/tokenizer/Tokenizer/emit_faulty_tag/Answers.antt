@@ -16,5 +16,9 @@ returns-in_err-report_repeats g c =
 pub returns : goal.returns
 returns g c =
     let m = g.Sink.TokenSink in
-    errs-then m (owed_for (grave_if (is_faulty_end c.args.self.now.tag.kind c.args.self.now.tag))) _ _ c.report_repeats.new.self _ _ (either-no-more c.args.self.now.tag.had_duplicate_attributes (is_faulty_end c.args.self.now.tag.kind c.args.self.now.tag)) c.in_ok-report_repeats.ensures
-    (subst (λ (tag : Tag). Errs m (owed_for (grave_if (is_faulty_end tag.kind tag))) c.report_repeats.new.self c.report_end_faults.new.self c.report_end_faults.result) (ap (λ (k : Tokenizer _). k.tag) c.in_ok-report_repeats.ensures.changed) c.report_end_faults.ensures)
+    errs-then m (owed_for (grave_if (is_faulty_end c.args.self.now.tag.kind c.args.self.now.tag))) _ _
+    c.report_repeats.new.self _ _ (either-no-more c.args.self.now.tag.had_duplicate_attributes
+    (is_faulty_end c.args.self.now.tag.kind c.args.self.now.tag)) c.in_ok-report_repeats.ensures
+    (subst (λ (tag : Tag). Errs m (owed_for (grave_if (is_faulty_end tag.kind tag))) c.report_repeats.new.self
+    c.report_end_faults.new.self c.report_end_faults.result)
+    (ap (λ (k : Tokenizer _). k.tag) c.in_ok-report_repeats.ensures.changed) c.report_end_faults.ensures)

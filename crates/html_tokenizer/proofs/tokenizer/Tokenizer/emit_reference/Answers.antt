@@ -10,7 +10,8 @@ use Rattle.html_tokenizer.proofs.tokenizer.Tokenizer.emit_reference.Goals as goa
 pub returns-in_err-report_reference_faults : goal.returns-in_err-report_reference_faults
 returns-in_err-report_reference_faults g c =
     let m = g.Sink.TokenSink in
-    tells-failed m g.met.Sink.TokenSink.laws _ _ c.report_reference_faults.new.self _ _ _ _ c.in_err-report_reference_faults.ensures c.from_residual-in_err-report_reference_faults.ensures.1
+    tells-failed m g.met.Sink.TokenSink.laws _ _ c.report_reference_faults.new.self _ _ _ _
+    c.in_err-report_reference_faults.ensures c.from_residual-in_err-report_reference_faults.ensures.1
 
 pub returns : goal.returns
 returns g c =
@@ -18,4 +19,5 @@ returns g c =
     let owed = owed_for (grave_if (has_fault c.decided-decision.result.faults)) in
     reference-told m g.met.Sink.TokenSink.laws (has_fault c.decided-decision.result.faults) _ _ _ _ _ _ _ _
     refl c.decided-decision.ensures.fault c.in_ok-push_resolved.ensures.ok c.empty-text.ensures c.decided-decision.ensures.is
-    (tells-erred m g.met.Sink.TokenSink.laws owed _ c.report_reference_faults.new.self _ (CharacterTokens c.push_resolved.new.text) _ c.in_ok-report_reference_faults.ensures c.emit.ensures)
+    (tells-erred m g.met.Sink.TokenSink.laws owed _ c.report_reference_faults.new.self _
+    (CharacterTokens c.push_resolved.new.text) _ c.in_ok-report_reference_faults.ensures c.emit.ensures)

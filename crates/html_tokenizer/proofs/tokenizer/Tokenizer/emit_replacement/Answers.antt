@@ -5,7 +5,8 @@ use Rattle.html_tokenizer.specs.Steps.{a_fault}
 pub returns-in_err-report_error : goal.returns-in_err-report_error
 returns-in_err-report_error g c =
     let m = g.Sink.TokenSink in
-    tells-failed m g.met.Sink.TokenSink.laws a_fault _ c.report_error.new.self _ _ _ _ c.in_err-report_error.ensures c.from_residual.ensures.1
+    tells-failed m g.met.Sink.TokenSink.laws a_fault _ c.report_error.new.self _ _ _ _ c.in_err-report_error.ensures
+    c.from_residual.ensures.1
 
 pub returns : goal.returns
 returns g c =

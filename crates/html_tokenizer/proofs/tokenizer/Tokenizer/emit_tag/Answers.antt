@@ -16,14 +16,22 @@ returns-in_err-emit_faulty_tag g c =
 pub returns-in_err-reply : goal.returns-in_err-reply
 returns-in_err-reply g c =
     let m = g.Sink.TokenSink in
-    tag-refused m c.args.self.now c.emit_faulty_tag.new.self _ c.line-line.result _ _ c.in_ok-emit_faulty_tag.ensures c.line-line.ensures c.from_residual-in_err-reply.ensures.1
+    tag-refused m c.args.self.now c.emit_faulty_tag.new.self _ c.line-line.result _ _
+    c.in_ok-emit_faulty_tag.ensures c.line-line.ensures c.from_residual-in_err-reply.ensures.1
     (record { sound = c.in_err-reply.ensures.sound; loans = c.in_err-reply.ensures.same_references })
-    (refused-now m g.met.Sink.TokenSink.laws IsOfText _ _ (TagToken c.emit_faulty_tag.new.self.tag) tt c.line-line.result _ c.in_err-reply.ensures.gives c.in_err-reply.ensures.unchanged c.in_err-reply.ensures.failed_before)
+    (refused-now m g.met.Sink.TokenSink.laws IsOfText _ _ (TagToken c.emit_faulty_tag.new.self.tag) tt
+    c.line-line.result _ c.in_err-reply.ensures.gives c.in_err-reply.ensures.unchanged c.in_err-reply.ensures.failed_before)
 
 pub returns : goal.returns
 returns g c =
     let m = g.Sink.TokenSink in
     tag-ended m c.args.self.now c.emit_faulty_tag.new.self c.follow.new.self c.process_tag.new.self
-    c.keep_last_start_tag.new.self.raw_end c.process_tag.new.tag c.line-line.result c.in_ok-reply.reply c.follow.result c.requires.fresh c.requires.sound c.in_ok-emit_faulty_tag.ensures
-    (c.keep_last_start_tag.ensures.name ∙ ap₂ or_last c.in_ok-own_name.ensures.ok (ap (λ (k : Tokenizer _). k.raw_end.name) c.in_ok-emit_faulty_tag.ensures.changed)) c.line-line.ensures c.in_ok-reply.ensures.gives (c.in_ok-reply.ensures.sound c.in_ok-reply.ensures.failed_after) (took-stays m g.met.Sink.TokenSink.laws _ _ c.in_ok-reply.ensures.failed_after c.in_ok-reply.ensures.same_references)
-    (rises-own m.errors _ _ _ c.in_ok-reply.ensures.counts) (c.follow.ensures.moved ∙ ap (λ (k : Tokenizer _). record k { state = state_after c.in_ok-reply.reply }) c.keep_last_start_tag.ensures.changed) c.follow.ensures.answer
+    c.keep_last_start_tag.new.self.raw_end c.process_tag.new.tag c.line-line.result c.in_ok-reply.reply
+    c.follow.result c.requires.fresh c.requires.sound c.in_ok-emit_faulty_tag.ensures
+    (c.keep_last_start_tag.ensures.name ∙ ap₂ or_last c.in_ok-own_name.ensures.ok
+    (ap (λ (k : Tokenizer _). k.raw_end.name) c.in_ok-emit_faulty_tag.ensures.changed)) c.line-line.ensures
+    c.in_ok-reply.ensures.gives (c.in_ok-reply.ensures.sound c.in_ok-reply.ensures.failed_after)
+    (took-stays m g.met.Sink.TokenSink.laws _ _ c.in_ok-reply.ensures.failed_after c.in_ok-reply.ensures.same_references)
+    (rises-own m.errors _ _ _ c.in_ok-reply.ensures.counts)
+    (c.follow.ensures.moved ∙ ap (λ (k : Tokenizer _). record k { state = state_after c.in_ok-reply.reply })
+    c.keep_last_start_tag.ensures.changed) c.follow.ensures.answer

@@ -9,4 +9,5 @@ returns-in_err-emit_char g c =
 pub returns : goal.returns
 returns g c =
     let m = g.Sink.TokenSink in
-    bracket-closes m g.met.Sink.TokenSink.laws _ c.emit_char.new.self _ _ c.requires.at c.requires.sound c.in_ok-emit_char.ensures c.report_error.ensures
+    bracket-closes m g.met.Sink.TokenSink.laws _ c.emit_char.new.self _ _ c.requires.at c.requires.sound
+    c.in_ok-emit_char.ensures c.report_error.ensures

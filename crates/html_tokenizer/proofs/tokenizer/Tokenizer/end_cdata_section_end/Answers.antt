@@ -9,4 +9,5 @@ returns-in_err-emit_two g c =
 pub returns : goal.returns
 returns g c =
     let m = g.Sink.TokenSink in
-    brackets-closes m g.met.Sink.TokenSink.laws _ c.emit_two.new.self _ _ c.requires.at c.requires.sound c.in_ok-emit_two.ensures c.report_error.ensures
+    brackets-closes m g.met.Sink.TokenSink.laws _ c.emit_two.new.self _ _ c.requires.at c.requires.sound
+    c.in_ok-emit_two.ensures c.report_error.ensures

@@ -8,7 +8,9 @@ push-requires g c = part-more c.args.self.now.keyword c.args.c (sym c.may_declar
 pub returns-then-may_declare : goal.returns-then-may_declare
 returns-then-may_declare g c =
     let m = g.Sink.TokenSink in
-    declaration-push m g.met.Sink.TokenSink.laws c.args.self.now c.args.c c.requires.at c.requires.sound c.push.new.self (sym c.may_declare.ensures ∙ c.if-may_declare.true) c.in_ok-push.ensures.ok
+    declaration-push m g.met.Sink.TokenSink.laws c.args.self.now c.args.c c.requires.at c.requires.sound
+    c.push.new.self (sym c.may_declare.ensures ∙ c.if-may_declare.true) c.in_ok-push.ensures.ok
 
 pub declare_nothing-requires-clause-nothing : goal.declare_nothing-requires-clause-nothing
-declare_nothing-requires-clause-nothing g c = nothing-begun _ c.args.self.now.keyword c.args.c c.requires.part c.requires.open (sym c.may_declare.ensures ∙ c.if-may_declare.false)
+declare_nothing-requires-clause-nothing g c = nothing-begun _ c.args.self.now.keyword c.args.c c.requires.part
+    c.requires.open (sym c.may_declare.ensures ∙ c.if-may_declare.false)

@@ -15,15 +15,21 @@ returns g c =
     let m = g.Sink.TokenSink in
     let whole = c.in-Some-whole_name.ensures in
     goes-on_by m c.args.self.now c.emit_whole_name.new.self c.args.input.now c.skip.new.self c.args.answer.now c.requires.goes_on
-    (moved-front m state.Data c.args.self.now c.emit_whole_name.new.self c.args.input.now c.skip.new.self c.as_str-text.result.now _ c.in-Some.rest.now _ c.requires.tags c.as_str-text.ensures refl
+    (moved-front m state.Data c.args.self.now c.emit_whole_name.new.self c.args.input.now c.skip.new.self
+    c.as_str-text.result.now _ c.in-Some.rest.now _ c.requires.tags c.as_str-text.ensures refl
     (reference-shorter m c.in-Some.name.now c.in-Some.rest.now c.as_str-text.result.now c.in-Some.ensures)
-    (reference-taken m (heeding m c.args.self.now) c.emit_whole_name.new.self c.in-Some.name.now c.in-Some.rest.now c.as_str-text.result.now _
-    (reference-spells m c.in-Some.name.now c.in-Some.rest.now c.as_str-text.result.now c.in-Some.ensures) whole.name.held (c.in_ok-emit_whole_name.ensures _ whole))
+    (reference-taken m (heeding m c.args.self.now) c.emit_whole_name.new.self c.in-Some.name.now c.in-Some.rest.now
+    c.as_str-text.result.now _
+    (reference-spells m c.in-Some.name.now c.in-Some.rest.now c.as_str-text.result.now c.in-Some.ensures)
+    whole.name.held (c.in_ok-emit_whole_name.ensures _ whole))
     c.skip.ensures)
 
 pub returns-in_err-emit_whole_name : goal.returns-in_err-emit_whole_name
 returns-in_err-emit_whole_name g c =
     let m = g.Sink.TokenSink in
     let whole = c.in-Some-whole_name.ensures in
-    reference-stuck m state.Data c.args.self.now c.emit_whole_name.new.self c.args.input.now c.skip.new.self c.in-Some.name.now c.in-Some.rest.now c.as_str-text.result.now _ _ _ _ c.args.answer.now c.from_residual.result c.requires.tags c.as_str-text.ensures refl
-    (reference-spells m c.in-Some.name.now c.in-Some.rest.now c.as_str-text.result.now c.in-Some.ensures) whole.name.held c.skip.ensures (c.in_err-emit_whole_name.ensures _ whole) c.from_residual.ensures.1
+    reference-stuck m state.Data c.args.self.now c.emit_whole_name.new.self c.args.input.now c.skip.new.self
+    c.in-Some.name.now c.in-Some.rest.now c.as_str-text.result.now _ _ _ _ c.args.answer.now
+    c.from_residual.result c.requires.tags c.as_str-text.ensures refl
+    (reference-spells m c.in-Some.name.now c.in-Some.rest.now c.as_str-text.result.now c.in-Some.ensures)
+    whole.name.held c.skip.ensures (c.in_err-emit_whole_name.ensures _ whole) c.from_residual.ensures.1

@@ -7,19 +7,24 @@ use Rattle.html_tokenizer.proofs.tokenizer.Tokenizer.move_by_tag.Goals as goal
 pub skip-requires : goal.skip-requires
 skip-requires g c =
     let m = g.Sink.TokenSink in
-    skip-cut m (heeding m c.args.self.now) c.consume_opening.new.self c.as_str-text.result.now _ c.in_ok-rest.rest.now _ c.as_str-text.utf8 c.as_str-text.ensures refl
-    (subst (λ u. TakesFront m (heeding m c.args.self.now) c.consume_opening.new.self u c.in_ok-rest.rest.now) (sym c.in-Some.ensures.0) c.in_ok-rest.ensures.ok)
+    skip-cut m (heeding m c.args.self.now) c.consume_opening.new.self c.as_str-text.result.now _
+    c.in_ok-rest.rest.now _ c.as_str-text.utf8 c.as_str-text.ensures refl
+    (subst (λ u. TakesFront m (heeding m c.args.self.now) c.consume_opening.new.self u c.in_ok-rest.rest.now)
+    (sym c.in-Some.ensures.0) c.in_ok-rest.ensures.ok)
 
 pub returns : goal.returns
 returns g c =
     let m = g.Sink.TokenSink in
     goes-on_by m c.args.self.now c.consume_opening.new.self c.args.input.now c.skip.new.self c.args.answer.now c.requires.goes_on
-    (moved-front m state.Data c.args.self.now c.consume_opening.new.self c.args.input.now c.skip.new.self c.as_str-text.result.now _ c.in_ok-rest.rest.now _ c.requires.tags c.as_str-text.ensures refl
+    (moved-front m state.Data c.args.self.now c.consume_opening.new.self c.args.input.now c.skip.new.self
+    c.as_str-text.result.now _ c.in_ok-rest.rest.now _ c.requires.tags c.as_str-text.ensures refl
     (subst (λ u. length c.in_ok-rest.rest.now < length u) (sym c.in-Some.ensures.0) c.in_ok-rest.ensures.shorter)
-    (subst (λ u. TakesFront m (heeding m c.args.self.now) c.consume_opening.new.self u c.in_ok-rest.rest.now) (sym c.in-Some.ensures.0) c.in_ok-rest.ensures.ok)
+    (subst (λ u. TakesFront m (heeding m c.args.self.now) c.consume_opening.new.self u c.in_ok-rest.rest.now)
+    (sym c.in-Some.ensures.0) c.in_ok-rest.ensures.ok)
     c.skip.ensures)
 
 pub returns-in_err-rest : goal.returns-in_err-rest
 returns-in_err-rest g c =
     let m = g.Sink.TokenSink in
-    not-fronted m c.args.self.now c.consume_opening.new.self c.args.input.now _ c.args.answer.now _ c.consume_opening.ensures.sink c.in_err-rest.ensures.fault c.requires.ready c.from_residual.ensures.1
+    not-fronted m c.args.self.now c.consume_opening.new.self c.args.input.now _ c.args.answer.now _
+    c.consume_opening.ensures.sink c.in_err-rest.ensures.fault c.requires.ready c.from_residual.ensures.1

@@ -6,4 +6,5 @@ use Rattle.html_tokenizer.proofs.tokenizer.Tokenizer.new.Goals as goal
 pub returns-clause-reads : goal.returns-clause-reads
 returns-clause-reads g c =
     let m = g.Sink.TokenSink in
-    is-new m _ c.args.sink c.args.opts refl refl refl refl refl refl refl refl (ap (λ (e : FittingEnd). e.name) c.new.ensures) c.first_state.ensures.text c.first_state.ensures.place c.requires.sound
+    is-new m _ c.args.sink c.args.opts refl refl refl refl refl refl refl refl
+    (ap (λ (e : FittingEnd). e.name) c.new.ensures) c.first_state.ensures.text c.first_state.ensures.place c.requires.sound

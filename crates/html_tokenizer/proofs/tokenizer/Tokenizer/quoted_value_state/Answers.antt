@@ -11,4 +11,6 @@ returns-in_err-report_null g c =
 pub returns : goal.returns
 returns g c =
     let m = g.Sink.TokenSink in
-    keeps_erred m (_) c.args.self.now c.report_null.new.self _ c.args.c _ c.in_ok-report_null.ensures (λ e. quoted-absorbs m c.args.self.now c.args.kind c.args.quote c.args.c c.requires.at c.requires.quote e) c.consume_in_quoted_value.ensures
+    keeps_erred m (_) c.args.self.now c.report_null.new.self _ c.args.c _ c.in_ok-report_null.ensures
+    (λ e. quoted-absorbs m c.args.self.now c.args.kind c.args.quote c.args.c c.requires.at c.requires.quote e)
+    c.consume_in_quoted_value.ensures

@@ -16,5 +16,10 @@ returns-in_err-report_if g c =
 pub returns : goal.returns
 returns g c =
     let m = g.Sink.TokenSink in
-    let closing : c.report_if.new.self.tag.self_closing ≡ c.args.self.now.tag.self_closing = ap (λ (k : Tokenizer _). k.tag.self_closing) c.in_ok-report_if.ensures.changed in
-    errs-then m (owed_for (grave_if c.args.self.now.tag.self_closing)) _ _ c.report_if.new.self _ _ (or-no-more (not (is_empty c.args.self.now.tag.attrs)) c.args.self.now.tag.self_closing) (rw c.has_attributes-has_attributes.ensures at c.in_ok-report_if.ensures) (subst (λ b. Errs m (owed_for (grave_if b)) c.report_if.new.self c.report_if-2.new.self c.report_if-2.result) closing c.report_if-2.ensures)
+    let closing : c.report_if.new.self.tag.self_closing ≡ c.args.self.now.tag.self_closing =
+    ap (λ (k : Tokenizer _). k.tag.self_closing) c.in_ok-report_if.ensures.changed in
+    errs-then m (owed_for (grave_if c.args.self.now.tag.self_closing)) _ _ c.report_if.new.self _ _
+    (or-no-more (not (is_empty c.args.self.now.tag.attrs)) c.args.self.now.tag.self_closing)
+    (rw c.has_attributes-has_attributes.ensures at c.in_ok-report_if.ensures)
+    (subst (λ b. Errs m (owed_for (grave_if b)) c.report_if.new.self c.report_if-2.new.self
+    c.report_if-2.result) closing c.report_if-2.ensures)

@@ -10,7 +10,8 @@ returns-in_err-report_error g c =
 pub returns-in_err-report_error-2 : goal.returns-in_err-report_error-2
 returns-in_err-report_error-2 g c =
     let m = g.Sink.TokenSink in
-    errs-behind m _ c.args.self.now c.loop-repeat.self _ _ _ c.loop-repeat.invariant c.in_err-report_error-2.ensures c.from_residual-in_err-report_error-2.ensures.1
+    errs-behind m _ c.args.self.now c.loop-repeat.self _ _ _ c.loop-repeat.invariant c.in_err-report_error-2.ensures
+    c.from_residual-in_err-report_error-2.ensures.1
 
 pub returns : goal.returns
 returns g c = search rules

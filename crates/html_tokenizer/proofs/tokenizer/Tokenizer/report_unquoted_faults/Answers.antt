@@ -19,5 +19,6 @@ returns-in_err-report_fault g c =
 pub returns : goal.returns
 returns g c =
     let m = g.Sink.TokenSink in
-    let all = YieldsList-end (YieldsList-from_chars c.args.run.now c.utf8.run cc) c.loop-c.yielded _ c.loop-c.yielded_by _ _ c.in-None.is c.next.ensures.steps in
+    let all = YieldsList-end (YieldsList-from_chars c.args.run.now c.utf8.run cc) c.loop-c.yielded _
+    c.loop-c.yielded_by _ _ c.in-None.is c.next.ensures.steps in
     rw (sym (map-id c.loop-c.yielded) ∙ all.0) at c.loop-c.invariant

@@ -14,7 +14,8 @@ loop-answer-preserved g c =
 pub returns-in-Suspend : goal.returns-in-Suspend
 returns-in-Suspend g c =
     let m = g.Sink.TokenSink in
-    fed-whole m _ c.loop-answer.self _ _ c.loop-answer.input _ c.loop-answer.invariant (rw c.in-Suspend.is at c.in_ok-move_on.ensures) c.as_str-letters.ensures.begins c.is_empty-no_keyword.ensures.part
+    fed-whole m _ c.loop-answer.self _ _ c.loop-answer.input _ c.loop-answer.invariant
+    (rw c.in-Suspend.is at c.in_ok-move_on.ensures) c.as_str-letters.ensures.begins c.is_empty-no_keyword.ensures.part
 
 pub returns-in-Script : goal.returns-in-Script
 returns-in-Script g c =
@@ -24,7 +25,8 @@ returns-in-Script g c =
 pub returns-in-EncodingIndicator : goal.returns-in-EncodingIndicator
 returns-in-EncodingIndicator g c =
     let m = g.Sink.TokenSink in
-    fed-encoding m _ c.loop-answer.self _ _ c.loop-answer.input _ _ c.loop-answer.invariant (rw c.in-EncodingIndicator.is at c.in_ok-move_on.ensures)
+    fed-encoding m _ c.loop-answer.self _ _ c.loop-answer.input _ _ c.loop-answer.invariant
+    (rw c.in-EncodingIndicator.is at c.in_ok-move_on.ensures)
 
 pub loop-answer-init : goal.loop-answer-init
 loop-answer-init g c =

@@ -5,9 +5,11 @@ use Rattle.html_tokenizer.proofs.tokenizer.Tokenizer.script_data_double_escape_e
 pub returns-then-is_ascii_alphabetic : goal.returns-then-is_ascii_alphabetic
 returns-then-is_ascii_alphabetic g c =
     let m = g.Sink.TokenSink in
-    end_word-letter_told m g.met.Sink.TokenSink.laws _ _ _ _ _ c.requires.at c.requires.sound (sym c.if-is_ascii_alphabetic.ensures.value) c.in_ok-push.ensures.ok c.consume_char.ensures
+    end_word-letter_told m g.met.Sink.TokenSink.laws _ _ _ _ _ c.requires.at c.requires.sound
+    (sym c.if-is_ascii_alphabetic.ensures.value) c.in_ok-push.ensures.ok c.consume_char.ensures
 
 pub returns : goal.returns
 returns g c =
     let m = g.Sink.TokenSink in
-    end_word-kept m g.met.Sink.TokenSink.laws _ _ _ _ _ c.requires.at c.kind_after_word-kind.ensures.letters (sym c.if-is_ascii_alphabetic.ensures.value) c.kind_after_word-kind.ensures.is c.raw_data_state.ensures
+    end_word-kept m g.met.Sink.TokenSink.laws _ _ _ _ _ c.requires.at c.kind_after_word-kind.ensures.letters
+    (sym c.if-is_ascii_alphabetic.ensures.value) c.kind_after_word-kind.ensures.is c.raw_data_state.ensures

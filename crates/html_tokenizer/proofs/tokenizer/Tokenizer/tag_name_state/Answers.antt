@@ -11,4 +11,5 @@ returns-in_err-report_null g c =
 pub returns : goal.returns
 returns g c =
     let m = g.Sink.TokenSink in
-    keeps_erred m (_) c.args.self.now c.report_null.new.self _ c.args.c _ c.in_ok-report_null.ensures (λ e. tag_name-absorbs m c.args.self.now c.args.c c.requires.at e) c.consume_in_tag_name.ensures
+    keeps_erred m (_) c.args.self.now c.report_null.new.self _ c.args.c _ c.in_ok-report_null.ensures
+    (λ e. tag_name-absorbs m c.args.self.now c.args.c c.requires.at e) c.consume_in_tag_name.ensures

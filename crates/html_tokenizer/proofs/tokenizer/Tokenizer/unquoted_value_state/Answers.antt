@@ -12,4 +12,6 @@ returns-in_err-report_fault g c =
 pub returns : goal.returns
 returns g c =
     let m = g.Sink.TokenSink in
-    keeps_erred m (_) c.args.self.now c.report_fault.new.self _ c.args.c _ c.in_ok-report_fault.ensures (λ e. unquoted-absorbs m c.args.self.now c.args.c c.requires.at (sym c.unquoted_fault.ensures ∙ e)) c.consume_in_unquoted_value.ensures
+    keeps_erred m (_) c.args.self.now c.report_fault.new.self _ c.args.c _ c.in_ok-report_fault.ensures
+    (λ e. unquoted-absorbs m c.args.self.now c.args.c c.requires.at (sym c.unquoted_fault.ensures ∙ e))
+    c.consume_in_unquoted_value.ensures

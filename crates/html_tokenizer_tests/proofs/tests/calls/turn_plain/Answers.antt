@@ -32,10 +32,12 @@ module _ {K H : Type 0} (Sink : Ghosts K H) where
   ready-if false false k none h = record { sound = h.sound; fits = fits-none (rows_of k) k.char_ref state.Plaintext none }
 
   -- A tokenizer that may be called, with nothing pending, may be called where all that follows is text.
-  ready-plain : (k new : Tokenizer K) → is_nothing_pending k ≡ true → new ≡ record k { state = state.Plaintext } → IsReadyIf Sink (refusal k.stream) k
+  ready-plain : (k new : Tokenizer K) → is_nothing_pending k ≡ true → new ≡ record k { state = state.Plaintext }
+      → IsReadyIf Sink (refusal k.stream) k
       → IsReadyIf Sink (refusal new.stream) new
   ready-plain k new nothing is h =
-      rw is (ready-if k.stream.has_failed k.stream.has_ended k (third (not k.stream.has_ended) (not k.stream.has_failed) (is_none k.char_ref) (is_text_state k.state) nothing) h)
+      rw is (ready-if k.stream.has_failed k.stream.has_ended k
+      (third (not k.stream.has_ended) (not k.stream.has_failed) (is_none k.char_ref) (is_text_state k.state) nothing) h)
 
 pub returns : goal.returns
 returns g c =

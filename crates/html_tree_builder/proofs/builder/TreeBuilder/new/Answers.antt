@@ -15,4 +15,6 @@ pub returns-clause-usable : goal.returns-clause-usable
 returns-clause-usable g c =
     let a = its_answers g.Sink.TreeSink in
     let f = g.Sink.TreeSink.forest c.get_document.new.self in
-    document-usable (setting_of a c.args.opts) (g.Sink.TreeSink.forest c.args.sink) f (built g.Sink.TreeSink c.new.result f) c.get_document.ensures.same c.get_document.ensures.is_forest c.get_document.ensures.contents c.requires.top (c.new.ensures a f)
+    document-usable (setting_of a c.args.opts) (g.Sink.TreeSink.forest c.args.sink) f
+    (built g.Sink.TreeSink c.new.result f) c.get_document.ensures.same c.get_document.ensures.is_forest
+    c.get_document.ensures.contents c.requires.top (c.new.ensures a f)

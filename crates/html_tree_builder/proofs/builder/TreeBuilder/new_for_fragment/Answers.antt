@@ -9,7 +9,8 @@ use Rattle.html_tree_builder.proofs.builder.TreeBuilder.new_for_fragment.Goals a
 
 pub for_fragment-requires-clause-form : goal.for_fragment-requires-clause-form
 for_fragment-requires-clause-form g c =
-    form-node (g.Sink.TreeSink.forest c.args.sink) (g.Sink.TreeSink.forest c.get_document.new.self) (number_if g.Sink.TreeSink.node c.args.form) c.get_document.ensures.same c.requires.form
+    form-node (g.Sink.TreeSink.forest c.args.sink) (g.Sink.TreeSink.forest c.get_document.new.self)
+    (number_if g.Sink.TreeSink.node c.args.form) c.get_document.ensures.same c.requires.form
 
 pub returns-clause-begun : goal.returns-clause-begun
 returns-clause-begun g c =
@@ -30,12 +31,15 @@ returns-clause-usable g c =
     let form = number_if g.Sink.TreeSink.node c.args.form in
     let f = g.Sink.TreeSink.forest c.get_document.new.self in
     let r = g.Sink.TreeSink.forest c.for_fragment.new.sink in
-    fragment-usable setting n form (g.Sink.TreeSink.forest c.args.sink) f (built g.Sink.TreeSink c.in_ok-construction.construction r) c.get_document.ensures.same c.get_document.ensures.is_forest c.get_document.ensures.contents
+    fragment-usable setting n form (g.Sink.TreeSink.forest c.args.sink) f
+    (built g.Sink.TreeSink c.in_ok-construction.construction r) c.get_document.ensures.same
+    c.get_document.ensures.is_forest c.get_document.ensures.contents
     c.requires.top c.requires.context c.requires.form
     (c.in_ok-construction.ensures.ok a ∙ ap (λ context. before_fragment setting context form f) c.in_ok-context.ensures.ok)
 
 pub context_of-requires : goal.context_of-requires
-context_of-requires g c = subst (λ f. IsSome (element_name (data_of f (g.Sink.TreeSink.node c.args.context)))) (sym c.get_document.ensures.same) c.requires.context
+context_of-requires g c = subst (λ f. IsSome (element_name (data_of f (g.Sink.TreeSink.node c.args.context))))
+    (sym c.get_document.ensures.same) c.requires.context
 
 pub for_fragment-requires-clause-tree : goal.for_fragment-requires-clause-tree
 for_fragment-requires-clause-tree g c = record { forest = c.get_document.ensures.is_forest; contents = c.get_document.ensures.contents }

@@ -13,22 +13,31 @@ returns-then-has_ended-clause-gives g c =
 pub returns-then-bars_tag-clause-gives : goal.returns-then-bars_tag-clause-gives
 returns-then-bars_tag-clause-gives g c =
     let s = built g.Sink.TreeSink c.args.self.now.construction (g.Sink.TreeSink.forest c.args.self.now.sink) in
-    refuses-barred (TagToken c.args.tag.now) (hushed s) c.args.line_number (c.requires c.if-self.false) (sym c.if-has_ended.ensures) (sym c.if-bars_tag.ensures)
+    refuses-barred (TagToken c.args.tag.now) (hushed s) c.args.line_number (c.requires c.if-self.false)
+    (sym c.if-has_ended.ensures) (sym c.if-bars_tag.ensures)
 
 pub returns-clause-gives : goal.returns-clause-gives
 returns-clause-gives g c =
     let s = built g.Sink.TreeSink c.args.self.now.construction (g.Sink.TreeSink.forest c.args.self.now.sink) in
-    let r = built g.Sink.TreeSink c.process_tag_or_fail.new.self.construction (g.Sink.TreeSink.forest c.process_tag_or_fail.new.self.sink) in
-    gives-taken g.Sink.TreeSink.node (TagToken c.args.tag.now) s r c.args.line_number c.process_tag_or_fail.result (c.requires c.if-self.false) (sym c.if-has_ended.ensures) (sym c.if-bars_tag.ensures) c.process_tag_or_fail.ensures.taken c.process_tag_or_fail.ensures.fault
+    let r = built g.Sink.TreeSink c.process_tag_or_fail.new.self.construction
+    (g.Sink.TreeSink.forest c.process_tag_or_fail.new.self.sink) in
+    gives-taken g.Sink.TreeSink.node (TagToken c.args.tag.now) s r c.args.line_number c.process_tag_or_fail.result
+    (c.requires c.if-self.false) (sym c.if-has_ended.ensures) (sym c.if-bars_tag.ensures)
+    c.process_tag_or_fail.ensures.taken c.process_tag_or_fail.ensures.fault
 
 pub returns-clause-counts : goal.returns-clause-counts
 returns-clause-counts g c =
     let s = built g.Sink.TreeSink c.args.self.now.construction (g.Sink.TreeSink.forest c.args.self.now.sink) in
-    let r = built g.Sink.TreeSink c.process_tag_or_fail.new.self.construction (g.Sink.TreeSink.forest c.process_tag_or_fail.new.self.sink) in
+    let r = built g.Sink.TreeSink c.process_tag_or_fail.new.self.construction
+    (g.Sink.TreeSink.forest c.process_tag_or_fail.new.self.sink) in
     counts-taken g.Sink.TreeSink.node (TagToken c.args.tag.now) s r c.process_tag_or_fail.result c.process_tag_or_fail.ensures.taken
 
 pub returns-clause-sound : goal.returns-clause-sound
 returns-clause-sound g c =
     let s = built g.Sink.TreeSink c.args.self.now.construction (g.Sink.TreeSink.forest c.args.self.now.sink) in
-    let r = built g.Sink.TreeSink c.process_tag_or_fail.new.self.construction (g.Sink.TreeSink.forest c.process_tag_or_fail.new.self.sink) in
-    sound-taken g.Sink.TreeSink.node (TagToken c.args.tag.now) s r c.process_tag_or_fail.result c.process_tag_or_fail.new.self.has_failed (c.requires c.if-self.false) (sym c.if-has_ended.ensures) (sym c.if-bars_tag.ensures) c.process_tag_or_fail.ensures.taken c.process_tag_or_fail.ensures.fault c.process_tag_or_fail.ensures.failed
+    let r = built g.Sink.TreeSink c.process_tag_or_fail.new.self.construction
+    (g.Sink.TreeSink.forest c.process_tag_or_fail.new.self.sink) in
+    sound-taken g.Sink.TreeSink.node (TagToken c.args.tag.now) s r c.process_tag_or_fail.result
+    c.process_tag_or_fail.new.self.has_failed (c.requires c.if-self.false) (sym c.if-has_ended.ensures)
+    (sym c.if-bars_tag.ensures) c.process_tag_or_fail.ensures.taken c.process_tag_or_fail.ensures.fault
+    c.process_tag_or_fail.ensures.failed

@@ -7,7 +7,8 @@ pub loop-rest-init : goal.loop-rest-init
 loop-rest-init g c = record { tag = refl; stands = c.requires.stands; may = c.requires.may; same = refl }
 
 pub insert_moved-requires-clause-class : goal.insert_moved-requires-clause-class
-insert_moved-requires-clause-class g c = subst (λ tag. IsClassOf Html tag.name c.args.class) (sym (c.take.ensures.taken ∙ c.loop-rest.invariant.tag)) c.requires.class
+insert_moved-requires-clause-class g c = subst (λ tag. IsClassOf Html tag.name c.args.class)
+    (sym (c.take.ensures.taken ∙ c.loop-rest.invariant.tag)) c.requires.class
 
 pub insert_moved-requires-clause-stands : goal.insert_moved-requires-clause-stands
 insert_moved-requires-clause-stands g c = c.loop-rest.invariant.stands

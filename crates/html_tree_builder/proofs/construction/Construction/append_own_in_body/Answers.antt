@@ -7,5 +7,10 @@ use Rattle.html_tree_builder.proofs.construction.Construction.append_own_in_body
 pub append_own_text-requires : goal.append_own_text-requires
 append_own_text-requires g c =
     let f = g.Sink.TreeSink.forest c.reconstruct.new.sink in
-    let opened = acted-stands no_answers c.args.self.now c.reconstruct.new.self (g.Sink.TreeSink.forest c.args.sink.now) f Reconstruct EOFToken tt c.requires.stands (c.in_ok-reconstruct.ensures.ok no_answers) in
-    record { stands = acted-stands no_answers c.reconstruct.new.self c.frameset_not_ok_unless_white.new.self f f FramesetNotOkUnlessWhite (CharacterTokens (chars c.as_str.result.now)) tt opened (c.frameset_not_ok_unless_white.ensures no_answers f) }
+    let opened = acted-stands no_answers c.args.self.now c.reconstruct.new.self
+    (g.Sink.TreeSink.forest c.args.sink.now) f Reconstruct EOFToken tt c.requires.stands (c.in_ok-reconstruct.ensures.ok no_answers) in
+    record {
+      stands = acted-stands no_answers c.reconstruct.new.self c.frameset_not_ok_unless_white.new.self f f
+          FramesetNotOkUnlessWhite (CharacterTokens (chars c.as_str.result.now)) tt opened
+          (c.frameset_not_ok_unless_white.ensures no_answers f);
+    }

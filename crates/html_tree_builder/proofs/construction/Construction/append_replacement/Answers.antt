@@ -8,4 +8,5 @@ pub returns-clause-ok : goal.returns-clause-ok
 returns-clause-ok g c = λ a.
     rw (← c.self.view_is)
     (let s = state_of a (left_of c.self.view_is) (g.Sink.TreeSink.forest c.args.sink.now) in
-    c.in_ok-append_text.ensures.ok s refl ∙ ap (λ text. append_text text s) (c.in_ok-push.ensures.ok ∙ ap (λ text. text ++ 65533 ∷ []) c.empty-text.ensures))
+    c.in_ok-append_text.ensures.ok s refl ∙ ap (λ text. append_text text s)
+    (c.in_ok-push.ensures.ok ∙ ap (λ text. text ++ 65533 ∷ []) c.empty-text.ensures))

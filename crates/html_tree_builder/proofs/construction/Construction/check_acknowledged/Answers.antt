@@ -9,7 +9,9 @@ use Rattle.html_tree_builder.proofs.construction.Construction.check_acknowledged
 pub returns-then-closes-clause-stands : goal.returns-then-closes-clause-stands
 unfolding parse_error
 returns-then-closes-clause-stands g c stands =
-    acted-stands no_answers c.args.self.now c.args.self.now (g.Sink.TreeSink.forest c.args.sink.now) (g.Sink.TreeSink.forest c.parse_error.new.self) ParseError EOFToken tt stands (ap (λ f. state_of no_answers c.args.self.now f) c.parse_error.ensures)
+    acted-stands no_answers c.args.self.now c.args.self.now (g.Sink.TreeSink.forest c.args.sink.now)
+    (g.Sink.TreeSink.forest c.parse_error.new.self) ParseError EOFToken tt stands
+    (ap (λ f. state_of no_answers c.args.self.now f) c.parse_error.ensures)
 
 pub returns-then-closes-clause-state : goal.returns-then-closes-clause-state
 unfolding parse_error

@@ -19,13 +19,15 @@ pub returns-then-fits : goal.returns-then-fits
 returns-then-fits g c a f =
     let t = token_of c.args.told.now.content in
     let s = state_of a c.args.self.now f in
-    sym (c.loop-row.invariant a f ∙ at-place (rows c.args.mode) c.loop-row.place _ t s (sym c.in-Some.ensures) ∙ rw (← c.if-fits.ensures a f) refl)
+    sym (c.loop-row.invariant a f ∙ at-place (rows c.args.mode) c.loop-row.place _ t s (sym c.in-Some.ensures)
+    ∙ rw (← c.if-fits.ensures a f) refl)
 
 pub loop-row-preserved : goal.loop-row-preserved
 loop-row-preserved g c a f =
     let t = token_of c.args.told.now.content in
     let s = state_of a c.args.self.now f in
-    c.loop-row.invariant a f ∙ at-place (rows c.args.mode) c.loop-row.place _ t s (sym c.in-Some.ensures) ∙ rw (← c.if-fits.ensures a f, add-one) refl
+    c.loop-row.invariant a f ∙ at-place (rows c.args.mode) c.loop-row.place _ t s (sym c.in-Some.ensures)
+    ∙ rw (← c.if-fits.ensures a f, add-one) refl
 
 pub returns : goal.returns
 returns g c a f =

@@ -12,8 +12,12 @@ pub append_in_body-requires : goal.append_in_body-requires
 unfolding parse_error
 append_in_body-requires g c =
     let f = g.Sink.TreeSink.forest c.parse_error.new.self in
-    let told = acted-stands no_answers c.args.self.now c.args.self.now (g.Sink.TreeSink.forest c.args.sink.now) f ParseError EOFToken tt c.requires.stands (ap (λ f. state_of no_answers c.args.self.now f) c.parse_error.ensures) in
-    record { stands = acted-stands no_answers c.args.self.now c.set_foster_parenting.new.self f f EnableFosterParenting EOFToken tt told (c.set_foster_parenting.ensures no_answers f) }
+    let told = acted-stands no_answers c.args.self.now c.args.self.now (g.Sink.TreeSink.forest c.args.sink.now) f
+    ParseError EOFToken tt c.requires.stands (ap (λ f. state_of no_answers c.args.self.now f) c.parse_error.ensures) in
+    record {
+      stands = acted-stands no_answers c.args.self.now c.set_foster_parenting.new.self f f
+          EnableFosterParenting EOFToken tt told (c.set_foster_parenting.ensures no_answers f);
+    }
 
 pub returns-clause-ok : goal.returns-clause-ok
 unfolding parse_error

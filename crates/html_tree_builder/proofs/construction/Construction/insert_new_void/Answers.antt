@@ -9,4 +9,5 @@ pub returns-clause-ok : goal.returns-clause-ok
 returns-clause-ok g c = λ a.
     rw (← c.self.view_is)
     (let s = state_of a (left_of c.self.view_is) (g.Sink.TreeSink.forest c.args.sink.now) in
-    c.in_ok-insert_and_pop_element_for.ensures.ok s refl ∙ ap₂ (λ name attrs. put_element Html name attrs false s) c.in_ok-name.ensures.ok c.new-attrs.ensures)
+    c.in_ok-insert_and_pop_element_for.ensures.ok s refl ∙ ap₂ (λ name attrs. put_element Html name attrs false s)
+    c.in_ok-name.ensures.ok c.new-attrs.ensures)

@@ -12,4 +12,5 @@ returns-clause-ok g c = λ a.
     ap (λ text. record (state_of a (left_of c.self-2.view_is) f) { pending_table_text = text }) c.clear.ensures
     ∙ ap (λ b. without_pending_text (state_of a b f)) c.self-2.view_is
     ∙ ap without_pending_text (c.in_ok-insert_table_text.ensures.ok a)
-    ∙ ap (λ text. without_pending_text (insert_table_text text s)) (c.as_str.ensures ∙ c.in_ok-text.ensures.ok ∙ ap (λ b. b.pending_table_text) c.self.view_is)
+    ∙ ap (λ text. without_pending_text (insert_table_text text s)) (c.as_str.ensures ∙ c.in_ok-text.ensures.ok
+    ∙ ap (λ b. b.pending_table_text) c.self.view_is)

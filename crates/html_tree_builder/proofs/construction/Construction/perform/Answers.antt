@@ -6,4 +6,6 @@ use Rattle.html_tree_builder.proofs.construction.Construction.perform.Goals as g
 pub returns-clause-stands : goal.returns-clause-stands
 returns-clause-stands g c =
     let sink = g.Sink.TreeSink in
-    acted-stands (its_answers sink) c.args.self.now c.act.new.self (sink.forest c.args.sink.now) (sink.forest c.act.new.sink) (action_of c.args.action.now) (token_of c.args.told.now.content) c.requires.may c.requires.stands c.in_ok-act.ensures.ok
+    acted-stands (its_answers sink) c.args.self.now c.act.new.self (sink.forest c.args.sink.now)
+    (sink.forest c.act.new.sink) (action_of c.args.action.now) (token_of c.args.told.now.content) c.requires.may
+    c.requires.stands c.in_ok-act.ensures.ok

@@ -13,7 +13,8 @@ returns-clause-ok g c = λ a.
     let judged = c.doctype_error_and_quirks-is_error.result in
     first-doctype c.args.doctype s told put laid (state_of a c.set_mode.new.self f) judged.0 c.self.inside.opts.iframe_srcdoc judged.1
     c.doctype_error_and_quirks-is_error.ensures.error (c.report_doctype.ensures.state a) (c.in_ok-append_doctype.ensures.ok a)
-    (ap (λ b. b.opts.iframe_srcdoc) c.self.view_is) c.doctype_error_and_quirks-is_error.ensures.quirks (c.set_quirks_mode.ensures a) (c.set_mode.ensures a f)
+    (ap (λ b. b.opts.iframe_srcdoc) c.self.view_is) c.doctype_error_and_quirks-is_error.ensures.quirks
+    (c.set_quirks_mode.ensures a) (c.set_mode.ensures a f)
 
 pub append_doctype-requires : goal.append_doctype-requires
 append_doctype-requires g c = record { stands = c.report_doctype.ensures.stands c.requires.stands }

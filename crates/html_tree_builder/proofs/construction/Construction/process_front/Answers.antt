@@ -10,13 +10,19 @@ returns-then-not-is_empty-clause-ok g c =
     let f = g.Sink.TreeSink.forest c.args.sink.now in
     let s = built g.Sink.TreeSink c.args.self.now f in
     let r = built g.Sink.TreeSink c.process_run.new.self (g.Sink.TreeSink.forest c.process_run.new.sink) in
-    white-left c.args.text.now c.in_ok-white.white c.in_ok-white.rest.now c.in-Some.run' s r c.in_ok-white.ensures.ok (sym c.if-not-is_empty.true ∙ c.is_empty.ensures) (c.in-Some.ensures a f) c.requires.usable c.requires.going (c.in_ok-process_run.ensures.ok a)
+    white-left c.args.text.now c.in_ok-white.white c.in_ok-white.rest.now c.in-Some.run' s r
+    c.in_ok-white.ensures.ok (sym c.if-not-is_empty.true ∙ c.is_empty.ensures) (c.in-Some.ensures a f)
+    c.requires.usable c.requires.going (c.in_ok-process_run.ensures.ok a)
 
 pub returns-clause-ok : goal.returns-clause-ok
 returns-clause-ok g c =
     let s = built g.Sink.TreeSink c.args.self.now (g.Sink.TreeSink.forest c.args.sink.now) in
     let r = built g.Sink.TreeSink c.process_character.new.self (g.Sink.TreeSink.forest c.process_character.new.sink) in
-    one-left c.args.text.now c.args.first.now c.args.behind.now s r c.requires.split c.requires.usable c.requires.going c.in_ok-process_character.ensures.ok
+    one-left c.args.text.now c.args.first.now c.args.behind.now s r c.requires.split c.requires.usable
+    c.requires.going c.in_ok-process_character.ensures.ok
 
 pub process_run-requires : goal.process_run-requires
-process_run-requires g c = record { stands = usable-stands (its_answers g.Sink.TreeSink) c.args.self.now (g.Sink.TreeSink.forest c.args.sink.now) c.requires.usable c.requires.going }
+process_run-requires g c = record {
+  stands = usable-stands (its_answers g.Sink.TreeSink) c.args.self.now
+      (g.Sink.TreeSink.forest c.args.sink.now) c.requires.usable c.requires.going;
+}

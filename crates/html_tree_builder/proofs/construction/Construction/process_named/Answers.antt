@@ -9,18 +9,21 @@ pub settle_named-requires-clause-usable : goal.settle_named-requires-clause-usab
 settle_named-requires-clause-usable g c =
     let a = its_answers g.Sink.TreeSink in
     let f = g.Sink.TreeSink.forest c.args.sink.now in
-    unlined-state (built g.Sink.TreeSink c.args.self.now f) (built g.Sink.TreeSink c.set_ignore_lf.new.self f) (c.set_ignore_lf.ensures a f) c.requires.usable
+    unlined-state (built g.Sink.TreeSink c.args.self.now f) (built g.Sink.TreeSink c.set_ignore_lf.new.self f)
+    (c.set_ignore_lf.ensures a f) c.requires.usable
 
 pub settle_named-requires-clause-going : goal.settle_named-requires-clause-going
 settle_named-requires-clause-going g c =
     let a = its_answers g.Sink.TreeSink in
     let f = g.Sink.TreeSink.forest c.args.sink.now in
-    unlined-ended (built g.Sink.TreeSink c.args.self.now f) (built g.Sink.TreeSink c.set_ignore_lf.new.self f) (c.set_ignore_lf.ensures a f) c.requires.going
+    unlined-ended (built g.Sink.TreeSink c.args.self.now f) (built g.Sink.TreeSink c.set_ignore_lf.new.self f)
+    (c.set_ignore_lf.ensures a f) c.requires.going
 
 pub returns-clause-most : goal.returns-clause-most
 returns-clause-most g c =
     let a = its_answers g.Sink.TreeSink in
     let f = g.Sink.TreeSink.forest c.args.sink.now in
     subst (λ open_elems. c.settle_named.new.turns.count ≤ c.args.turns.now.count + most_turns open_elems)
-    (unlined-open (built g.Sink.TreeSink c.args.self.now f) (built g.Sink.TreeSink c.set_ignore_lf.new.self f) (c.set_ignore_lf.ensures a f))
+    (unlined-open (built g.Sink.TreeSink c.args.self.now f) (built g.Sink.TreeSink c.set_ignore_lf.new.self f)
+    (c.set_ignore_lf.ensures a f))
     c.settle_named.ensures.most

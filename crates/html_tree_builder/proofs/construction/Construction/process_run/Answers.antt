@@ -7,4 +7,8 @@ use Rattle.html_tree_builder.proofs.construction.Construction.process_run.Goals 
 pub append_own_text-requires-in-Foreign : goal.append_own_text-requires-in-Foreign
 append_own_text-requires-in-Foreign g c =
     let f = g.Sink.TreeSink.forest c.args.sink.now in
-    record { stands = acted-stands no_answers c.args.self.now c.frameset_not_ok_unless_white.new.self f f FramesetNotOkUnlessWhite (CharacterTokens (chars c.as_str-in-Foreign.result.now)) tt c.requires.stands (c.frameset_not_ok_unless_white.ensures no_answers f) }
+    record {
+      stands = acted-stands no_answers c.args.self.now c.frameset_not_ok_unless_white.new.self f f
+          FramesetNotOkUnlessWhite (CharacterTokens (chars c.as_str-in-Foreign.result.now)) tt c.requires.stands
+          (c.frameset_not_ok_unless_white.ensures no_answers f);
+    }

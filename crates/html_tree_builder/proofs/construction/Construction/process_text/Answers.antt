@@ -13,8 +13,10 @@ returns-in-Some-run-clause-ok g c =
     let f = g.Sink.TreeSink.forest c.loop-character.sink in
     let s = built g.Sink.TreeSink c.loop-character.self f in
     let r = built g.Sink.TreeSink c.process_run.new.self (g.Sink.TreeSink.forest c.process_run.new.sink) in
-    run-taken c.loop-character.rest.now c.in-Some.character.now c.in-Some.behind.now c.in-Some-run.run' s r c.in-Some.ensures (c.in-Some-run.ensures a f) c.loop-character.invariant.usable
-    (c.in_ok-process_run.ensures.ok a ∙ ap (λ text. act (run_action c.in-Some-run.run') (CharacterTokens text) s) c.in_ok-run_text.ensures.ok)
+    run-taken c.loop-character.rest.now c.in-Some.character.now c.in-Some.behind.now c.in-Some-run.run' s r
+    c.in-Some.ensures (c.in-Some-run.ensures a f) c.loop-character.invariant.usable
+    (c.in_ok-process_run.ensures.ok a ∙ ap (λ text. act (run_action c.in-Some-run.run') (CharacterTokens text) s)
+    c.in_ok-run_text.ensures.ok)
     ∙ c.loop-character.invariant.same
 
 pub loop-character-preserved : goal.loop-character-preserved
@@ -31,7 +33,10 @@ loop-character-smaller g c = c.in_ok-rest.ensures.ok.shorter
 pub process_run-requires : goal.process_run-requires
 process_run-requires g c =
     let a = its_answers g.Sink.TreeSink in
-    record { stands = usable-stands a c.loop-character.self (g.Sink.TreeSink.forest c.loop-character.sink) c.loop-character.invariant.usable c.loop-character.invariant.going }
+    record {
+      stands = usable-stands a c.loop-character.self (g.Sink.TreeSink.forest c.loop-character.sink)
+          c.loop-character.invariant.usable c.loop-character.invariant.going;
+    }
 
 pub process_front-requires-clause-usable : goal.process_front-requires-clause-usable
 process_front-requires-clause-usable g c = c.loop-character.invariant.usable

@@ -12,7 +12,9 @@ invariant-loop-character g l = record {
   text : shadow (Utf8 l.rest);
   usable : Usable (built g.Sink.TreeSink l.self (g.Sink.TreeSink.forest l.sink));
   going : l.self.has_ended ≡ false;
-  same : (text_taken (chars l.rest) (untouched (built g.Sink.TreeSink l.self (g.Sink.TreeSink.forest l.sink)))).state ≡ (text_taken (chars l.fn.text) (untouched (built g.Sink.TreeSink l.fn.self (g.Sink.TreeSink.forest l.fn.sink)))).state;
+  same : (text_taken (chars l.rest)
+      (untouched (built g.Sink.TreeSink l.self (g.Sink.TreeSink.forest l.sink)))).state ≡
+      (text_taken (chars l.fn.text) (untouched (built g.Sink.TreeSink l.fn.self (g.Sink.TreeSink.forest l.fn.sink)))).state;
 }
 
 abbrev pub decreases-loop-character : goal.decreases-loop-character

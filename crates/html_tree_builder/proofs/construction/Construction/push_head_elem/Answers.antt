@@ -9,7 +9,16 @@ pub returns-clause-ok : goal.returns-clause-ok
 returns-clause-ok g c = λ a f.
     let node = g.Sink.TreeSink.node in
     rw (← c.self.view_is)
-    (pushed-head a (left_of c.self.view_is) f (node c.in-Some.handle) (record { number = node c.in-Some.handle; namespace = c.in_ok-name.name.namespace; name = c.in_ok-name.name.name }) c.push.new.self
+    (pushed-head a (left_of c.self.view_is) f (node c.in-Some.handle)
+    (record {
+      number = node c.in-Some.handle;
+      namespace = c.in_ok-name.name.namespace;
+      name = c.in_ok-name.name.name;
+    }) c.push.new.self
     (ap (number_if node) c.in-Some.is)
-    (ap {A = Named} {B = Open} (λ named. record { number = node c.in-Some.handle; namespace = named.namespace; name = named.name }) c.in_ok-name.ensures.ok)
+    (ap {A = Named} {B = Open} (λ named. record {
+      number = node c.in-Some.handle;
+      namespace = named.namespace;
+      name = named.name;
+    }) c.in_ok-name.ensures.ok)
     c.in_ok-push.ensures.ok)

@@ -9,4 +9,6 @@ use Rattle.html_tree_builder.proofs.construction.Construction.report_doctype.Goa
 pub returns-then-is_error-clause-stands : goal.returns-then-is_error-clause-stands
 unfolding parse_error
 returns-then-is_error-clause-stands g c = λ stands.
-    acted-stands no_answers c.args.self.now c.args.self.now (g.Sink.TreeSink.forest c.args.sink.now) (g.Sink.TreeSink.forest c.parse_error.new.self) ParseError EOFToken tt stands (ap (λ f. state_of no_answers c.args.self.now f) c.parse_error.ensures)
+    acted-stands no_answers c.args.self.now c.args.self.now (g.Sink.TreeSink.forest c.args.sink.now)
+    (g.Sink.TreeSink.forest c.parse_error.new.self) ParseError EOFToken tt stands
+    (ap (λ f. state_of no_answers c.args.self.now f) c.parse_error.ensures)

@@ -15,13 +15,16 @@ pub returns-then-is_foreign-clause-turned : goal.returns-then-is_foreign-clause-
 returns-then-is_foreign-clause-turned g c =
     let sink = g.Sink.TreeSink in
     let f = sink.forest c.args.sink.now in
-    turned-foreign (token_of c.args.told.now.content) (built sink c.args.self.now f) (row_of c.first_foreign_row.result.now) c.if-is_foreign.ensures (c.first_foreign_row.ensures (its_answers sink) f)
+    turned-foreign (token_of c.args.told.now.content) (built sink c.args.self.now f)
+    (row_of c.first_foreign_row.result.now) c.if-is_foreign.ensures (c.first_foreign_row.ensures (its_answers sink) f)
 
 pub returns-then-is_foreign-clause-may : goal.returns-then-is_foreign-clause-may
 returns-then-is_foreign-clause-may g c may =
     let sink = g.Sink.TreeSink in
     let f = sink.forest c.args.sink.now in
-    subst (λ r. MayTakeRow (MayUse most_modes) (using_rules_for most_modes) r (token_of c.args.told.now.content) (built sink c.args.self.now f)) (sym (c.first_foreign_row.ensures (its_answers sink) f)) (may.foreign (sym c.if-is_foreign.ensures))
+    subst (λ r. MayTakeRow (MayUse most_modes) (using_rules_for most_modes) r (token_of c.args.told.now.content)
+    (built sink c.args.self.now f)) (sym (c.first_foreign_row.ensures (its_answers sink) f))
+    (may.foreign (sym c.if-is_foreign.ensures))
 
 pub returns-in_default-clause-turned : goal.returns-in_default-clause-turned
 returns-in_default-clause-turned g c =

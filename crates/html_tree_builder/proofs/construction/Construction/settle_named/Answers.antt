@@ -7,14 +7,18 @@ use Rattle.html_tree_builder.proofs.TextsTaken.{usable-stands}
 use Rattle.html_tree_builder.proofs.construction.Construction.settle_named.Goals as goal
 
 pub settle-requires-clause-may : goal.settle-requires-clause-may
-settle-requires-clause-may g c = may-come (token_of c.args.told.now.content) (built g.Sink.TreeSink c.args.self.now (g.Sink.TreeSink.forest c.args.sink.now)) c.requires.usable c.requires.going
+settle-requires-clause-may g c = may-come (token_of c.args.told.now.content)
+    (built g.Sink.TreeSink c.args.self.now (g.Sink.TreeSink.forest c.args.sink.now)) c.requires.usable c.requires.going
 
 pub settle-requires-clause-settled : goal.settle-requires-clause-settled
-settle-requires-clause-settled g c = is-settled (token_of c.args.told.now.content) (built g.Sink.TreeSink c.args.self.now (g.Sink.TreeSink.forest c.args.sink.now)) c.requires.usable c.requires.going
+settle-requires-clause-settled g c = is-settled (token_of c.args.told.now.content)
+    (built g.Sink.TreeSink c.args.self.now (g.Sink.TreeSink.forest c.args.sink.now)) c.requires.usable c.requires.going
 
 pub returns-clause-most : goal.returns-clause-most
 returns-clause-most g c =
-    at-most (token_of c.args.told.now.content) (built g.Sink.TreeSink c.args.self.now (g.Sink.TreeSink.forest c.args.sink.now)) c.args.turns.now.count c.settle.new.turns.count c.settle.ensures.most
+    at-most (token_of c.args.told.now.content)
+    (built g.Sink.TreeSink c.args.self.now (g.Sink.TreeSink.forest c.args.sink.now)) c.args.turns.now.count
+    c.settle.new.turns.count c.settle.ensures.most
 
 pub settle-requires-clause-stands : goal.settle-requires-clause-stands
 settle-requires-clause-stands g c =

@@ -16,8 +16,10 @@ invariant-loop-acknowledged g l =
       stands : Stands (sink.forest l.sink) l.self;
       may : MayCome t s;
       on : IsOnWay (all_turns l.fn.self.stack.open_elems) t (settle t (built sink l.fn.self (sink.forest l.fn.sink))) s;
-      counted : l.turns.count + (leads (all_turns l.fn.self.stack.open_elems) t s).turns ≡ l.fn.turns.count + (settle t (built sink l.fn.self (sink.forest l.fn.sink))).turns;
+      counted : l.turns.count + (leads (all_turns l.fn.self.stack.open_elems) t s).turns ≡ l.fn.turns.count +
+          (settle t (built sink l.fn.self (sink.forest l.fn.sink))).turns;
     }
 
 abbrev pub decreases-loop-acknowledged : goal.decreases-loop-acknowledged
-decreases-loop-acknowledged g l = (leads (all_turns l.fn.self.stack.open_elems) (TagToken l.fn.tag) (built g.Sink.TreeSink l.self (g.Sink.TreeSink.forest l.sink))).turns
+decreases-loop-acknowledged g l =
+    (leads (all_turns l.fn.self.stack.open_elems) (TagToken l.fn.tag) (built g.Sink.TreeSink l.self (g.Sink.TreeSink.forest l.sink))).turns

@@ -13,8 +13,10 @@ returns-then-is_foreign-clause-ok g c =
     let sink = g.Sink.TreeSink in
     let f = sink.forest c.args.sink.now in
     let is = c.first_foreign_row-row.ensures (its_answers sink) f in
-    comes-to (λ ending. turn_of (built sink c.apply_row.new.self (sink.forest c.apply_row.new.sink)) (ending_of sink.node ending)) c.apply_row.result _ _
-    (turned-foreign (token_of c.args.told.now.content) (built sink c.args.self.now f) (row_of c.first_foreign_row-row.result.now) c.if-is_foreign.ensures is)
+    comes-to (λ ending. turn_of (built sink c.apply_row.new.self (sink.forest c.apply_row.new.sink))
+    (ending_of sink.node ending)) c.apply_row.result _ _
+    (turned-foreign (token_of c.args.told.now.content) (built sink c.args.self.now f)
+    (row_of c.first_foreign_row-row.result.now) c.if-is_foreign.ensures is)
     c.apply_row.ensures.ok
 
 pub returns-clause-ok : goal.returns-clause-ok
@@ -23,6 +25,7 @@ returns-clause-ok g c =
     let f = sink.forest c.args.sink.now in
     let t = token_of c.args.told.now.content in
     let s = built sink c.args.self.now f in
-    comes-to (λ ending. turn_of (built sink c.use_rules_for.new.self (sink.forest c.use_rules_for.new.sink)) (ending_of sink.node ending)) c.use_rules_for.result _ _
+    comes-to (λ ending. turn_of (built sink c.use_rules_for.new.self (sink.forest c.use_rules_for.new.sink))
+    (ending_of sink.node ending)) c.use_rules_for.result _ _
     (ap (λ b. using_rules_for most_modes b.mode t s) c.self.view_is ∙ turned-mode t s c.if-is_foreign.ensures)
     c.use_rules_for.ensures.ok

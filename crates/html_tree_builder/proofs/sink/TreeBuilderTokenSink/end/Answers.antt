@@ -13,7 +13,8 @@ end-requires g c =
 
 pub returns-then-self-clause-ends : goal.returns-then-self-clause-ends
 unfolding ended
-returns-then-self-clause-ends g c = ap (λ b. hushed (built g.Sink.TreeSink b (g.Sink.TreeSink.forest c.args.self.now.sink))) c.end_untold.ensures
+returns-then-self-clause-ends g c =
+    ap (λ b. hushed (built g.Sink.TreeSink b (g.Sink.TreeSink.forest c.args.self.now.sink))) c.end_untold.ensures
 
 pub returns-else-self-clause-ends : goal.returns-else-self-clause-ends
 unfolding ended

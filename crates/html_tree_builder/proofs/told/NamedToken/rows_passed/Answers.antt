@@ -12,10 +12,13 @@ use Rattle.html_tree_builder.specs.declared.told.Content.TheVariants.{Tag as Tag
 use Rattle.html_tree_builder.specs.declared.told.NamedToken.{NamedToken}
 use Rattle.html_tree_builder.proofs.told.NamedToken.rows_passed.Goals as goal
 
-tag-passed : (told : NamedToken) (tag : Bor Tag) (passed : ℕ) (mode : InsertionMode) (s : State) → IsTold told → told.content ≡ TagContent tag → passed ≡ rows_before tag.now.kind (sets_of told.class.known) (rows mode) → first_fit (drop passed (rows mode)) (token_of told.content) s ≡ first_fit (rows mode) (token_of told.content) s
+tag-passed : (told : NamedToken) (tag : Bor Tag) (passed : ℕ) (mode : InsertionMode) (s : State) → IsTold told
+    → told.content ≡ TagContent tag → passed ≡ rows_before tag.now.kind (sets_of told.class.known) (rows mode)
+    → first_fit (drop passed (rows mode)) (token_of told.content) s ≡ first_fit (rows mode) (token_of told.content) s
 tag-passed told tag passed mode s is e p =
     let same = is.name ∙ ap (λ content. name_of (token_of content)) e in
-    rw (e, p) (before-passed (rows mode) tag.now (sets_of told.class.known) s (rw same at (sets-known told.class.known told.name.now is.class.known)))
+    rw (e, p) (before-passed (rows mode) tag.now (sets_of told.class.known) s
+    (rw same at (sets-known told.class.known told.name.now is.class.known)))
 
 pub returns-in-Tag : goal.returns-in-Tag
 returns-in-Tag c s = tag-passed c.args.self.now c.in-Tag.tag c.rows_before.result c.args.mode s c.requires c.in-Tag.is c.rows_before.ensures

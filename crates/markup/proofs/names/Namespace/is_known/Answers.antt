@@ -18,7 +18,8 @@ same-by_name : (a b : KnownNamespace) → sameb the_type a b ≡ bytes_eq (name_
 same-by_name a b =
     same_from_decides {P = a ≡ b} (sameb the_type a b) (bytes_eq (name_of a) (name_of b))
     (same_true the_type (search rules) a b, true_same the_type a b)
-    (Decides-like {P = name_of a ≡ name_of b} {Q = a ≡ b} (bytes_eq (name_of a) (name_of b)) (name_of-injective a b) (ap name_of) (bytes_eq-Decides (name_of a) (name_of b)))
+    (Decides-like {P = name_of a ≡ name_of b} {Q = a ≡ b} (bytes_eq (name_of a) (name_of b)) (name_of-injective a b)
+    (ap name_of) (bytes_eq-Decides (name_of a) (name_of b)))
 
 pub returns-in-Known : goal.returns-in-Known
 returns-in-Known c =
@@ -28,11 +29,14 @@ returns-in-Known c =
 -- a name that is not known is that of no known namespace
 no-name : (name : List ℕ) (known : KnownNamespace) (b : Bool) → bytes_eq name (name_of known) ≡ b → None ≡ known_namespace name → false ≡ b
 no-name name known true e h =
-    let its_own : known_namespace name ≡ Some known = ap known_namespace ((bytes_eq-Decides name (name_of known)).0 e) ∙ known-name_of known in
+    let its_own : known_namespace name ≡ Some known = ap known_namespace
+    ((bytes_eq-Decides name (name_of known)).0 e) ∙ known-name_of known in
     absurd cc
 no-name name known false e h = cc
 
 pub returns-in-Other : goal.returns-in-Other
 returns-in-Other c =
-    let unknown : None ≡ known_namespace c.args.self.now = (rw c.in-Other.is at c.self.invariant) ∙ ap known_namespace (rw c.in-Other.is at c.self.view_is) in
-    no-name c.args.self.now c.args.known (bytes_eq c.args.self.now (name_of c.args.known)) (λ i. bytes_eq c.args.self.now (name_of c.args.known)) unknown
+    let unknown : None ≡ known_namespace c.args.self.now = (rw c.in-Other.is at c.self.invariant)
+    ∙ ap known_namespace (rw c.in-Other.is at c.self.view_is) in
+    no-name c.args.self.now c.args.known (bytes_eq c.args.self.now (name_of c.args.known))
+    (λ i. bytes_eq c.args.self.now (name_of c.args.known)) unknown

@@ -11,7 +11,8 @@ one_ascii byte h (suc i) = omega arith
 pub invariant_of-self : goal.invariant_of-self
 invariant_of-self c = (
   search rules,
-  ∣ rw (take_more_set c.self.inside.cells c.self.inside.len c.args.character (search rules)) (IsUtf8-append _ _ (IsUtf8-had _ c.self.invariant.1) (IsUtf8-from_ascii _ (one_ascii c.args.character c.requires.ascii))) ∣₁,
+  ∣ rw (take_more_set c.self.inside.cells c.self.inside.len c.args.character (search rules))
+      (IsUtf8-append _ _ (IsUtf8-had _ c.self.invariant.1) (IsUtf8-from_ascii _ (one_ascii c.args.character c.requires.ascii))) ∣₁,
 )
 
 pub returns-clause-utf8 : goal.returns-clause-utf8

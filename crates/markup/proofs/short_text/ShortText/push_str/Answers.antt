@@ -9,7 +9,8 @@ invariant_of-self c =
     let end = len + length c.args.more.now in
     let written : c.copy_from_slice.new.self ≡ c.args.more.now = search rules in (
       search rules,
-      ∣ rw (written, take-put_mid len (end - len) c.self.inside.cells c.args.more.now end refl (search rules)) (IsUtf8-append _ _ (IsUtf8-had _ c.self.invariant.1) c.utf8.more) ∣₁,
+      ∣ rw (written, take-put_mid len (end - len) c.self.inside.cells c.args.more.now end refl (search rules))
+          (IsUtf8-append _ _ (IsUtf8-had _ c.self.invariant.1) c.utf8.more) ∣₁,
     )
 
 pub returns-clause-utf8 : goal.returns-clause-utf8

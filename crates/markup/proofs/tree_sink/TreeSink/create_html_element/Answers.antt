@@ -4,7 +4,8 @@ use Rattle.markup.specs.declared.names.QualName.{QualName}
 use Rattle.markup.proofs.NamespaceNames.{html-name_of}
 use Rattle.markup.proofs.tree_sink.TreeSink.create_html_element.Goals as goal
 
-named : (made : QualName) (html name : List ℕ) → made ≡ record { prefix = None; ns = html; local = name } → html ≡ html_namespace → made ≡ html_name name
+named : (made : QualName) (html name : List ℕ) → made ≡ record { prefix = None; ns = html; local = name }
+    → html ≡ html_namespace → made ≡ html_name name
 named made html name e h = e ∙ ap (λ ns. record { prefix = None; ns = ns; local = name }) h
 
 pub create_element-requires : goal.create_element-requires
