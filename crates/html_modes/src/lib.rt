@@ -1,7 +1,7 @@
 //! The rules of the insertion modes and of foreign content, as tables of rows (HTML Standard, section 13.2.6): each is proved to be the
 //! table of the definitions.
 //!
-//! Tests: `html_parser_tests`, `modes`.
+//! Tests: `conformance`, `modes`.
 #![tactic(auto)]
 
 mod first_places;

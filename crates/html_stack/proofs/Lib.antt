@@ -27,3 +27,4 @@ mod EndedOptions
 pub mod Dispatched
 pub mod ShadowRoots
 pub mod Agencies
+pub mod Reached

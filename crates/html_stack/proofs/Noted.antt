@@ -25,7 +25,7 @@ use Rattle.html_rules.specs.declared.tag_set.TagSet.{TagSet}
 use Rattle.html_rules.specs.declared.tag_set.TagSet.TheVariants as set
 use Rattle.html_names.specs.ElementNames.{Named}
 use Rattle.html_names.specs.SetBits.{has_set, number_of}
-use Rattle.html_stack.specs.Noted.{AreRanges, AreTops, Covers, IsBeyond, IsNext, IsNoteOf, IsNoted, IsRange, IsSameKey}
+use Rattle.html_stack.specs.Noted.{AreRanges, Covers, IsBeyond, IsNext, IsNoteOf, IsNoted, IsRange, IsSameKey}
 use Rattle.html_stack.specs.Noted.{NoneFrom, NoneNoted, Says, SaysSame, asks_mode, bears, has, is_foreign_named, is_same_space}
 use Rattle.html_stack.specs.Noted.{key_of, known_as, named, named_any_case, said}
 use Rattle.html_stack.specs.Stacks.{open_of, opens_of}
@@ -35,7 +35,6 @@ use Rattle.html_stack.specs.declared.entries.OpenElement.{OpenElement}
 use Rattle.html_stack.specs.declared.signs.Sign.{Sign}
 use Rattle.html_stack.specs.declared.signs.Sign.TheVariants.{In, Html, BarsBodyEnd, BarsItems, AsksMode}
 use Rattle.html_stack.specs.declared.signs.Signs.{Signs}
-use Rattle.html_stack.specs.declared.tops.Tops.{Tops}
 use Rattle.html_stack.proofs.Newest.{or-both, or-left, or-right, parts}
 
 at-or-above : (k j : ℕ) → k ≤ j → (k ≡ j) ⊎ (k < j)
@@ -288,7 +287,7 @@ IsNoted-alike xs ys d within alike is = record {
 
 -- what leaves no trace
 
-none-drop : {H : Type 0} (node : H → ℕ) (p : Named → Bool) (items : List (OpenElement H)) (m : ℕ)
+pub none-drop : {H : Type 0} (node : H → ℕ) (p : Named → Bool) (items : List (OpenElement H)) (m : ℕ)
     → NoneFrom p (named items) m → list_any (λ x. p (known_as x)) (reverse (map (open_of node) (drop m items))) ≡ false
 none-drop node p [] zero none = refl
 none-drop node p [] (suc m) none = refl

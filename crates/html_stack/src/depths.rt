@@ -256,6 +256,18 @@ impl Depths {
         }
     }
 
+    /// The same as [`Depths::reach`], for HTML elements of a name.
+    pub(crate) fn reach_html_named(&self, alloc: Global, count: usize, name: &LocalName) -> usize
+        ensures within { result ≤ count }
+        ensures beyond { (xs : List Named) → length xs ≡ count → IsNoted xs self.now
+            → NoneFrom (λ x. named_in x.namespace x.name name.now) xs result }
+    {
+        if self.notes.len() != count {
+            return count;
+        }
+        self.reach_html(alloc, count, name).min(count)
+    }
+
     /// The same as [`Depths::reach`], for a test and HTML elements of a name.
     pub(crate) fn reach_named(
         &self,

@@ -4,6 +4,7 @@ pub mod FirstFit
 pub mod Acted
 pub mod TextRuns
 pub mod WhiteRuns
+pub mod RefusedTexts
 pub mod RunsFound
 pub mod FirstCharacters
 pub mod MayTurns

@@ -1,5 +1,5 @@
 -- Runs of text that are taken at once.
-use Rattle.std.specs.Prelude.{◌≡◌, ◌<◌, ℕ, Bool, false, ◌||◌, List, length, Option, Some, None}
+use Rattle.std.specs.Prelude.{◌≡◌, ◌<◌, ℕ, Bool, true, false, ◌||◌, ◌&&◌, List, length, Option, Some, None}
 use Rattle.std.specs.Str.{IsUtf8, chars}
 use Rattle.html_rules_laws.specs.Usable.{Usable}
 use Rattle.html_rules.specs.Choice.{choose}
@@ -74,6 +74,21 @@ white_at (Some x) m = choose (takes_text x) (λ _. white_in m) (λ _. None)
 -- the run that white space is where other text is none, if it is one
 abbrev pub white_run_of : State → Option Run
 white_run_of s = choose s.foster_parenting (λ _. None) (λ _. white_at (adjusted_current_node s) s.mode)
+
+-- in which modes characters other than white space are errors, and dropped
+abbrev pub is_of_framesets : modes.InsertionMode → Bool
+is_of_framesets mode.InFrameset = true
+is_of_framesets mode.AfterFrameset = true
+is_of_framesets mode.AfterAfterFrameset = true
+is_of_framesets m = false
+
+abbrev pub takes_text_if : Option Open → Bool
+takes_text_if None = true
+takes_text_if (Some x) = takes_text x
+
+-- whether they are
+abbrev pub refuses_text : State → Bool
+refuses_text s = is_of_framesets s.mode && takes_text_if (adjusted_current_node s)
 
 -- Of a text this is left to be taken, in this state: it comes to what the whole comes to in the state before.
 pub record LeavesText (whole rest : List ℕ) (s r : State) : Type 0 where

@@ -1,6 +1,6 @@
 //! The tree builder: what tokens make of a tree (HTML Standard, section 13.2.6).
 //!
-//! Tests: `html_parser_tests`, `direct` and `modes`.
+//! Tests: `html_parser_tests`, `direct`; `conformance`, `modes`.
 #![tactic(auto)]
 
 mod actions;

@@ -104,6 +104,15 @@ impl<Sink: TreeSink> Construction<Sink> {
         Ok(())
     }
 
+    /// The sink is told that a character was not expected.
+    pub(crate) fn report_character(&self, sink: &mut Sink, character: &str)
+        ensures { Performs parse_error self.now self.now (Sink.forest sink.old) (Sink.forest sink.new) }
+    {
+        let name = LocalName::empty(self.alloc);
+        let told = NamedToken::of(Content::Characters(character), &name);
+        self.report_unexpected(sink, &told);
+    }
+
     /// Takes a text: a run at once, and up to where one begins by runs of white space and single characters.
     fn process_text(&mut self, sink: &mut Sink, text: &str) -> Result<(), ParseFault>
         requires usable { Usable (built Sink.TreeSink self.old (Sink.forest sink.old)) }

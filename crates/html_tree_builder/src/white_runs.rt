@@ -4,7 +4,7 @@ ghost use Rattle.markup.specs.Forest.{Forest};
 ghost use Rattle.markup.specs.declared.fault.ParseFault.TheVariants.{Memory};
 ghost use Rattle.html_rules_laws.specs.Usable.{Usable};
 ghost use Rattle.html_rules.specs.State.{Answers};
-ghost use Rattle.html_tree_builder.specs.Running.{LeavesText, white_before, white_in, white_run_of};
+ghost use Rattle.html_tree_builder.specs.Running.{LeavesText, is_of_framesets, refuses_text, white_before, white_in, white_run_of};
 ghost use Rattle.html_tree_builder.specs.States.{built, state_of};
 ghost use Rattle.html_tree_builder.specs.Texts.{HasWhiteFront, IsSplit};
 
@@ -65,7 +65,32 @@ fn split_white(alloc: Global, text: &str) -> Result<(Text, &str), ParseFault>
     Ok((white, rest))
 }
 
+/// Whether characters other than white space are errors by the rules of a mode, and dropped.
+fn is_of_framesets(mode: InsertionMode) -> bool
+    ensures { result ≡ is_of_framesets mode }
+{
+    match mode {
+        InsertionMode::InFrameset => true,
+        InsertionMode::AfterFrameset => true,
+        InsertionMode::AfterAfterFrameset => true,
+        _ => false,
+    }
+}
+
 impl<Sink: TreeSink> Construction<Sink> {
+    /// Whether characters other than white space are errors here, and dropped.
+    fn refuses_text(&self) -> bool
+        ensures { (a : Answers) (f : Forest) → result ≡ refuses_text (state_of a self.now f) }
+    {
+        if !is_of_framesets(self.mode) {
+            return false;
+        }
+        match self.adjusted_current_node() {
+            Some(element) => takes_text(element),
+            None => true,
+        }
+    }
+
     /// The run that white space is, if it is one.
     fn white_run(&self) -> Option<Run>
         ensures { (a : Answers) (f : Forest) → result ≡ white_run_of (state_of a self.now f) }
@@ -95,6 +120,10 @@ impl<Sink: TreeSink> Construction<Sink> {
             (built Sink.TreeSink self.old (Sink.forest sink.old)) (built Sink.TreeSink self.new (Sink.forest sink.new))) }
         ensures fault { IfErr result (λ fault. fault ≡ Memory) }
     {
+        if self.refuses_text() && !is_white(first) {
+            self.report_character(sink, first);
+            return Ok(behind);
+        }
         if let Some(run) = self.white_run() {
             let (white, rest) = split_white(self.alloc, text)?;
             if !white.is_empty() {

@@ -163,7 +163,7 @@ impl<Sink: TreeSink> Stack<Sink> {
         sink.parse_error(CowStr::Borrowed("an a is open where another begins"));
         self.adoption_agency(sink, ElementClass::html(name), name, foster)?;
         self.unlist(sink, &misnested.node);
-        self.remove_from_stack(sink, &misnested.node);
+        self.remove_named(sink, &misnested.node, Some(name));
         Ok(())
     }
 }

@@ -1,5 +1,5 @@
 //! Formatting elements are inserted and listed, and listed ones are opened again (HTML Standard, section 13.2.4.3).
-ghost use Rattle.std.specs.Prelude.{◌≡◌, ◌++◌, ◌∷◌, ◌<◌, ◌≤◌, ℕ, List, length, take, drop, true, IfErr, IfOk, OnErr, OnOk};
+ghost use Rattle.std.specs.Prelude.{◌≡◌, ◌++◌, ◌∷◌, ◌<◌, ◌≤◌, [], ℕ, List, length, take, drop, true, IfErr, IfOk, OnErr, OnOk};
 ghost use Rattle.std.specs.List.{list_all};
 ghost use Rattle.markup.specs.declared.fault.ParseFault.TheVariants.{Memory};
 ghost use Rattle.html_names.specs.Classes.{IsClassOf};
@@ -7,11 +7,14 @@ ghost use Rattle.html_tokens.specs.declared.tags.Tag.{Tag};
 ghost use Rattle.html_rules.specs.Formatting.{create_formatting_element_for, reconstruct_active_formatting_elements};
 ghost use Rattle.html_rules.specs.Names.{Html};
 ghost use Rattle.html_rules.specs.State.{Element as Listed, Entry};
+ghost use Rattle.html_rules_laws.specs.Soundness.{AreListed, AreOpened, IsStanding};
 ghost use Rattle.html_stack.specs.Found.{IsTagAt};
+ghost use Rattle.html_stack.specs.Noted.{IsNoted, named};
 ghost use Rattle.html_stack.specs.Reopening.{IsAgain, IsDivided, IsSaidAt, IsSettled, waits};
 ghost use Rattle.html_stack.specs.Stacks.{entries_of, entry_of, opens_of, PerformsWith, StandsIn};
 ghost use Rattle.html_stack.specs.Inserting.{MakesNext};
 
+use crate::depths::Depths;
 use crate::entries::{FormatEntry, OpenElement};
 use crate::formatting::{listing, positions};
 use crate::stack::Stack;
@@ -22,31 +25,42 @@ use std::alloc::Global;
 
 /// Whether the element of an entry is to be opened again: it is not open.
 fn waits<Sink: TreeSink>(
+    alloc: Global,
     sink: &Sink,
     elements: &[OpenElement<Sink::Handle>],
+    depths: &Depths,
     entry: &FormatEntry<Sink::Handle>,
 ) -> bool
+    requires opened { AreOpened (Sink.forest sink.now) (opens_of Sink.node elements.now) }
+    requires listed { AreListed (Sink.forest sink.now) (entry_of Sink.node entry.now ∷ []) }
+    requires noted { IsNoted (named elements.now) depths.now }
     ensures { result ≡ waits (opens_of Sink.node elements.now) (entry_of Sink.node entry.now) }
 {
     match entry {
         FormatEntry::Marker => false,
-        FormatEntry::Element(handle, _) => positions::on_stack(sink, elements, handle).is_none(),
+        FormatEntry::Element(handle, tag) => {
+            positions::on_stack(alloc, sink, elements, depths, handle, Some(&tag.name)).is_none()
+        }
     }
 }
 
 /// How many entries there are up to and with the last that does not wait.
 fn count_settled<Sink: TreeSink>(
+    alloc: Global,
     sink: &Sink,
     elements: &[OpenElement<Sink::Handle>],
+    depths: &Depths,
     entries: &[FormatEntry<Sink::Handle>],
 ) -> usize
+    requires standing { IsStanding (Sink.forest sink.now) (opens_of Sink.node elements.now) (entries_of Sink.node entries.now) }
+    requires noted { IsNoted (named elements.now) depths.now }
     ensures within { result ≤ length entries.now }
     ensures wait { list_all (waits (opens_of Sink.node elements.now)) (entries_of Sink.node (drop result entries.now)) ≡ true }
     ensures stay { IsSettled (opens_of Sink.node elements.now) (entries_of Sink.node (take result entries.now)) }
 {
     let mut i = entries.len();
     while i > 0 {
-        if !waits(sink, elements, &entries[i - 1]) {
+        if !waits(alloc, sink, elements, depths, &entries[i - 1]) {
             return i;
         }
         i -= 1;
@@ -114,11 +128,14 @@ impl<Sink: TreeSink> Stack<Sink> {
 
     /// How many entries stay as they are where elements are opened again: those up to and with the last that is a marker or open.
     fn settled(&self, sink: &Sink) -> usize
+        requires { StandsIn (Sink.forest sink.now) self.now }
         ensures { IsDivided self.now.open_elems self.now.active_formatting result }
     {
         count_settled(
+            self.allocator(),
             sink,
             self.open_elems.as_slice(),
+            &self.depths,
             self.active_formatting.as_slice(),
         )
     }

@@ -1,15 +1,22 @@
 //! Where a node is in the list and among the open elements. Both are lent as they lie, the oldest first.
-ghost use Rattle.std.specs.Prelude.{◌≡◌, false, MatchOption, None};
+ghost use Rattle.std.specs.Prelude.{◌≡◌, ◌≤◌, Some, drop, false, length, IfSome, MatchOption, None};
+ghost use Rattle.std.specs.List.{list_any};
+ghost use Rattle.markup.specs.Forest.{data_of, element_name};
 ghost use Rattle.html_rules.specs.Adoption.{furthest_block, is_number};
 ghost use Rattle.html_rules.specs.Formatting.{is_listed, last_named, stands_for};
+ghost use Rattle.html_rules.specs.Names.{Html, element_name_of};
 ghost use Rattle.html_rules.specs.Stack.{is_open};
 ghost use Rattle.html_rules.specs.State.{is_in};
+ghost use Rattle.html_rules_laws.specs.Soundness.{AreOpened};
 ghost use Rattle.html_stack.specs.Found.{IsFurthest, IsLastNamed, IsNewest};
+ghost use Rattle.html_stack.specs.Noted.{IsNoted, named};
 ghost use Rattle.html_stack.specs.Stacks.{entries_of, entry_of, open_of, opens_of};
 
+use crate::depths::Depths;
 use crate::entries::{FormatEntry, OpenElement};
 use html_rules::TagSet;
 use markup::{LocalName, TreeSink};
+use std::alloc::Global;
 
 /// Whether an entry stands for a node.
 fn stands_for<Sink: TreeSink>(
@@ -44,16 +51,19 @@ pub(crate) fn in_list<Sink: TreeSink>(
     None
 }
 
-/// The place of a node among the open elements.
-pub(crate) fn on_stack<Sink: TreeSink>(
+/// The place of a node among the open elements, of which those from a place on are others.
+fn on_stack_below<Sink: TreeSink>(
     sink: &Sink,
     elements: &[OpenElement<Sink::Handle>],
+    reach: usize,
     node: &Sink::Handle,
 ) -> Option<usize>
+    requires within { reach ≤ length elements.now }
+    requires beyond { list_any (is_number (Sink.node node.now)) (opens_of Sink.node (drop reach elements.now)) ≡ false }
     ensures { MatchOption result (is_open (Sink.node node.now) (opens_of Sink.node elements.now) ≡ false)
         (IsNewest (open_of Sink.node) (is_number (Sink.node node.now)) elements.now) }
 {
-    let mut i = elements.len();
+    let mut i = reach;
     while i > 0 {
         i -= 1;
         let element = &elements[i];
@@ -62,6 +72,33 @@ pub(crate) fn on_stack<Sink: TreeSink>(
         }
     }
     None
+}
+
+/// The place of a node among the open elements, of which notes are kept. Where it is known to be an HTML element of a name, it is looked
+/// for from the last open one of that name on.
+pub(crate) fn on_stack<Sink: TreeSink>(
+    alloc: Global,
+    sink: &Sink,
+    elements: &[OpenElement<Sink::Handle>],
+    depths: &Depths,
+    node: &Sink::Handle,
+    name: Option<&LocalName>,
+) -> Option<usize>
+    requires name { IfSome name (λ name. element_name (data_of (Sink.forest sink.now) (Sink.node node.now))
+        ≡ Some (element_name_of Html name.now)) }
+    requires opened { AreOpened (Sink.forest sink.now) (opens_of Sink.node elements.now) }
+    requires noted { IsNoted (named elements.now) depths.now }
+    ensures { MatchOption result (is_open (Sink.node node.now) (opens_of Sink.node elements.now) ≡ false)
+        (IsNewest (open_of Sink.node) (is_number (Sink.node node.now)) elements.now) }
+{
+    let count = elements.len();
+    match name {
+        Some(name) => {
+            let reach = depths.reach_html_named(alloc, count, name);
+            on_stack_below(sink, elements, reach, node)
+        }
+        None => on_stack_below(sink, elements, count, node),
+    }
 }
 
 /// The place of the last entry since the last marker that was made for a tag of this name.

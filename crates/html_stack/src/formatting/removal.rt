@@ -1,6 +1,8 @@
 //! Elements that leave the stack or the list, wherever they stand in it.
-ghost use Rattle.std.specs.Prelude.{◌≡◌};
+ghost use Rattle.std.specs.Prelude.{◌≡◌, IfSome, Some};
+ghost use Rattle.markup.specs.Forest.{data_of, element_name};
 ghost use Rattle.html_rules.specs.Formatting.{with_room, without_entry};
+ghost use Rattle.html_rules.specs.Names.{Html, element_name_of};
 ghost use Rattle.html_rules.specs.Stack.{is_open, without_number};
 ghost use Rattle.html_rules_laws.specs.Soundness.{AreOpened};
 ghost use Rattle.html_stack.specs.Noted.{IsNoted, named};
@@ -11,7 +13,7 @@ use crate::entries::OpenElement;
 use crate::formatting::{listing, positions};
 use crate::stack::Stack;
 use html_tokens::Tag;
-use markup::TreeSink;
+use markup::{LocalName, TreeSink};
 
 /// An element leaves the open elements, of which notes are kept; whether it was among them.
 fn unstack<Sink: TreeSink>(
@@ -19,18 +21,23 @@ fn unstack<Sink: TreeSink>(
     elements: &mut Vec<OpenElement<Sink::Handle>>,
     depths: &mut Depths,
     node: &Sink::Handle,
+    name: Option<&LocalName>,
 ) -> bool
-    requires { IsNoted (named elements.old.items) depths.old }
+    requires name { IfSome name (λ name. element_name (data_of (Sink.forest sink.now) (Sink.node node.now))
+        ≡ Some (element_name_of Html name.now)) }
+    requires opened { AreOpened (Sink.forest sink.now) (opens_of Sink.node elements.old.items) }
+    requires noted { IsNoted (named elements.old.items) depths.old }
     ensures left { opens_of Sink.node elements.new.items ≡ without_number (Sink.node node.now) (opens_of Sink.node elements.old.items) }
     ensures found { result ≡ is_open (Sink.node node.now) (opens_of Sink.node elements.old.items) }
     ensures noted { IsNoted (named elements.new.items) depths.new }
 {
-    match positions::on_stack(sink, elements.as_slice(), node) {
+    let alloc = *elements.allocator();
+    match positions::on_stack(alloc, sink, elements.as_slice(), depths, node, name) {
         None => false,
         Some(i) => {
             depths.cut(i);
             drop(elements.remove(i));
-            depths.follow(*elements.allocator(), elements.as_slice());
+            depths.follow(alloc, elements.as_slice());
             true
         }
     }
@@ -44,7 +51,23 @@ impl<Sink: TreeSink> Stack<Sink> {
         ensures left { self.new ≡ record self.old { open_elems = without_number (Sink.node element.now) self.old.open_elems } }
         ensures same { Sink.forest sink.new ≡ Sink.forest sink.old }
     {
-        if unstack(sink, &mut self.open_elems, &mut self.depths, element) {
+        self.remove_named(sink, element, None);
+    }
+
+    /// The same of a node that may be known to be an HTML element of a name, which is looked for from the last open one of that name on.
+    pub(crate) fn remove_named(
+        &mut self,
+        sink: &mut Sink,
+        element: &Sink::Handle,
+        name: Option<&LocalName>,
+    )
+        requires name { IfSome name (λ name. element_name (data_of (Sink.forest sink.old) (Sink.node element.now))
+            ≡ Some (element_name_of Html name.now)) }
+        requires opened { AreOpened (Sink.forest sink.old) self.old.open_elems }
+        ensures left { self.new ≡ record self.old { open_elems = without_number (Sink.node element.now) self.old.open_elems } }
+        ensures same { Sink.forest sink.new ≡ Sink.forest sink.old }
+    {
+        if unstack(sink, &mut self.open_elems, &mut self.depths, element, name) {
             sink.pop(element);
         }
     }

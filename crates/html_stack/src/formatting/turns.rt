@@ -176,6 +176,28 @@ fn turn_placed<Sink: TreeSink>(
     turn_open(alloc, sink, elements, entries, formatting, from, foster)
 }
 
+/// The place of a listed element among the open elements, of which notes are kept, if it is open.
+fn place_of<Sink: TreeSink>(
+    alloc: Global,
+    sink: &Sink,
+    elements: &[OpenElement<Sink::Handle>],
+    depths: &Depths,
+    entries: &[FormatEntry<Sink::Handle>],
+    formatting: FormattingElement<Sink::Handle>,
+) -> Option<usize>
+    requires listed { (tag : Tag) × IsListedAt Sink.node entries.now formatting.place formatting.node tag }
+    requires noted { IsNoted (named elements.now) depths.now }
+    requires standing { IsStanding (Sink.forest sink.now) (opens_of Sink.node elements.now) (entries_of Sink.node entries.now) }
+    ensures { MatchOption result (is_open (Sink.node formatting.node) (opens_of Sink.node elements.now) ≡ false)
+        (IsNewest (open_of Sink.node) (is_number (Sink.node formatting.node)) elements.now) }
+{
+    let name = match &entries[formatting.place] {
+        FormatEntry::Marker => None,
+        FormatEntry::Element(_, tag) => Some(&tag.name),
+    };
+    on_stack(alloc, sink, elements, depths, &formatting.node, name)
+}
+
 /// A turn with a formatting element; whether another turn follows. Where the element is not open, its entry leaves the list; where it is
 /// not in scope, nothing is done. The stack is gone through from the current node back up to the element, and once more between the two.
 pub(crate) fn turn_listed<Sink: TreeSink>(
@@ -199,7 +221,14 @@ pub(crate) fn turn_listed<Sink: TreeSink>(
     ensures noted { IsNoted (named elements.new.items) depths.new }
     ensures fault { IfErr result (λ fault. fault ≡ Memory) }
 {
-    let place = on_stack(sink, elements.as_slice(), &formatting.node);
+    let place = place_of(
+        alloc,
+        sink,
+        elements.as_slice(),
+        depths,
+        entries.as_slice(),
+        formatting,
+    );
     depths.cut_to(place);
     let goes_on = turn_placed(alloc, sink, elements, entries, formatting, place, foster);
     depths.follow(alloc, elements.as_slice());

@@ -21,7 +21,7 @@ impl<Sink: TreeSink> Construction<Sink> {
     /// The sink is told that a token was not expected.
     #[tactic(auto, unfolding(html_rules::specs::Stack::parse_error))]
     #[inline(never)]
-    fn report_unexpected(&self, sink: &mut Sink, told: &NamedToken<'_>)
+    pub(crate) fn report_unexpected(&self, sink: &mut Sink, told: &NamedToken<'_>)
         ensures { Performs parse_error self.now self.now (Sink.forest sink.old) (Sink.forest sink.new) }
     {
         let message = errors::of_token(self.alloc, told, self.mode, self.opts.exact_errors);

@@ -1,6 +1,4 @@
-use Rattle.std.proofs.Common.{◌≡◌, ◌∙◌, ◌++◌, ◌∷◌, [], ◌-◌, List, length, suc, take, ap, refl, arith, vec_len}
-use Rattle.std.specs.Prelude.{not}
-use Rattle.html_stack.specs.declared.depths.Note.{Note}
+use Rattle.std.proofs.Common.{◌≡◌, ◌∙◌, ◌++◌, ◌∷◌, [], ◌-◌, length, suc, take, ap, refl, arith, vec_len}
 use Rattle.html_stack.proofs.Noted.{IsNoted-next, IsNoted-same, length-next, without-last}
 use Rattle.html_stack.proofs.depths.Depths.put.Goals as goal
 

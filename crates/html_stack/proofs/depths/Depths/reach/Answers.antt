@@ -1,4 +1,4 @@
-use Rattle.std.proofs.Common.{◌≡◌, ◌∙◌, length, sym, arith}
+use Rattle.std.proofs.Common.{◌≡◌, length, arith}
 use Rattle.html_stack.specs.Noted.{NoneNoted, bears}
 use Rattle.html_stack.proofs.Noted.{none-either, none-passes}
 use Rattle.html_stack.proofs.depths.Depths.reach.Goals as goal

@@ -1,7 +1,4 @@
-use Rattle.std.proofs.Common.{◌≡◌, ◌∙◌, length, sym, subst, arith, ℕ}
-use Rattle.html_rules.specs.State.{named_in}
-use Rattle.html_names.specs.ElementNames.{Named}
-use Rattle.html_stack.specs.Noted.{NoneFrom}
+use Rattle.std.proofs.Common.{◌∙◌, sym}
 use Rattle.html_stack.proofs.Noted.{none-named}
 use Rattle.html_stack.proofs.depths.Depths.reach_html.Goals as goal
 

@@ -1,7 +1,6 @@
 use Rattle.std.proofs.Common.{◌≡◌, ◌∙◌, length, sym, arith}
 use Rattle.std.specs.Prelude.{◌||◌}
 use Rattle.html_rules.specs.State.{named_in}
-use Rattle.html_names.specs.ElementNames.{Named}
 use Rattle.html_stack.specs.Noted.{NoneNoted, bears}
 use Rattle.html_stack.proofs.Noted.{none-either, none-passes, none-within}
 use Rattle.html_stack.proofs.depths.Depths.reach_named.Goals as goal

@@ -1,8 +1,14 @@
 use Rattle.std.proofs.Common.{◌∙◌, sym, ap}
 use Rattle.html_stack.specs.Reopening.{waits}
 use Rattle.html_stack.specs.Stacks.{entry_of, opens_of}
+use Rattle.html_stack.proofs.Reached.{entry-named}
 use Rattle.html_stack.proofs.Reopened.{waits-by}
 use Rattle.html_stack.proofs.formatting.opening.waits.Goals as goal
+
+pub on_stack-requires-clause-name : goal.on_stack-requires-clause-name
+on_stack-requires-clause-name g c =
+    entry-named g.Sink.TreeSink.node (g.Sink.TreeSink.forest c.args.sink.now) c.args.entry.now c.in-Element.handle
+    c.in-Element.tag c.requires.listed c.in-Element.is
 
 pub returns-in-Element : goal.returns-in-Element
 returns-in-Element g c =

@@ -1,22 +1,20 @@
-use Rattle.std.proofs.Common.{sym, arith}
 use Rattle.html_rules.specs.Adoption.{is_number}
+use Rattle.html_stack.specs.Noted.{named}
 use Rattle.html_stack.specs.Stacks.{open_of}
-use Rattle.html_stack.proofs.Newest.{none-all, none-at, none-on, none-start}
+use Rattle.html_stack.proofs.Newest.{none-start}
+use Rattle.html_stack.proofs.Noted.{length-named}
+use Rattle.html_stack.proofs.Reached.{none-beyond}
 use Rattle.html_stack.proofs.formatting.positions.on_stack.Goals as goal
 
-pub loop-i-init : goal.loop-i-init
-loop-i-init g c = none-start (open_of g.Sink.TreeSink.node) (is_number (g.Sink.TreeSink.node c.args.node.now)) c.args.elements.now
+pub on_stack_below-requires-clause-beyond : goal.on_stack_below-requires-clause-beyond
+on_stack_below-requires-clause-beyond g c =
+    let node = g.Sink.TreeSink.node in
+    let f = g.Sink.TreeSink.forest c.args.sink.now in
+    let items = c.args.elements.now in
+    let said = rw c.in-Some.is at c.requires.name in
+    none-beyond node f (node c.args.node.now) c.in-Some.name.now items c.reach_html_named-reach.result c.requires.opened
+    said (c.reach_html_named-reach.ensures.beyond (named items) (length-named items) c.requires.noted)
 
-pub returns-then-same_node : goal.returns-then-same_node
-returns-then-same_node g c =
-    none-at (open_of g.Sink.TreeSink.node) (is_number (g.Sink.TreeSink.node c.args.node.now)) c.args.elements.now
-    c.loop-i.i _ c.index-elements-i.result c.loop-i.invariant (omega arith) c.index-elements-i.is (sym c.if-same_node.ensures)
-
-pub loop-i-preserved : goal.loop-i-preserved
-loop-i-preserved g c =
-    none-on (open_of g.Sink.TreeSink.node) (is_number (g.Sink.TreeSink.node c.args.node.now)) c.args.elements.now
-    c.loop-i.i _ c.index-elements-i.result c.loop-i.invariant (omega arith) c.index-elements-i.is (sym c.if-same_node.ensures)
-
-pub returns : goal.returns
-returns g c = none-all (open_of g.Sink.TreeSink.node) (is_number (g.Sink.TreeSink.node c.args.node.now))
-    c.args.elements.now c.loop-i.i c.loop-i.invariant (omega arith)
+pub on_stack_below-requires-in-None-clause-beyond : goal.on_stack_below-requires-in-None-clause-beyond
+on_stack_below-requires-in-None-clause-beyond g c =
+    (none-start (open_of g.Sink.TreeSink.node) (is_number (g.Sink.TreeSink.node c.args.node.now)) c.args.elements.now).none

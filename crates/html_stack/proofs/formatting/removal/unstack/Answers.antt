@@ -12,13 +12,13 @@ returns-in-None g c =
       left = sym (number-none (g.Sink.TreeSink.node c.args.node.now)
           (opens_of g.Sink.TreeSink.node c.args.elements.now.items) none);
       found = sym none;
-      noted = c.requires;
+      noted = c.requires.noted;
     }
 
 pub follow-requires : goal.follow-requires
 follow-requires g c =
     rw c.as_slice-in-Some.ensures.value (removed-noted c.args.elements.now.items c.remove.new.self.items c.in-Some.i
-    c.cut.new.self c.cut.ensures.within c.remove.ensures.items (c.cut.ensures.noted (named c.args.elements.now.items) c.requires))
+    c.cut.new.self c.cut.ensures.within c.remove.ensures.items (c.cut.ensures.noted (named c.args.elements.now.items) c.requires.noted))
 
 pub returns-in-Some : goal.returns-in-Some
 returns-in-Some g c =

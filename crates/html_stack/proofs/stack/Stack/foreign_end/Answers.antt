@@ -1,8 +1,8 @@
-use Rattle.std.proofs.Common.{◌≡◌, ◌∙◌, true, ap, subst}
+use Rattle.std.proofs.Common.{◌≡◌, ◌∙◌, true, subst}
 use Rattle.html_rules.specs.ForeignContent.{foreign_end_from}
 use Rattle.html_stack.specs.ForeignEnds.{ends_at}
 use Rattle.html_stack.specs.Noted.{named}
-use Rattle.html_stack.specs.Stacks.{Stacked, opens_of}
+use Rattle.html_stack.specs.Stacks.{Stacked}
 use Rattle.html_stack.proofs.EndTags.{ends-same}
 use Rattle.html_stack.proofs.Noted.{length-named}
 use Rattle.html_stack.proofs.stack.Stack.foreign_end.Goals as goal

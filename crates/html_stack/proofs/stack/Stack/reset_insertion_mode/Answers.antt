@@ -1,4 +1,4 @@
-use Rattle.std.proofs.Common.{◌≡◌, ◌∙◌, sym, ap}
+use Rattle.std.proofs.Common.{◌∙◌, sym, ap}
 use Rattle.html_rules.specs.Reset.{current_template_mode, mode_of_open, reset_insertion_mode}
 use Rattle.html_stack.specs.Modes.{Knows}
 use Rattle.html_stack.proofs.Noted.{mode-beyond}

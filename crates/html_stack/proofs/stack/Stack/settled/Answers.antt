@@ -1,8 +1,18 @@
-use Rattle.std.proofs.Common.{subst}
+use Rattle.std.proofs.Common.{subst, sym}
+use Rattle.html_rules_laws.specs.Soundness.{IsStanding}
 use Rattle.html_stack.specs.Reopening.{IsDivided}
 use Rattle.html_stack.specs.Stacks.{Stacked, opens_of}
 use Rattle.html_stack.proofs.Reopened.{divided}
 use Rattle.html_stack.proofs.stack.Stack.settled.Goals as goal
+
+pub count_settled-requires-clause-standing : goal.count_settled-requires-clause-standing
+count_settled-requires-clause-standing g c =
+    let f = g.Sink.TreeSink.forest c.args.sink.now in
+    rw (c.as_slice.ensures.value, c.as_slice-2.ensures.value)
+    (subst (λ (v : Stacked). IsStanding f v.open_elems v.active_formatting) (sym c.self.view_is) c.requires)
+
+pub count_settled-requires-clause-noted : goal.count_settled-requires-clause-noted
+count_settled-requires-clause-noted g c = rw c.as_slice.ensures.value c.self.invariant
 
 pub returns : goal.returns
 returns g c =
