@@ -1,0 +1,11 @@
+pub mod Names
+pub mod StartTags
+pub mod Comments
+pub mod Forms
+pub mod Reading
+pub mod RawTexts
+pub mod Written
+pub mod Trees
+pub mod Dressed
+pub mod Returns
+pub mod Documents

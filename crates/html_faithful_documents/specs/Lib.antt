@@ -1,0 +1,5 @@
+pub mod Documents
+pub mod Forms
+pub mod Reads
+pub mod Slices
+pub mod Written
