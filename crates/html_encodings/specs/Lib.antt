@@ -1,0 +1,14 @@
+pub mod Handlers
+pub mod Emitted
+pub mod Decoders
+pub mod SingleByte
+pub mod Utf16
+pub mod Utf8
+pub mod Basic
+pub mod Scanning
+pub mod Labels
+pub mod Prescan
+pub mod Attributes
+pub mod Turns
+pub mod Sniffing
+pub mod Rows

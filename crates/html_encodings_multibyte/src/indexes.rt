@@ -1,0 +1,122 @@
+//! The indexes (Encoding Standard, section 5).
+ghost use Rattle.std.specs.Prelude.{◌≡◌, ◌+◌, ◌-◌, ◌<◌};
+ghost use Rattle.html_encodings_multibyte.specs.Indexes.{gb18030_index, big5_index, euc_kr_index, jis0208_index, jis0212_index};
+ghost use Rattle.html_encodings_multibyte.specs.Indexes.{gb18030_ranges, item_at, in_range, ranges_item};
+
+use crate::big5_index::BIG5;
+use crate::euc_kr_index::EUC_KR;
+use crate::gb18030_index::GB18030;
+use crate::jis0208_index::JIS0208;
+use crate::jis0212_index::JIS0212;
+use crate::ranges_index::RANGES;
+use html_encodings::{code_point, entry_at, entry_item};
+
+#[tactic(auto, unfolding(crate::specs::Indexes::gb18030_index))]
+fn gb18030_index() -> &'static [u16]
+    ensures { result.now ≡ gb18030_index }
+{
+    &GB18030
+}
+
+#[tactic(auto, unfolding(crate::specs::Indexes::big5_index))]
+fn big5_index() -> &'static [u32]
+    ensures { result.now ≡ big5_index }
+{
+    &BIG5
+}
+
+#[tactic(auto, unfolding(crate::specs::Indexes::euc_kr_index))]
+fn euc_kr_index() -> &'static [u16]
+    ensures { result.now ≡ euc_kr_index }
+{
+    &EUC_KR
+}
+
+#[tactic(auto, unfolding(crate::specs::Indexes::jis0208_index))]
+fn jis0208_index() -> &'static [u16]
+    ensures { result.now ≡ jis0208_index }
+{
+    &JIS0208
+}
+
+#[tactic(auto, unfolding(crate::specs::Indexes::jis0212_index))]
+fn jis0212_index() -> &'static [u16]
+    ensures { result.now ≡ jis0212_index }
+{
+    &JIS0212
+}
+
+#[tactic(auto, unfolding(crate::specs::Indexes::gb18030_ranges))]
+fn gb18030_ranges() -> &'static [(u32, u32)]
+    ensures { result.now ≡ gb18030_ranges }
+{
+    &RANGES
+}
+
+/// The character at a pointer of gb18030.
+pub(crate) fn gb18030_item(pointer: u32) -> Option<char>
+    ensures { result ≡ item_at gb18030_index pointer }
+{
+    entry_item(entry_at(gb18030_index(), pointer as usize))
+}
+
+/// The character at a pointer of Big5.
+pub(crate) fn big5_item(pointer: u32) -> Option<char>
+    ensures { result ≡ item_at big5_index pointer }
+{
+    let index = big5_index();
+    let at = pointer as usize;
+    let code = if at < index.len() { index[at] } else { 0 };
+    if code == 0 {
+        return None;
+    }
+    code_point(code)
+}
+
+/// The character at a pointer of EUC-KR.
+pub(crate) fn euc_kr_item(pointer: u32) -> Option<char>
+    ensures { result ≡ item_at euc_kr_index pointer }
+{
+    entry_item(entry_at(euc_kr_index(), pointer as usize))
+}
+
+/// The character at a pointer of jis0208.
+pub(crate) fn jis0208_item(pointer: u32) -> Option<char>
+    ensures { result ≡ item_at jis0208_index pointer }
+{
+    entry_item(entry_at(jis0208_index(), pointer as usize))
+}
+
+/// The character at a pointer of jis0212.
+pub(crate) fn jis0212_item(pointer: u32) -> Option<char>
+    ensures { result ≡ item_at jis0212_index pointer }
+{
+    entry_item(entry_at(jis0212_index(), pointer as usize))
+}
+
+/// The code point at a pointer by the ranges.
+fn in_range(ranges: &[(u32, u32)], pointer: u32) -> u32
+    ensures { result ≡ in_range ranges.now pointer 0 }
+{
+    let mut code = 0;
+    for (first, value) in ranges {
+        if *first > pointer {
+            return code;
+        }
+        code = value.wrapping_add(pointer - *first);
+    }
+    code
+}
+
+/// The character of four bytes at a pointer of gb18030.
+pub(crate) fn ranges_item(pointer: u32) -> Option<char>
+    ensures { result ≡ ranges_item pointer }
+{
+    if pointer > 39419 && pointer < 189000 || pointer > 1237575 {
+        return None;
+    }
+    if pointer == 7457 {
+        return Some('\u{E7C7}');
+    }
+    code_point(in_range(gb18030_ranges(), pointer))
+}
