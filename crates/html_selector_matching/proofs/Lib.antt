@@ -1,0 +1,5 @@
+pub mod Lines
+mod Spelled
+mod Climbs
+mod Siblings
+mod Needles

@@ -1,0 +1,6 @@
+use Rattle.std.proofs.Common.{rules}
+use Rattle.std.proofs.lemmas.Str.{encodes-chars}
+use Rattle.html_selector_matching.proofs.names.has_value_word.Goals as goal
+
+pub returns : goal.returns
+returns c = rw (encodes-chars c.args.value.now c.utf8.value) (search rules)

@@ -1,0 +1,4 @@
+pub mod Around
+pub mod Simples
+pub mod Selects
+pub mod Climbs

@@ -1,0 +1,5 @@
+use Rattle.html_selector_text.proofs.Identifiers.{identifier_read}
+use Rattle.html_selector_text.proofs.laws.identifiers_are_read.Goals as goal
+
+pub returns : goal.returns
+returns c = identifier_read

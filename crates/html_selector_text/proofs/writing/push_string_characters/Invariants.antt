@@ -1,0 +1,10 @@
+use Rattle.std.proofs.Common.{◌≡◌, ◌++◌, length}
+use Rattle.std.specs.Prelude.{flat_map}
+use Rattle.html_selector_text.specs.Written.{string_character}
+use Rattle.html_selector_text.proofs.writing.push_string_characters.Given as goal
+
+abbrev pub invariant-loop-left : goal.invariant-loop-left
+invariant-loop-left l = l.text ++ flat_map string_character l.left ≡ l.fn.text ++ flat_map string_character l.fn.rest
+
+abbrev pub decreases-loop-left : goal.decreases-loop-left
+decreases-loop-left l = length l.left

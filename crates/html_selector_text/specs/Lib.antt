@@ -1,0 +1,12 @@
+pub mod Characters
+pub mod Scanning
+pub mod Results
+pub mod Reading
+pub mod Nth
+pub mod Simples
+pub mod Meanings
+pub mod Trees
+pub mod Grammar
+pub mod Turns
+pub mod Written
+pub mod Rows

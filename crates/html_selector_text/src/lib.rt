@@ -1,0 +1,23 @@
+//! Selectors from text (CSS Selectors Level 4), by the tokens of CSS Syntax Level 3.
+//!
+//! Tests: `selectors_tests`.
+#![tactic(auto)]
+
+mod characters;
+mod fault;
+mod grammar;
+pub mod laws;
+mod meanings;
+mod nth;
+mod parsing;
+mod reading;
+pub mod rows;
+mod scanning;
+mod simples;
+mod tokens;
+mod trees;
+mod writing;
+
+pub use fault::{SelectorError, SyntaxFault};
+pub use parsing::parse;
+pub use writing::to_text;

@@ -1,0 +1,152 @@
+-- Places that are written down child by child.
+use Rattle.std.proofs.Common.{◌≡◌, ◌∙◌, ◌+◌, ◌<◌, ◌≤◌, ℕ, suc, Bool, true, false, List, [], ◌∷◌, length, Option, Some, None}
+use Rattle.std.proofs.Common.{inl, inr, refl, ap, arith, sym}
+use Rattle.std.proofs.Math.ListN.{set}
+use Rattle.std.specs.Prelude.{cond, filter, nat_lt}
+use Rattle.std.specs.List.{list_any}
+use Rattle.std.proofs.lemmas.Bool.{cases_Bool, cases_eq, cases_order, eq-eqb, le-ltb, lt-ltb, ne_eqb}
+use Rattle.std.proofs.lemmas.List.{get_or-set_other, get_or-set_same}
+use Rattle.markup.specs.Forest.{Forest, IsDistinct, IsForest, children_of, is_among, node_count, parent_of, those_before}
+use Rattle.markup.proofs.Forests.{IsParent-from_child}
+use Rattle.markup.proofs.Parents.{is_among-parent}
+use Rattle.html_selector_matching.specs.Around.{children_under, those_after}
+use Rattle.html_selector_matching.specs.Simples.{place_of}
+use Rattle.html_selectors.specs.Columns.{place_at}
+
+-- how many pass, of a list with one more
+pub count-next : (t : ℕ → Bool) (n : ℕ) (ns : List ℕ) → length (filter t (n ∷ ns)) ≡ cond (t n) 1 0 + length (filter t ns)
+count-next t n ns =
+    elim (cases_Bool (t n)) [
+      | inl passes ↦ rw passes (omega arith)
+      | inr fails ↦ rw fails (omega arith)
+    ]
+
+-- what is written down in the end, once `place` is that of the first of those that are left
+abbrev from_first : (ℕ → Bool) → ℕ → List ℕ → List ℕ → ℕ → ℕ
+from_first t place ns places n = cond (is_among n ns) (place + length (filter t (those_before n ns))) (place_at places n)
+
+pub first-step : (t : ℕ → Bool) (place : ℕ) (m : ℕ) (ns places : List ℕ) → IsDistinct (m ∷ ns) → m < length places → (n : ℕ)
+    → from_first t (place + cond (t m) 1 0) ns (set places m place) n ≡ from_first t place (m ∷ ns) places n
+first-step t place m ns places once there n =
+    elim (cases_eq n m) [
+      | inl same ↦ rw (same, once.0, eq-eqb m m refl, get_or-set_same places m place 1 there) (omega arith)
+      | inr other ↦ rw (ne_eqb n m other, ne_eqb m n (λ e. other (sym e)), get_or-set_other places m n place 1 other)
+          (ap (λ k. cond (is_among n ns) k (place_at places n)) (let e = count-next t m (those_before n ns) in omega (arith, e)))
+    ]
+
+abbrev from_last : (ℕ → Bool) → List ℕ → List ℕ → ℕ → ℕ
+from_last t ns places n = cond (is_among n ns) (suc (length (filter t (those_after n ns)))) (place_at places n)
+
+pub last-step : (t : ℕ → Bool) (left : ℕ) (m : ℕ) (ns places : List ℕ) → left ≡ length (filter t ns) → IsDistinct (m ∷ ns)
+    → m < length places → (n : ℕ) → from_last t ns (set places m (left + 1)) n ≡ from_last t (m ∷ ns) places n
+last-step t left m ns places e once there n =
+    elim (cases_eq n m) [
+      | inl same ↦ rw (same, once.0, eq-eqb m m refl, get_or-set_same places m (left + 1) 1 there) (omega (arith, e))
+      | inr other ↦ rw (ne_eqb n m other, get_or-set_other places m n (left + 1) 1 other) refl
+    ]
+
+pub count-one : (b : Bool) → cond b 1 0 ≤ 1
+count-one true = omega arith
+count-one false = omega arith
+
+pub count-few : (t : ℕ → Bool) (ns : List ℕ) → length (filter t ns) ≤ length ns
+count-few t [] = omega arith
+count-few t (n ∷ ns) =
+    let rest = count-few t ns in
+    let one = count-one (t n) in
+    let next = count-next t n ns in
+    omega (arith, rest, one, next)
+
+-- PARENT BY PARENT
+
+-- a number of a node, once those of the children of the first parents are written down
+abbrev pub entered : (ℕ → ℕ) → ℕ → ℕ → Option ℕ → ℕ
+entered value count n None = 1
+entered value count n (Some p) = cond (nat_lt p count) (value n) 1
+
+-- the place of a node, once those of the children of the first parents are written down
+abbrev pub written : (ℕ → Bool) → Bool → Forest → ℕ → ℕ → Option ℕ → ℕ
+written t from_end f count n o = entered (place_of t from_end f) count n o
+
+beside-none : (t : ℕ → Bool) (from_end : Bool) (f : Forest) (n : ℕ) → parent_of f n ≡ None → place_of t from_end f n ≡ 1
+beside-none t true f n e = rw e refl
+beside-none t false f n e = rw e refl
+
+-- in the end all are
+pub entered-all : (f : Forest) → IsForest f → (value : ℕ → ℕ) (n : ℕ) → (parent_of f n ≡ None → value n ≡ 1)
+    → entered value (node_count f) n (parent_of f n) ≡ value n
+entered-all f is value n alone = by alone (parent_of f n) refl
+  where
+    by : (parent_of f n ≡ None → value n ≡ 1) → (o : Option ℕ) → parent_of f n ≡ o → entered value (node_count f) n o ≡ value n
+    by alone None e = sym (alone e)
+    by alone (Some p) e = rw (lt-ltb p (node_count f) (IsParent-from_child f n p is e).there) refl
+
+pub written-all : (f : Forest) → IsForest f → (t : ℕ → Bool) (from_end : Bool) (n : ℕ)
+    → written t from_end f (node_count f) n (parent_of f n) ≡ place_of t from_end f n
+written-all f is t from_end n = entered-all f is (place_of t from_end f) n (beside-none t from_end f n)
+
+-- those of one parent more are
+pub entered-more : (f : Forest) → IsForest f → (value : ℕ → ℕ) (count n place : ℕ) → (parent_of f n ≡ Some count → place ≡ value n)
+    → cond (is_among n (children_of f count)) place (entered value count n (parent_of f n)) ≡ entered value (count + 1) n (parent_of f n)
+entered-more f is value count n place told =
+    elim (cases_Bool (is_among n (children_of f count))) [
+      | inl among ↦
+          let e = is.one_parent count n among in
+          rw (among, e, lt-ltb count (count + 1) (omega arith)) (told e)
+      | inr other ↦ rw other (by other (parent_of f n) refl)
+    ]
+  where
+    by : is_among n (children_of f count) ≡ false → (o : Option ℕ) → parent_of f n ≡ o
+        → entered value count n o ≡ entered value (count + 1) n o
+    by other None e = refl
+    by other (Some p) e =
+        elim (cases_order p count) [
+          | inl same ↦ absurd (let there : is_among n (children_of f count) ≡ true =
+              is_among-parent f n count (e ∙ ap (λ k. Some k) same) in cc)
+          | inr apart ↦ elim apart [
+            | inl less ↦ rw (lt-ltb p count less, lt-ltb p (count + 1) (omega (arith, less))) refl
+            | inr more ↦ rw (le-ltb p count (omega (arith, more)), le-ltb p (count + 1) (omega (arith, more))) refl
+          ]
+        ]
+
+pub written-more : (f : Forest) → IsForest f → (t : ℕ → Bool) (from_end : Bool) (count n : ℕ) (place : ℕ)
+    → (parent_of f n ≡ Some count → place ≡ place_of t from_end f n)
+    → cond (is_among n (children_of f count)) place (written t from_end f count n (parent_of f n))
+    ≡ written t from_end f (count + 1) n (parent_of f n)
+written-more f is t from_end count n place told = entered-more f is (place_of t from_end f) count n place told
+
+pub entered-none : (value : ℕ → ℕ) (n : ℕ) (o : Option ℕ) → entered value 0 n o ≡ 1
+entered-none value n None = refl
+entered-none value n (Some p) = rw (le-ltb p 0 (omega arith)) refl
+
+pub written-none : (t : ℕ → Bool) (from_end : Bool) (f : Forest) (n : ℕ) (o : Option ℕ) → written t from_end f 0 n o ≡ 1
+written-none t from_end f n o = entered-none (place_of t from_end f) n o
+
+pub last-more : (f : Forest) → IsForest f → (t : ℕ → Bool) (from_end : Bool) → from_end ≡ true → (count n old : ℕ)
+    → old ≡ written t from_end f count n (parent_of f n)
+    → cond (is_among n (children_of f count)) (suc (length (filter t (those_after n (children_of f count))))) old
+    ≡ written t from_end f (count + 1) n (parent_of f n)
+last-more f is t from_end last count n old is_old =
+    let place = suc (length (filter t (those_after n (children_of f count)))) in
+    ap (λ k. cond (is_among n (children_of f count)) place k) is_old
+    ∙ written-more f is t from_end count n place
+    (λ e. sym (ap (λ b. place_of t b f n) last ∙ ap (λ (o : Option ℕ). suc (length (filter t (those_after n (children_under f o))))) e))
+
+pub first-more : (f : Forest) → IsForest f → (t : ℕ → Bool) (from_end : Bool) → from_end ≡ false → (count n old : ℕ)
+    → old ≡ written t from_end f count n (parent_of f n)
+    → cond (is_among n (children_of f count)) (suc (length (filter t (those_before n (children_of f count))))) old
+    ≡ written t from_end f (count + 1) n (parent_of f n)
+first-more f is t from_end first count n old is_old =
+    let place = suc (length (filter t (those_before n (children_of f count)))) in
+    ap (λ k. cond (is_among n (children_of f count)) place k) is_old
+    ∙ written-more f is t from_end count n place
+    (λ e. sym (ap (λ b. place_of t b f n) first ∙ ap (λ (o : Option ℕ). suc (length (filter t (those_before n (children_under f o))))) e))
+
+-- one of a list passes where the place after it is not the first
+pub any-place : (t : ℕ → Bool) (ns : List ℕ) → list_any t ns ≡ nat_lt 1 (suc (length (filter t ns)))
+any-place t [] = refl
+any-place t (n ∷ ns) =
+    elim (cases_Bool (t n)) [
+      | inl passes ↦ rw passes (sym (lt-ltb 1 _ (omega arith)))
+      | inr fails ↦ rw fails (any-place t ns)
+    ]

@@ -1,0 +1,234 @@
+-- All nodes of a forest in tree order: each is there, after its parent and before its children.
+use Rattle.std.proofs.Common.{◌≡◌, ◌∙◌, ◌⊎◌, ◌+◌, ◌-◌, ◌<◌, ◌≤◌, ℕ, zero, suc, Bool, true, false, List, [], ◌∷◌, ◌++◌, length}
+use Rattle.std.proofs.Common.{Option, Some, None, inl, inr, refl, ap, arith, subst, sym, take, drop}
+use Rattle.std.proofs.Math.ListN.{get_or}
+use Rattle.std.specs.Prelude.{cond, filter, is_none, is_some, not}
+use Rattle.std.specs.List.{range_with_len}
+use Rattle.std.proofs.lemmas.List.{append-nil, append_assoc, drop_more, nil_from_length, take_more}
+use Rattle.markup.specs.Forest.{Forest, IsForest, children_of, is_among, node_count, parent_of}
+use Rattle.markup.proofs.Children.{is_among-append_right}
+use Rattle.markup.proofs.Forests.{IsParent-from_child}
+use Rattle.markup.proofs.WholeTrees.{among-first, among-later}
+use Rattle.html_nodes.specs.Below.{IsBelow, below, each_with_below, is_on}
+use Rattle.html_nodes.specs.Below.IsBelow.{child, deeper}
+use Rattle.html_nodes.proofs.Distinct.{among-below, listed}
+use Rattle.html_nodes.proofs.Levels.{below-children}
+use Rattle.html_selector_matching.specs.Around.{above, line}
+use Rattle.html_selector_matching.proofs.Lines.{below-more, below-node, line-some}
+use Rattle.html_selectors.specs.Order.{in_tree_order, is_root, roots}
+use Rattle.html_selectors.proofs.Lists.{among-filter, among-left, among-range, each-all, each-among, filter-among, range-among}
+
+-- PARENTS COME FIRST
+
+-- the parent of each node of a list is done before it, or comes before it
+abbrev ParentsFirst : Forest → List ℕ → List ℕ → Type 0
+ParentsFirst f done [] = Unit {0}
+ParentsFirst f done (n ∷ ns) = (is_on (parent_of f n) done ≡ true) × ParentsFirst f (done ++ n ∷ []) ns
+
+on-more : (o : Option ℕ) (done more : List ℕ) → ((q : ℕ) → is_among q done ≡ true → is_among q more ≡ true)
+    → is_on o done ≡ true → is_on o more ≡ true
+on-more None done more wider h = refl
+on-more (Some q) done more wider h = wider q h
+
+first-append : (f : Forest) (xs ys done : List ℕ) → ParentsFirst f done xs → ParentsFirst f (done ++ xs) ys → ParentsFirst f done (xs ++ ys)
+first-append f [] ys done h k = subst (λ (l : List ℕ). ParentsFirst f l ys) (append-nil done) k
+first-append f (x ∷ xs) ys done h k =
+    (h.0, first-append f xs ys (done ++ x ∷ []) h.1 (subst (λ (l : List ℕ). ParentsFirst f l ys) (sym (append_assoc done (x ∷ []) xs)) k))
+
+first-each : (f : Forest) (g : ℕ → List ℕ) (ns done : List ℕ)
+    → ((n : ℕ) → is_among n ns ≡ true → (before : List ℕ) → is_among n before ≡ true → ParentsFirst f before (g n))
+    → ((n : ℕ) → is_among n ns ≡ true → is_on (parent_of f n) done ≡ true) → ParentsFirst f done (each_with_below g ns)
+first-each f g [] done inside up = tt
+first-each f g (n ∷ ns) done inside up =
+    first-append f (n ∷ g n) (each_with_below g ns) done
+    (up n (among-first n ns), inside n (among-first n ns) (done ++ n ∷ []) (is_among-append_right n done (n ∷ []) (among-first n [])))
+    (first-each f g ns (done ++ n ∷ g n) (λ m h. inside m (among-later m n ns h))
+    (λ m h. on-more (parent_of f m) done (done ++ n ∷ g n) (λ q a. among-left q done (n ∷ g n) a) (up m (among-later m n ns h))))
+
+first-below : (f : Forest) → IsForest f → (k n : ℕ) → length (below f n) ≤ k → (done : List ℕ) → is_among n done ≡ true
+    → ParentsFirst f done (below f n)
+first-below f is zero n few done h =
+    subst (λ (l : List ℕ). ParentsFirst f done l) (sym (nil_from_length (below f n) (omega (arith, few)))) tt
+first-below f is (suc k) n few done h =
+    subst (λ (l : List ℕ). ParentsFirst f done l) (sym (below-children f is n))
+    (first-each f (below f) (children_of f n) done
+    (λ c among. first-below f is k c
+    (let less = below-more f is c n (is.one_parent n c among) in omega (arith, less, few)))
+    (λ c among. ap (λ (o : Option ℕ). is_on o done) (is.one_parent n c among) ∙ h))
+
+root-none : (o : Option ℕ) (done : List ℕ) → is_none o ≡ true → is_on o done ≡ true
+root-none None done h = refl
+root-none (Some p) done h = absurd (cc)
+
+first-order : (f : Forest) → IsForest f → ParentsFirst f [] (in_tree_order f)
+unfolding in_tree_order
+first-order f is =
+    first-each f (below f) (roots f) [] (λ n h done among. first-below f is (length (below f n)) n (omega arith) done among)
+    (λ n h. root-none (parent_of f n) [] (filter-among (is_root f) n (range_with_len 0 (node_count f)) h).1)
+
+parent-at : (f : Forest) (ns done : List ℕ) → ParentsFirst f done ns → (i n : ℕ) → i < length ns → n ≡ get_or ns i n
+    → is_on (parent_of f n) (done ++ take i ns) ≡ true
+parent-at f [] done first i n there is = absurd (omega (arith, there))
+parent-at f (m ∷ ms) done first zero n there is =
+    rw is (subst (λ (l : List ℕ). is_on (parent_of f m) l ≡ true) (sym (append-nil done)) first.0)
+parent-at f (m ∷ ms) done first (suc i) n there is =
+    subst (λ (l : List ℕ). is_on (parent_of f n) l ≡ true) (append_assoc done (m ∷ []) (take i ms))
+    (parent-at f ms (done ++ m ∷ []) first.1 i n (omega (arith, there)) is)
+
+-- the parent of a node comes before it
+pub parent-before : (f : Forest) → IsForest f → (order : List ℕ) → order ≡ in_tree_order f → (i n : ℕ) → i < length order
+    → n ≡ get_or order i n → is_on (parent_of f n) (take i order) ≡ true
+parent-before f is order e i n there at-n =
+    parent-at f order [] (subst (λ (l : List ℕ). ParentsFirst f [] l) (sym e) (first-order f is)) i n there at-n
+
+-- CHILDREN COME LATER
+
+abbrev ChildrenLater : Forest → List ℕ → Type 0
+ChildrenLater f [] = Unit {0}
+ChildrenLater f (n ∷ ns) = ((c : ℕ) → is_among c (children_of f n) ≡ true → is_among c ns ≡ true) × ChildrenLater f ns
+
+later-append : (f : Forest) (xs ys : List ℕ) → ChildrenLater f xs → ChildrenLater f ys → ChildrenLater f (xs ++ ys)
+later-append f [] ys h k = k
+later-append f (x ∷ xs) ys h k = (λ c a. among-left c xs ys (h.0 c a), later-append f xs ys h.1 k)
+
+later-each : (f : Forest) (g : ℕ → List ℕ) (ns : List ℕ) → ((n : ℕ) → is_among n ns ≡ true → ChildrenLater f (g n))
+    → ((n c : ℕ) → is_among c (children_of f n) ≡ true → is_among c (g n) ≡ true) → ChildrenLater f (each_with_below g ns)
+later-each f g [] inside down = tt
+later-each f g (n ∷ ns) inside down =
+    later-append f (n ∷ g n) (each_with_below g ns) (down n, inside n (among-first n ns))
+    (later-each f g ns (λ m h. inside m (among-later m n ns h)) down)
+
+child-below : (f : Forest) → IsForest f → (n c : ℕ) → is_among c (children_of f n) ≡ true → is_among c (below f n) ≡ true
+child-below f is n c h = listed f is n c (child (is.one_parent n c h))
+
+later-below : (f : Forest) → IsForest f → (k n : ℕ) → length (below f n) ≤ k → ChildrenLater f (below f n)
+later-below f is zero n few = subst (ChildrenLater f) (sym (nil_from_length (below f n) (omega (arith, few)))) tt
+later-below f is (suc k) n few =
+    subst (ChildrenLater f) (sym (below-children f is n))
+    (later-each f (below f) (children_of f n)
+    (λ c among. later-below f is k c (let less = below-more f is c n (is.one_parent n c among) in omega (arith, less, few)))
+    (child-below f is))
+
+later-order : (f : Forest) → IsForest f → ChildrenLater f (in_tree_order f)
+unfolding in_tree_order
+later-order f is = later-each f (below f) (roots f) (λ n h. later-below f is (length (below f n)) n (omega arith)) (child-below f is)
+
+children-at : (f : Forest) (ns : List ℕ) → ChildrenLater f ns → (i n : ℕ) → i < length ns → n ≡ get_or ns i n
+    → (c : ℕ) → is_among c (children_of f n) ≡ true → is_among c (drop (suc i) ns) ≡ true
+children-at f [] later i n there is c h = absurd (omega (arith, there))
+children-at f (m ∷ ms) later zero n there is c h = later.0 c (rw is at h)
+children-at f (m ∷ ms) later (suc i) n there is c h = children-at f ms later.1 i n (omega (arith, there)) is c h
+
+-- the children of a node come after it
+pub children-after : (f : Forest) → IsForest f → (order : List ℕ) → order ≡ in_tree_order f → (i n : ℕ) → i < length order
+    → n ≡ get_or order i n → (c : ℕ) → is_among c (children_of f n) ≡ true → is_among c (drop (suc i) order) ≡ true
+children-after f is order e i n there at-n c h =
+    children-at f order (subst (ChildrenLater f) (sym e) (later-order f is)) i n there at-n c h
+
+-- EACH NODE IS THERE
+
+-- the root of the tree that a node is in
+record HasRoot (f : Forest) (n : ℕ) : Type 0 where
+  root : ℕ
+  top : parent_of f root ≡ None
+  there : root < node_count f
+  is : (n ≡ root) ⊎ IsBelow f root n
+
+below-root : (f : Forest) (r p n : ℕ) → parent_of f n ≡ Some p → (p ≡ r) ⊎ IsBelow f r p → IsBelow f r n
+below-root f r p n e (inl same) = child (e ∙ ap (λ k. Some k) same)
+below-root f r p n e (inr under) = deeper e under
+
+no-line : {n : ℕ} {ns : List ℕ} → n ∷ ns ≡ [] → ⊥
+no-line h = cc
+
+tails : {a b : ℕ} {xs ys : List ℕ} → a ∷ xs ≡ b ∷ ys → xs ≡ ys
+tails h = cc
+
+above-more : (f : Forest) → IsForest f → (n p : ℕ) → parent_of f n ≡ Some p → above f n ≡ p ∷ above f p
+above-more f is n p e = ap (line f) e ∙ line-some f is p
+
+root-by : (f : Forest) → IsForest f → (ns : List ℕ) (n : ℕ) → n < node_count f → above f n ≡ ns
+    → ((p : ℕ) (ms : List ℕ) (m : ℕ) → ns ≡ m ∷ ms → p < node_count f → above f p ≡ ms → HasRoot f p)
+    → (o : Option ℕ) → parent_of f n ≡ o → HasRoot f n
+root-by f is ns n there e higher None none = record { root = n; top = none; there = there; is = inl refl }
+root-by f is [] n there e higher (Some p) some = absurd (no-line (sym (above-more f is n p some) ∙ e))
+root-by f is (m ∷ ms) n there e higher (Some p) some =
+    let up = higher p ms m refl (IsParent-from_child f n p is some).there (tails (sym (above-more f is n p some) ∙ e)) in
+    record { root = up.root; top = up.top; there = up.there; is = inr (below-root f up.root p n some up.is) }
+
+has-root : (f : Forest) → IsForest f → (ns : List ℕ) (n : ℕ) → n < node_count f → above f n ≡ ns → HasRoot f n
+has-root f is [] n there e = root-by f is [] n there e (λ p ms m h. absurd (no-line (sym h))) (parent_of f n) refl
+has-root f is (k ∷ ks) n there e =
+    root-by f is (k ∷ ks) n there e (λ p ms m h up line. has-root f is ks p up (line ∙ sym (tails h))) (parent_of f n) refl
+
+-- each node is listed
+pub all-listed : (f : Forest) → IsForest f → (n : ℕ) → n < node_count f → is_among n (in_tree_order f) ≡ true
+unfolding in_tree_order
+all-listed f is n there =
+    let up = has-root f is (above f n) n there refl in
+    each-among (below f) (roots f) up.root n
+    (among-filter (is_root f) up.root (range_with_len 0 (node_count f))
+    (among-range up.root 0 (node_count f) (omega arith) (omega (arith, up.there))) (ap is_none up.top))
+    (elim up.is [ inl same ↦ inl same | inr under ↦ inr (listed f is up.root n under) ])
+
+-- and nothing else
+pub listed-node : (f : Forest) → IsForest f → (n : ℕ) → is_among n (in_tree_order f) ≡ true → n < node_count f
+unfolding in_tree_order
+listed-node f is n h =
+    each-all (λ m. m < node_count f) (below f) (roots f)
+    (λ r a. let less = range-among r 0 (node_count f)
+    (filter-among (is_root f) r (range_with_len 0 (node_count f)) a).0 in omega (arith, less))
+    (λ r m a b. below-node f is r m (among-below f is r m b)) n h
+
+among-at : (ns : List ℕ) (i n : ℕ) → i < length ns → n ≡ get_or ns i n → is_among n ns ≡ true
+among-at [] i n there is = absurd (omega (arith, there))
+among-at (m ∷ ms) zero n there is = subst (λ k. is_among k (m ∷ ms) ≡ true) (sym is) (among-first m ms)
+among-at (m ∷ ms) (suc i) n there is = among-later n m ms (among-at ms i n (omega (arith, there)) is)
+
+pub in-range : (f : Forest) → IsForest f → (order : List ℕ) → order ≡ in_tree_order f → (i n : ℕ) → i < length order
+    → n ≡ get_or order i n → n < node_count f
+in-range f is order e i n there at-n =
+    listed-node f is n (subst (λ (l : List ℕ). is_among n l ≡ true) e (among-at order i n there at-n))
+
+-- a list is cut at a place
+pub take-next : (ns : List ℕ) (i n : ℕ) → i < length ns → n ≡ get_or ns i n → take (i + 1) ns ≡ take i ns ++ n ∷ []
+take-next ns i n there at-n = take_more ns i n there ∙ ap (λ k. take i ns ++ k ∷ []) (sym at-n)
+
+pub drop-next : (ns : List ℕ) (i n : ℕ) → i < length ns → n ≡ get_or ns i n → drop i ns ≡ n ∷ drop (suc i) ns
+drop-next ns i n there at-n =
+    drop_more ns i n there ∙ (ap (λ k. k ∷ drop (i + 1) ns) (sym at-n) ∙ ap (λ j. n ∷ drop j ns) (let e : i + 1 ≡ suc i = omega arith in e))
+
+-- MAKING THE LIST
+
+range-next : (a n : ℕ) → a < n → range_with_len a (n - a) ≡ a ∷ range_with_len (a + 1) (n - (a + 1))
+range-next a n less = ap (range_with_len a) (let e : n - a ≡ suc (n - (a + 1)) = omega (arith, less) in e)
+
+pub none-by : (o : Option ℕ) (b : Bool) → is_some o ≡ not b → is_none o ≡ b
+none-by None true h = refl
+none-by None false h = absurd (cc)
+none-by (Some n) true h = absurd (cc)
+none-by (Some n) false h = refl
+
+-- a root and what stands below it comes next
+pub root-next : (f : Forest) (order : List ℕ) (a n : ℕ) → a < n → is_root f a ≡ true
+    → (order ++ a ∷ below f a) ++ each_with_below (below f) (filter (is_root f) (range_with_len (a + 1) (n - (a + 1))))
+    ≡ order ++ each_with_below (below f) (filter (is_root f) (range_with_len a (n - a)))
+root-next f order a n less is =
+    let rest = range_with_len (a + 1) (n - (a + 1)) in
+    append_assoc order (a ∷ below f a) (each_with_below (below f) (filter (is_root f) rest))
+    ∙ ap (λ (l : List ℕ). order ++ each_with_below (below f) l)
+    (sym (ap (filter (is_root f)) (range-next a n less) ∙ ap (λ b. cond b (a ∷ filter (is_root f) rest) (filter (is_root f) rest)) is))
+
+pub other-next : (f : Forest) (order : List ℕ) (a n : ℕ) → a < n → is_root f a ≡ false
+    → order ++ each_with_below (below f) (filter (is_root f) (range_with_len (a + 1) (n - (a + 1))))
+    ≡ order ++ each_with_below (below f) (filter (is_root f) (range_with_len a (n - a)))
+other-next f order a n less is =
+    let rest = range_with_len (a + 1) (n - (a + 1)) in
+    ap (λ (l : List ℕ). order ++ each_with_below (below f) l)
+    (sym (ap (filter (is_root f)) (range-next a n less) ∙ ap (λ b. cond b (a ∷ filter (is_root f) rest) (filter (is_root f) rest)) is))
+
+pub roots-all : (f : Forest) (n : ℕ) → n ≡ node_count f
+    → each_with_below (below f) (filter (is_root f) (range_with_len 0 (n - 0))) ≡ in_tree_order f
+unfolding in_tree_order
+roots-all f n e =
+    ap (λ k. each_with_below (below f) (filter (is_root f) (range_with_len 0 k))) (let s : n - 0 ≡ node_count f = omega (arith, e) in s)

@@ -1,0 +1,14 @@
+use Rattle.std.proofs.Common.{◌≡◌, ◌<◌, ◌≤◌, ℕ, length}
+use Rattle.std.specs.Prelude.{◌&&◌}
+use Rattle.html_selector_matching.specs.Simples.{is_simple}
+use Rattle.selectors.specs.declared.selector.Simple.TheVariants.{Attribute as WithAttribute}
+use Rattle.html_selectors.specs.Columns.{at}
+use Rattle.html_selectors.proofs.keeping.keep_attribute.Given as goal
+
+abbrev pub invariant-loop-number : goal.invariant-loop-number
+invariant-loop-number l = record {
+  same : length l.column.items ≡ length l.fn.column.items;
+  done : (n : ℕ) → n < l.number → at l.column.items n
+      ≡ (at l.fn.column.items n && is_simple l.index.forest.now l.fn.scope n (WithAttribute l.test));
+  rest : (n : ℕ) → l.number ≤ n → at l.column.items n ≡ at l.fn.column.items n;
+}

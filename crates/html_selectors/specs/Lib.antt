@@ -1,0 +1,4 @@
+pub mod Columns
+pub mod Order
+pub mod Relatives
+pub mod Kinds

@@ -1,0 +1,287 @@
+//! Leaves in a column what stands, or is placed, as a selector asks.
+ghost use Rattle.std.specs.Prelude.{◌≡◌, ◌&&◌, ℕ, IfErr, IfOk, OnOk, nat_lt, true};
+ghost use Rattle.std.specs.List.{list_all, list_any};
+ghost use Rattle.markup.specs.declared.fault.ParseFault.TheVariants.{Memory};
+ghost use Rattle.html_selector_matching.specs.Around as around;
+ghost use Rattle.html_selector_matching.specs.Around.{one_of};
+ghost use Rattle.html_selector_matching.specs.Selects.{is_nth_of, left_of, right_of};
+ghost use Rattle.html_selector_matching.specs.Simples as asks;
+ghost use Rattle.html_selector_matching.specs.Simples.{nodes_beside};
+ghost use Rattle.selectors.specs.declared.selector.Simple.TheVariants.{Attribute as WithAttribute, NthChild, NthOfType};
+ghost use Rattle.html_selectors.specs.Columns as columns;
+ghost use Rattle.html_selectors.specs.Columns.{at};
+
+use crate::column::{is_in, keep_those, refine};
+use crate::lines::{has_child, has_parent, over, under};
+use crate::page_index::Index;
+use crate::places::{place_at, places};
+use crate::types::places_of_type;
+use html_forest::{Forest, NodeId};
+use html_selector_matching::{
+    element_after, element_before, has_attribute_by, is_nth, is_simple, lower,
+};
+use markup::ParseFault;
+use selectors::{AttributeTest, Combinator, Nth, Simple};
+
+/// The elements of a page.
+pub(crate) fn elements(index: &Index<'_>) -> Result<Vec<bool>, ParseFault>
+    ensures ok { IfOk result (λ column. (n : ℕ) → at column.items n ≡ around.is_element index.now.forest.now n) }
+    ensures fault { IfErr result (λ fault. fault ≡ Memory) }
+{
+    Ok(Vec::from_slice(index.alloc, index.elements.as_slice())?)
+}
+
+// Whether the element just before a node is in a column.
+fn is_previous_in(forest: &Forest, id: NodeId, column: &[bool]) -> bool
+    ensures { result ≡ list_any (at column.now) (one_of (around.element_before forest.now id)) }
+{
+    match element_before(forest, id) {
+        Some(previous) => is_in(column, previous),
+        None => false,
+    }
+}
+
+// Whether the element just after a node is in a column.
+fn is_next_in(forest: &Forest, id: NodeId, column: &[bool]) -> bool
+    ensures { result ≡ list_any (at column.now) (one_of (around.element_after forest.now id)) }
+{
+    match element_after(forest, id) {
+        Some(next) => is_in(column, next),
+        None => false,
+    }
+}
+
+// Leaves in a column those nodes that are not in the first place.
+fn keep_later(places: &[u64], column: &mut Vec<bool>)
+    ensures { (n : ℕ) → at column.new.items n ≡ (at column.old.items n && nat_lt 1 (columns.place_at places.now n)) }
+{
+    refine(column, |id: NodeId| -> bool { place_at(places, id) > 1 });
+}
+
+// Leaves in a column those nodes that have one of another column among the siblings on one side.
+fn keep_beside(
+    index: &Index<'_>,
+    from_end: bool,
+    those: &[bool],
+    column: &mut Vec<bool>,
+) -> Result<(), ParseFault>
+    ensures ok { OnOk result ((n : ℕ) → at column.new.items n
+        ≡ (at column.old.items n && list_any (at those.now) (nodes_beside from_end index.now.forest.now n))) }
+    ensures fault { IfErr result (λ fault. fault ≡ Memory) }
+{
+    let written = places(index, from_end, those)?;
+    keep_later(written.as_slice(), column);
+    Ok(())
+}
+
+// Leaves in a column those nodes that are in a wanted place.
+fn keep_placed(nth: &Nth, places: &[u64], column: &mut Vec<bool>)
+    ensures { (n : ℕ) → at column.new.items n ≡ (at column.old.items n && asks.is_nth nth.now (columns.place_at places.now n)) }
+{
+    refine(column, |id: NodeId| -> bool {
+        is_nth(nth, place_at(places, id))
+    });
+}
+
+/// Leaves in a column those nodes to which one on the left stands as a combinator says.
+pub(crate) fn keep_right(
+    index: &Index<'_>,
+    combinator: Combinator,
+    left: &[bool],
+    column: &mut Vec<bool>,
+) -> Result<(), ParseFault>
+    ensures ok { OnOk result ((n : ℕ) → at column.new.items n
+        ≡ (at column.old.items n && list_any (at left.now) (left_of combinator index.now.forest.now n))) }
+    ensures fault { IfErr result (λ fault. fault ≡ Memory) }
+{
+    let forest = index.forest;
+    match combinator {
+        Combinator::Child => {
+            refine(column, |id: NodeId| -> bool {
+                has_parent(forest, id, left, &[])
+            });
+            Ok(())
+        }
+        Combinator::Descendant => {
+            let those = under(index, left)?;
+            keep_those(column, those.as_slice());
+            Ok(())
+        }
+        Combinator::NextSibling => {
+            refine(
+                column,
+                |id: NodeId| -> bool
+                    ensures { result ≡ list_any (at left.entry.now) (one_of (around.element_before forest.entry.now id)) }
+                { is_previous_in(forest, id, left) },
+            );
+            Ok(())
+        }
+        Combinator::SubsequentSibling => keep_beside(index, false, left, column),
+    }
+}
+
+/// Leaves in a column those nodes which stand to one on the right as a combinator says.
+pub(crate) fn keep_left(
+    index: &Index<'_>,
+    combinator: Combinator,
+    right: &[bool],
+    column: &mut Vec<bool>,
+) -> Result<(), ParseFault>
+    ensures ok { OnOk result ((n : ℕ) → at column.new.items n
+        ≡ (at column.old.items n && list_any (at right.now) (right_of combinator index.now.forest.now n))) }
+    ensures fault { IfErr result (λ fault. fault ≡ Memory) }
+{
+    let forest = index.forest;
+    match combinator {
+        Combinator::Child => {
+            refine(column, |id: NodeId| -> bool {
+                has_child(forest, id, right, &[])
+            });
+            Ok(())
+        }
+        Combinator::Descendant => {
+            let those = over(index, right)?;
+            keep_those(column, those.as_slice());
+            Ok(())
+        }
+        Combinator::NextSibling => {
+            refine(
+                column,
+                |id: NodeId| -> bool
+                    ensures { result ≡ list_any (at right.entry.now) (one_of (around.element_after forest.entry.now id)) }
+                { is_next_in(forest, id, right) },
+            );
+            Ok(())
+        }
+        Combinator::SubsequentSibling => keep_beside(index, true, right, column),
+    }
+}
+
+/// Leaves in a column those nodes that have the wanted place among those that are in another one.
+pub(crate) fn keep_nth_of(
+    index: &Index<'_>,
+    nth: &Nth,
+    those: &[bool],
+    column: &mut Vec<bool>,
+) -> Result<(), ParseFault>
+    ensures ok { OnOk result ((n : ℕ) → at column.new.items n
+        ≡ (at column.old.items n && is_nth_of (at those.now) nth.now index.now.forest.now n)) }
+    ensures fault { IfErr result (λ fault. fault ≡ Memory) }
+{
+    let written = places(index, nth.from_end, those)?;
+    keep_those(column, those);
+    keep_placed(nth, written.as_slice(), column);
+    Ok(())
+}
+
+// Leaves in a column those elements that have the wanted place among all elements under their parent.
+fn keep_nth_child(
+    index: &Index<'_>,
+    scope: NodeId,
+    nth: &Nth,
+    column: &mut Vec<bool>,
+) -> Result<(), ParseFault>
+    ensures ok { OnOk result ((n : ℕ) → at column.new.items n
+        ≡ (at column.old.items n && asks.is_simple index.now.forest.now scope n (NthChild nth.now))) }
+    ensures fault { IfErr result (λ fault. fault ≡ Memory) }
+{
+    let written = places(index, nth.from_end, index.elements.as_slice())?;
+    keep_placed(nth, written.as_slice(), column);
+    Ok(())
+}
+
+// Leaves in a column of elements those that have the wanted place among those of their name under their parent.
+fn keep_nth_of_type(
+    index: &Index<'_>,
+    scope: NodeId,
+    nth: &Nth,
+    column: &mut Vec<bool>,
+) -> Result<(), ParseFault>
+    requires { (n : ℕ) → at column.old.items n ≡ true → around.is_element index.now.forest.now n ≡ true }
+    ensures ok { OnOk result ((n : ℕ) → at column.new.items n
+        ≡ (at column.old.items n && asks.is_simple index.now.forest.now scope n (NthOfType nth.now))) }
+    ensures fault { IfErr result (λ fault. fault ≡ Memory) }
+{
+    let written = places_of_type(index, nth.from_end)?;
+    keep_placed(nth, written.as_slice(), column);
+    Ok(())
+}
+
+// Leaves in a column those elements that have an attribute as asked.
+fn keep_attribute(
+    index: &Index<'_>,
+    scope: NodeId,
+    test: &AttributeTest,
+    column: &mut Vec<bool>,
+) -> Result<(), ParseFault>
+    ensures ok { OnOk result ((n : ℕ) → at column.new.items n
+        ≡ (at column.old.items n && asks.is_simple index.now.forest.now scope n (WithAttribute test.now))) }
+    ensures fault { IfErr result (λ fault. fault ≡ Memory) }
+{
+    let mut lowered = Vec::new(index.alloc);
+    lower(&test.value, &mut lowered)?;
+    let mut buffer = Vec::new(index.alloc);
+    for number in 0..column.len() {
+        if column[number] {
+            let id = NodeId::new(number);
+            let has = has_attribute_by(index.forest, id, test, lowered.as_slice(), &mut buffer)?;
+            column[number] = has;
+        }
+    }
+    Ok(())
+}
+
+// Leaves in a column those elements that are as one simple selector asks, each asked by itself.
+fn keep_each(index: &Index<'_>, scope: NodeId, simple: &Simple, column: &mut Vec<bool>)
+    ensures { (n : ℕ) → at column.new.items n
+        ≡ (at column.old.items n && asks.is_simple index.now.forest.now scope n simple.now) }
+{
+    let forest = index.forest;
+    refine(
+        column,
+        |id: NodeId| -> bool
+            ensures { result ≡ asks.is_simple forest.entry.now scope id simple.entry.now }
+        { is_simple(forest, scope, id, simple) },
+    );
+}
+
+// Leaves in a column of elements those that are as one simple selector asks.
+fn keep_simple(
+    index: &Index<'_>,
+    scope: NodeId,
+    simple: &Simple,
+    column: &mut Vec<bool>,
+) -> Result<(), ParseFault>
+    requires { (n : ℕ) → at column.old.items n ≡ true → around.is_element index.now.forest.now n ≡ true }
+    ensures ok { OnOk result ((n : ℕ) → at column.new.items n
+        ≡ (at column.old.items n && asks.is_simple index.now.forest.now scope n simple.now)) }
+    ensures fault { IfErr result (λ fault. fault ≡ Memory) }
+{
+    match simple {
+        Simple::NthChild(nth) => keep_nth_child(index, scope, nth, column),
+        Simple::NthOfType(nth) => keep_nth_of_type(index, scope, nth, column),
+        Simple::Attribute(test) => keep_attribute(index, scope, test, column),
+        _ => {
+            keep_each(index, scope, simple, column);
+            Ok(())
+        }
+    }
+}
+
+/// Leaves in a column of elements those that are as all simple selectors of a list ask.
+pub(crate) fn keep_simples(
+    index: &Index<'_>,
+    scope: NodeId,
+    simples: &[Simple],
+    column: &mut Vec<bool>,
+) -> Result<(), ParseFault>
+    requires { (n : ℕ) → at column.old.items n ≡ true → around.is_element index.now.forest.now n ≡ true }
+    ensures ok { OnOk result ((n : ℕ) → at column.new.items n
+        ≡ (at column.old.items n && list_all (asks.is_simple index.now.forest.now scope n) simples.now)) }
+    ensures fault { IfErr result (λ fault. fault ≡ Memory) }
+{
+    for simple in simples {
+        keep_simple(index, scope, simple, column)?;
+    }
+    Ok(())
+}

@@ -1,0 +1,66 @@
+//! What stands above and below each node, in one way through the forest.
+ghost use Rattle.std.specs.Prelude.{◌≡◌, ◌||◌, ℕ, IfErr, IfOk};
+ghost use Rattle.std.specs.List.{list_any};
+ghost use Rattle.markup.specs.Forest.{children_of, parent_of};
+ghost use Rattle.markup.specs.declared.fault.ParseFault.TheVariants.{Memory};
+ghost use Rattle.html_nodes.specs.Below.{below};
+ghost use Rattle.html_selector_matching.specs.Around.{above, one_of};
+ghost use Rattle.html_selectors.specs.Columns.{at};
+
+use crate::column::{is_in, none_of};
+use crate::page_index::Index;
+use html_forest::{Forest, NodeId};
+use markup::ParseFault;
+
+/// Whether the parent of a node is in one of two columns.
+pub(crate) fn has_parent(forest: &Forest, id: NodeId, one: &[bool], other: &[bool]) -> bool
+    ensures { result ≡ list_any (λ n. at one.now n || at other.now n) (one_of (parent_of forest.now id)) }
+{
+    match forest.parent(id) {
+        Some(parent) => is_in(one, parent) || is_in(other, parent),
+        None => false,
+    }
+}
+
+/// The nodes above which stands one of a column.
+pub(crate) fn under(index: &Index<'_>, column: &[bool]) -> Result<Vec<bool>, ParseFault>
+    ensures ok { IfOk result (λ under. (n : ℕ) → at under.items n ≡ list_any (at column.now) (above index.now.forest.now n)) }
+    ensures fault { IfErr result (λ fault. fault ≡ Memory) }
+{
+    index.forest.keeps();
+    let mut under = none_of(index.alloc, index.count)?;
+    for id in &index.order {
+        let is_under = has_parent(index.forest, *id, column, under.as_slice());
+        under[id.number()] = is_under;
+    }
+    Ok(under)
+}
+
+/// Whether a child of a node is in one of two columns.
+pub(crate) fn has_child(forest: &Forest, id: NodeId, one: &[bool], other: &[bool]) -> bool
+    ensures { result ≡ list_any (λ n. at one.now n || at other.now n) (children_of forest.now id) }
+{
+    for child in forest.children(id) {
+        if is_in(one, child) || is_in(other, child) {
+            return true;
+        }
+    }
+    false
+}
+
+/// The nodes below which stands one of a column.
+pub(crate) fn over(index: &Index<'_>, column: &[bool]) -> Result<Vec<bool>, ParseFault>
+    ensures ok { IfOk result (λ over. (n : ℕ) → at over.items n ≡ list_any (at column.now) (below index.now.forest.now n)) }
+    ensures fault { IfErr result (λ fault. fault ≡ Memory) }
+{
+    index.forest.keeps();
+    let mut over = none_of(index.alloc, index.count)?;
+    let mut left = index.order.len();
+    while left > 0 {
+        left -= 1;
+        let id = index.order[left];
+        let is_over = has_child(index.forest, id, column, over.as_slice());
+        over[id.number()] = is_over;
+    }
+    Ok(over)
+}

@@ -1,0 +1,46 @@
+//! What is kept of a page for the selectors that are asked of it.
+ghost use Rattle.std.specs.Prelude.{◌≡◌, ℕ, IfErr, IfOk};
+ghost use Rattle.markup.specs.Forest.{node_count};
+ghost use Rattle.markup.specs.declared.fault.ParseFault.TheVariants.{Memory};
+ghost use Rattle.html_selector_matching.specs.Around.{is_element};
+ghost use Rattle.html_selectors.specs.Columns.{at};
+ghost use Rattle.html_selectors.specs.Order.{in_tree_order};
+
+use crate::order::{count_nodes, list_nodes, mark_elements};
+use html_forest::{Forest, NodeId};
+use markup::ParseFault;
+use std::alloc::Global;
+
+/// A forest, with the order of its nodes and which of them are elements, kept for several selectors. A contract sees the forest.
+#[derive(Drop)]
+pub struct Index<'f> {
+    pub(crate) alloc: Global,
+    pub(crate) forest: &'f Forest,
+    pub(crate) count: usize,
+    pub(crate) order: Vec<NodeId>,
+    pub(crate) elements: Vec<bool>,
+    ghost counted: { count ≡ node_count forest.now },
+    ghost ordered: { order.items ≡ in_tree_order forest.now },
+    ghost marked: { (n : ℕ) → at elements.items n ≡ is_element forest.now n },
+}
+
+impl<'f> Index<'f> {
+    /// Looks once at each node of a forest. Takes nine bytes for each.
+    ///
+    /// Errors: [`ParseFault::Memory`].
+    pub fn new(alloc: Global, forest: &'f Forest) -> Result<Index<'f>, ParseFault>
+        ensures ok { IfOk result (λ index. index.forest.now ≡ forest.now) }
+        ensures fault { IfErr result (λ fault. fault ≡ Memory) }
+    {
+        let count = count_nodes(forest);
+        let order = list_nodes(alloc, forest, count)?;
+        let elements = mark_elements(alloc, forest, count)?;
+        Ok(Index {
+            alloc,
+            forest,
+            count,
+            order,
+            elements,
+        })
+    }
+}
