@@ -1,6 +1,6 @@
--- Which name of a policy is never kept.
+-- Which word of a policy is never kept.
 use Rattle.std.specs.Prelude.{ℕ, cond, List, [], ◌∷◌, Option, Some, None}
-use Rattle.html_clean.specs.Names.{is_safe_attribute, is_safe_name}
+use Rattle.html_clean.specs.Names.{is_fragment_name, is_safe_attribute, is_safe_name, is_safe_scheme}
 use Rattle.html_clean.specs.declared.policy.Policy.{Policy}
 use Rattle.html_clean.specs.declared.policy.Rule.{Rule}
 
@@ -20,7 +20,20 @@ abbrev pub unsafe_in_rules : List Rule → Option (List ℕ)
 unsafe_in_rules [] = None
 unsafe_in_rules (rule ∷ rules) = or_else (unsafe_attribute rule.attributes.items) (unsafe_in_rules rules)
 
--- the first name that is never kept: of elements, then of attributes of rules, then of attributes of all
+abbrev pub unsafe_scheme : List (List ℕ) → Option (List ℕ)
+unsafe_scheme [] = None
+unsafe_scheme (scheme ∷ schemes) = cond (is_safe_scheme scheme) (unsafe_scheme schemes) (Some scheme)
+
+-- the first word that is never kept: of elements, then of attributes of rules, then of attributes of all, then of schemes
 abbrev pub never_kept : Policy → Option (List ℕ)
 never_kept policy = or_else (unsafe_element policy.kept.items)
-    (or_else (unsafe_in_rules policy.kept.items) (unsafe_attribute policy.everywhere.items))
+    (or_else (unsafe_in_rules policy.kept.items) (or_else (unsafe_attribute policy.everywhere.items) (unsafe_scheme policy.schemes.items)))
+
+-- the first rule's element that is one of the page itself
+abbrev pub page_element : List Rule → Option (List ℕ)
+page_element [] = None
+page_element (rule ∷ rules) = cond (is_fragment_name rule.element) (page_element rules) (Some rule.element)
+
+-- the same of a policy for fragments, which keep no element of the page itself
+abbrev pub never_kept_in_fragment : Policy → Option (List ℕ)
+never_kept_in_fragment policy = or_else (page_element policy.kept.items) (never_kept policy)

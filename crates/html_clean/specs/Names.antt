@@ -1,5 +1,7 @@
 -- Which names of elements and of attributes a policy can keep at all.
-use Rattle.std.specs.Prelude.{ℕ, Bool, false, ◌&&◌, not, nat_eq, List, [], ◌∷◌, Option, Some, None, codes}
+use Rattle.std.specs.Char.{is_ascii_digit, is_ascii_lowercase}
+use Rattle.std.specs.List.{list_all}
+use Rattle.std.specs.Prelude.{ℕ, Bool, false, ◌&&◌, ◌||◌, not, nat_eq, List, [], ◌∷◌, Option, Some, None, codes}
 use Rattle.markup.specs.Trees.{is_among, void_names}
 use Rattle.html_round_trip.specs.Slices.Forms.{is_attribute_name}
 
@@ -42,10 +44,12 @@ abbrev pub are_first : (ℕ → Bool) → (ℕ → Bool) → Option (ℕ × ℕ)
 are_first p q None = false
 are_first p q (Some two) = p two.0 && q two.1
 
--- attributes whose values are scripts, styles, documents or several URLs
+-- attributes whose values are scripts, styles, documents or several URLs; `code`, from which browsers load what an `embed` shows; and
+-- `xmlns`, which has a namespace of its own in SVG and MathML
 abbrev pub unsafe_attributes : List (List ℕ)
 unsafe_attributes =
-    codes "archive" ∷ codes "attributionsrc" ∷ codes "imagesrcset" ∷ codes "ping" ∷ codes "srcdoc" ∷ codes "srcset" ∷ codes "style" ∷ []
+    codes "archive" ∷ codes "attributionsrc" ∷ codes "code" ∷ codes "imagesrcset" ∷ codes "ping" ∷ codes "srcdoc" ∷ codes "srcset" ∷
+    codes "style" ∷ codes "xmlns" ∷ []
 
 -- as attributes do that have a script for an event
 abbrev pub begins_with_on : List ℕ → Bool
@@ -54,6 +58,33 @@ begins_with_on text = are_first (λ c. nat_eq c 111) (λ c. nat_eq c 110) (first
 -- lower-case letters, digits and hyphens, but none of these
 unfoldable pub is_safe_attribute : List ℕ → Bool
 is_safe_attribute name = is_attribute_name name && (not (begins_with_on name) && not (is_among name unsafe_attributes))
+
+-- schemes of URLs that name what is run, or shown as a document of its own
+abbrev pub unsafe_schemes : List (List ℕ)
+unsafe_schemes = codes "data" ∷ codes "javascript" ∷ codes "vbscript" ∷ []
+
+-- a character that may stand in a scheme, in lower case
+abbrev pub is_lower_scheme_character : ℕ → Bool
+is_lower_scheme_character c = is_ascii_lowercase c || (is_ascii_digit c || (nat_eq c 43 || (nat_eq c 45 || nat_eq c 46)))
+
+abbrev pub begins_with_lower : List ℕ → Bool
+begins_with_lower [] = false
+begins_with_lower (c ∷ cs) = is_ascii_lowercase c
+
+-- a scheme in lower case (URL Standard, section 4.3)
+abbrev pub is_scheme_name : List ℕ → Bool
+is_scheme_name text = begins_with_lower text && list_all is_lower_scheme_character text
+
+abbrev pub is_safe_scheme : List ℕ → Bool
+is_safe_scheme text = is_scheme_name text && not (is_among text unsafe_schemes)
+
+-- elements of the page itself: in a fragment their tags make no element, and give attributes to the page's own (HTML Standard, section
+-- 13.2.6.4.7)
+abbrev pub page_names : List (List ℕ)
+page_names = codes "body" ∷ codes "head" ∷ codes "html" ∷ []
+
+abbrev pub is_fragment_name : List ℕ → Bool
+is_fragment_name name = not (is_among name page_names)
 
 -- attributes of HTML whose values are URLs, on whatever element
 abbrev pub url_attributes : List (List ℕ)

@@ -7,7 +7,7 @@ use Rattle.markup.specs.Trees.{is_among, is_html}
 use Rattle.markup.specs.declared.attributes.Attribute.{Attribute}
 use Rattle.markup.specs.declared.names.QualName.{QualName}
 use Rattle.html_round_trip.specs.Slices.Forms.{is_no_text}
-use Rattle.html_clean.specs.Names.{is_safe_attribute, is_safe_name, is_url_attribute}
+use Rattle.html_clean.specs.Names.{is_safe_attribute, is_safe_name, is_url_attribute, unsafe_schemes}
 use Rattle.html_clean.specs.Urls.{url_kind}
 use Rattle.html_clean.specs.declared.elements.Fate.{Fate}
 use Rattle.html_clean.specs.declared.elements.Fate.TheVariants.{Kept, Dropped, Unwrapped}
@@ -63,7 +63,7 @@ text_at false text = plain_text text
 
 -- whether a URL of this kind is kept
 abbrev pub is_kept_kind : Policy → UrlKind → Bool
-is_kept_kind policy (HasScheme scheme) = is_among scheme policy.schemes.items
+is_kept_kind policy (HasScheme scheme) = is_among scheme policy.schemes.items && not (is_among scheme unsafe_schemes)
 is_kept_kind policy HasHost = policy.allows_hosts
 is_kept_kind policy IsRelative = policy.allows_relative
 

@@ -1,5 +1,5 @@
 -- The policy that is ready.
-use Rattle.std.specs.Prelude.{◌≡◌, ℕ, true, List, [], ◌∷◌, codes, map}
+use Rattle.std.specs.Prelude.{◌≡◌, ℕ, false, true, List, [], ◌∷◌, codes, map}
 use Rattle.html_clean.specs.declared.policy.Policy.{Policy}
 use Rattle.html_clean.specs.declared.policy.Rule.{Rule}
 
@@ -57,3 +57,12 @@ pub record IsTextAndLinks (policy : Policy) : Type 0 where
   pub schemes : policy.schemes.items ≡ ready_schemes
   pub relative : policy.allows_relative ≡ true
   pub hosts : policy.allows_hosts ≡ true
+
+pub record IsTextAlone (policy : Policy) : Type 0 where
+  pub kept : policy.kept.items ≡ []
+  pub dropped : policy.dropped.items ≡ ready_dropped
+  pub everywhere : policy.everywhere.items ≡ []
+  pub urls : policy.urls.items ≡ []
+  pub schemes : policy.schemes.items ≡ []
+  pub relative : policy.allows_relative ≡ false
+  pub hosts : policy.allows_hosts ≡ false

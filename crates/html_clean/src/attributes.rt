@@ -7,7 +7,7 @@ ghost use Rattle.markup.specs.Trees.{is_among};
 ghost use Rattle.markup.specs.declared.fault.ParseFault.TheVariants.{Memory};
 
 use crate::elements::is_among;
-use crate::names::{is_safe_attribute, is_url_attribute};
+use crate::names::{is_safe_attribute, is_unsafe_scheme, is_url_attribute};
 use crate::policy::{Policy, Rule};
 use crate::texts::plain_text;
 use crate::url::{UrlKind, url_kind};
@@ -68,7 +68,9 @@ fn is_kept_kind(policy: &Policy, kind: &UrlKind) -> bool
     ensures { result ≡ is_kept_kind policy.now kind.now }
 {
     match kind {
-        UrlKind::HasScheme(scheme) => is_scheme_among(scheme, &policy.schemes),
+        UrlKind::HasScheme(scheme) => {
+            is_scheme_among(scheme, &policy.schemes) && !is_unsafe_scheme(scheme)
+        }
         UrlKind::HasHost => policy.allows_hosts,
         UrlKind::IsRelative => policy.allows_relative,
     }

@@ -1,10 +1,12 @@
-//! Whether each name of a policy can be kept.
+//! Whether each word of a policy can be kept.
 ghost use Rattle.std.specs.Prelude.{◌≡◌, None, Some, IfOk, IfErr, IfSome, IfNone};
-ghost use Rattle.html_clean.specs.Checks.{never_kept, unsafe_attribute, unsafe_element, unsafe_in_rules};
+ghost use Rattle.std.specs.Str.{chars};
+ghost use Rattle.html_clean.specs.Checks.{never_kept, never_kept_in_fragment, page_element, unsafe_attribute, unsafe_element};
+ghost use Rattle.html_clean.specs.Checks.{unsafe_in_rules, unsafe_scheme};
 
-use crate::names::{is_safe_attribute, is_safe_name};
+use crate::names::{is_fragment_name, is_safe_attribute, is_safe_name, is_safe_scheme};
 use crate::policy::{Policy, Rule};
-use markup::LocalName;
+use markup::{LocalName, Text};
 
 /// The first element of rules that is never kept.
 fn unsafe_element(rules: &[Rule]) -> Option<&LocalName>
@@ -45,22 +47,64 @@ fn unsafe_in_rules(rules: &[Rule]) -> Option<&LocalName>
     None
 }
 
+/// The first scheme that is never kept.
+fn unsafe_scheme(schemes: &[Text]) -> Option<&Text>
+    ensures some { IfSome result (λ scheme. unsafe_scheme schemes.now ≡ Some scheme.now) }
+    ensures none { IfNone result (unsafe_scheme schemes.now ≡ None) }
+{
+    for scheme in schemes {
+        if !is_safe_scheme(scheme) {
+            return Some(scheme);
+        }
+    }
+    None
+}
+
+/// The first element of rules that is one of the page itself.
+fn page_element(rules: &[Rule]) -> Option<&LocalName>
+    ensures some { IfSome result (λ name. page_element rules.now ≡ Some name.now) }
+    ensures none { IfNone result (page_element rules.now ≡ None) }
+{
+    for rule in rules {
+        if !is_fragment_name(&rule.element) {
+            return Some(&rule.element);
+        }
+    }
+    None
+}
+
 impl Policy {
-    /// Whether each element and each attribute that the policy names can be kept, or else the first that is never kept: of elements, then
-    /// of the attributes of rules, then of the attributes of all elements.
-    pub fn checked(&self) -> Result<(), &LocalName>
+    /// Whether each element, attribute and scheme that the policy names can be kept, or else the first that never is: of elements, then of
+    /// the attributes of rules, then of the attributes of all elements, then of schemes. A scheme has to stand in lower case and without
+    /// its colon, and is none of `javascript`, `vbscript` and `data`.
+    pub fn checked(&self) -> Result<(), &str>
         ensures ok { IfOk result (λ _. never_kept self.now ≡ None) }
-        ensures err { IfErr result (λ name. never_kept self.now ≡ Some name.now) }
+        ensures err { IfErr result (λ word. never_kept self.now ≡ Some (chars word.now)) }
     {
         if let Some(name) = unsafe_element(&self.kept) {
-            return Err(name);
+            return Err(name.as_str());
         }
         if let Some(name) = unsafe_in_rules(&self.kept) {
-            return Err(name);
+            return Err(name.as_str());
         }
-        match unsafe_attribute(&self.everywhere) {
-            Some(name) => Err(name),
+        if let Some(name) = unsafe_attribute(&self.everywhere) {
+            return Err(name.as_str());
+        }
+        match unsafe_scheme(&self.schemes) {
+            Some(scheme) => Err(scheme.as_str()),
             None => Ok(()),
+        }
+    }
+
+    /// The same for a policy by which fragments are cleaned, which keeps no `html`, `head` and `body`: in a page that the fragment is put
+    /// into, their tags would give attributes to the page's own elements (HTML Standard, section 13.2.6.4.7).
+    pub fn checked_for_fragments(&self) -> Result<(), &str>
+        ensures ok { IfOk result (λ _. never_kept_in_fragment self.now ≡ None) }
+        ensures err { IfErr result (λ word. never_kept_in_fragment self.now ≡ Some (chars word.now)) }
+    {
+        match page_element(&self.kept) {
+            Some(name) => Err(name.as_str()),
+            None => self.checked(),
         }
     }
 }

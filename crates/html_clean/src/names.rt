@@ -11,7 +11,7 @@ ghost use Rattle.html_clean.specs.Names as names;
 ghost use Rattle.markup.specs.Trees.{is_among};
 
 use crate::texts::first_two;
-use markup::LocalName;
+use markup::{LocalName, Text};
 
 /// Elements that may be kept, in the order of their characters.
 const SAFE_NAMES: [&str; 114] = [
@@ -138,14 +138,16 @@ const VOID_NAMES: [&str; 18] = [
 ];
 
 /// Attributes that are never kept, beside those of events, in the order of their characters.
-const UNSAFE_ATTRIBUTES: [&str; 7] = [
+const UNSAFE_ATTRIBUTES: [&str; 9] = [
     "archive",
     "attributionsrc",
+    "code",
     "imagesrcset",
     "ping",
     "srcdoc",
     "srcset",
     "style",
+    "xmlns",
 ];
 
 /// Attributes of HTML whose values are URLs, in the order of their characters.
@@ -225,6 +227,64 @@ fn is_attribute_name(name: &LocalName) -> bool
     ensures { result ≡ is_attribute_name name.now }
 {
     !name.is_empty() && has_name_characters(name.as_str())
+}
+
+/// Schemes of URLs that are never kept, in the order of their characters: what they name is run, or shown as a document.
+const UNSAFE_SCHEMES: [&str; 3] = ["data", "javascript", "vbscript"];
+
+/// Whether a scheme is one of those.
+pub(crate) fn is_unsafe_scheme(scheme: &Text) -> bool
+    ensures { result ≡ is_among scheme.now names.unsafe_schemes }
+{
+    is_listed(scheme.as_str(), &UNSAFE_SCHEMES)
+}
+
+/// Whether a character may stand in a scheme in lower case.
+fn is_scheme_character(c: char) -> bool
+    ensures { result ≡ names.is_lower_scheme_character c }
+{
+    c.is_ascii_lowercase() || c.is_ascii_digit() || c == '+' || c == '-' || c == '.'
+}
+
+/// Whether a text begins with a lower-case letter.
+fn begins_with_lower(text: &str) -> bool
+    ensures { result ≡ names.begins_with_lower (chars text.now) }
+{
+    match text.chars().next() {
+        Some(c) => c.is_ascii_lowercase(),
+        None => false,
+    }
+}
+
+/// Whether all characters may stand in a scheme in lower case.
+fn has_scheme_characters(text: &str) -> bool
+    ensures { result ≡ list_all names.is_lower_scheme_character (chars text.now) }
+{
+    text.chars().all(|c| is_scheme_character(c))
+}
+
+/// Whether a text is a scheme in lower case (URL Standard, section 4.3).
+fn is_scheme_name(text: &str) -> bool
+    ensures { result ≡ names.is_scheme_name (chars text.now) }
+{
+    begins_with_lower(text) && has_scheme_characters(text)
+}
+
+/// Whether URLs of a scheme may be kept.
+pub(crate) fn is_safe_scheme(scheme: &Text) -> bool
+    ensures { result ≡ names.is_safe_scheme scheme.now }
+{
+    is_scheme_name(scheme.as_str()) && !is_unsafe_scheme(scheme)
+}
+
+/// Elements of the page itself, in the order of their characters.
+const PAGE_NAMES: [&str; 3] = ["body", "head", "html"];
+
+/// Whether an element may be kept in a fragment, as far as it is none of the page itself.
+pub(crate) fn is_fragment_name(name: &LocalName) -> bool
+    ensures { result ≡ names.is_fragment_name name.now }
+{
+    !is_listed(name.as_str(), &PAGE_NAMES)
 }
 
 /// Whether an attribute is one of those that are never kept.

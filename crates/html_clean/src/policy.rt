@@ -1,5 +1,5 @@
 //! What is kept of a document.
-ghost use Rattle.std.specs.Prelude.{◌≡◌, ◌++◌, ◌∷◌, [], false, map, IfOk, IfErr, OnOk, OnErr};
+ghost use Rattle.std.specs.Prelude.{◌≡◌, ◌++◌, ◌∷◌, [], map, IfOk, IfErr, OnOk, OnErr};
 ghost use Rattle.std.specs.Str.{chars};
 ghost use Rattle.html_clean.specs.Ready.{rule_names};
 ghost use Rattle.markup.specs.declared.fault.ParseFault.TheVariants.{Memory};
@@ -19,7 +19,7 @@ pub struct Rule {
 /// What is kept of a document. An element that is neither kept nor dropped gives way to what stands in it.
 ///
 /// Some names are never kept, whatever the policy says: elements that are none of HTML's, or whose text isn't escaped, or that say
-/// something of the whole page; attributes of events, and those that have styles, documents or several URLs.
+/// something of the whole page; attributes of events, those that have styles, documents or several URLs, `code` and `xmlns`.
 /// [`Policy::checked`] tells of a policy that has one.
 #[derive(Drop)]
 pub struct Policy {
@@ -31,7 +31,7 @@ pub struct Policy {
     pub everywhere: Vec<LocalName>,
     /// Attributes whose values are URLs, beside those of HTML that have one.
     pub urls: Vec<LocalName>,
-    /// The schemes that a URL may have, in lower case.
+    /// The schemes that a URL may have, in lower case; `javascript`, `vbscript` and `data` are never kept.
     pub schemes: Vec<Text>,
     /// Whether a URL may be relative to the page, without a host of its own.
     pub allows_relative: bool,
@@ -65,27 +65,6 @@ impl Rule {
 }
 
 impl Policy {
-    /// A policy that keeps texts alone.
-    pub fn text_alone(alloc: Global) -> Policy
-        ensures kept { result.kept.items ≡ [] }
-        ensures dropped { result.dropped.items ≡ [] }
-        ensures everywhere { result.everywhere.items ≡ [] }
-        ensures urls { result.urls.items ≡ [] }
-        ensures schemes { result.schemes.items ≡ [] }
-        ensures relative { result.allows_relative ≡ false }
-        ensures hosts { result.allows_hosts ≡ false }
-    {
-        Policy {
-            kept: Vec::new(alloc),
-            dropped: Vec::new(alloc),
-            everywhere: Vec::new(alloc),
-            urls: Vec::new(alloc),
-            schemes: Vec::new(alloc),
-            allows_relative: false,
-            allows_hosts: false,
-        }
-    }
-
     /// Keeps an element besides, with these attributes. After `Memory` the policy is as it was.
     pub fn keep(
         &mut self,

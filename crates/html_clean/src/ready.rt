@@ -1,7 +1,7 @@
 //! A policy that is ready.
 ghost use Rattle.std.specs.Prelude.{◌≡◌, ◌++◌, [], map, OnOk, IfOk, IfErr};
 ghost use Rattle.std.specs.Str.{chars};
-ghost use Rattle.html_clean.specs.Ready.{IsTextAndLinks, ready_rules, rule_names};
+ghost use Rattle.html_clean.specs.Ready.{IsTextAlone, IsTextAndLinks, ready_rules, rule_names};
 ghost use Rattle.markup.specs.declared.fault.ParseFault.TheVariants.{Memory};
 
 use crate::policy::{Policy, Rule, names_of};
@@ -189,6 +189,25 @@ fn rules(alloc: Global) -> Result<Vec<Rule>, ParseFault>
 }
 
 impl Policy {
+    /// A policy that keeps no element, and so text alone.
+    ///
+    /// Dropped with what they have are the same elements as by [`text_and_links`](Policy::text_and_links), so that the source of a script
+    /// or a style sheet does not become text.
+    pub fn text_alone(alloc: Global) -> Result<Policy, ParseFault>
+        ensures ok { IfOk result IsTextAlone }
+        ensures fault { IfErr result (λ fault. fault ≡ Memory) }
+    {
+        Ok(Policy {
+            kept: Vec::new(alloc),
+            dropped: names_of(alloc, &DROPPED)?,
+            everywhere: Vec::new(alloc),
+            urls: Vec::new(alloc),
+            schemes: Vec::new(alloc),
+            allows_relative: false,
+            allows_hosts: false,
+        })
+    }
+
     /// What [ammonia](https://docs.rs/ammonia) keeps by default, as far as it can be had here: the elements of texts, lists, tables, links
     /// and images, with URLs of its schemes, relative ones and those that begin with a host.
     ///

@@ -37,7 +37,7 @@ struct Asked<'a> {
     files: Vec<&'a str>,
 }
 
-/// Why the words after the program's name were not read: for want of memory, or since one of them is no text.
+/// Why the program's arguments could not be read: out of memory, or one of them is not UTF-8.
 fn words_fault(error: &io::Error) -> ProgramFault {
     match error.kind() {
         ErrorKind::OutOfMemory => ProgramFault::Normal(NormalFault::Memory),
@@ -113,6 +113,14 @@ fn option(word: &str) -> Option<Takes> {
     }
 }
 
+/// Whether each word of the policy can be kept.
+fn is_sound(asked: &Asked<'_>) -> bool {
+    if asked.is_document {
+        return asked.policy.checked().is_ok();
+    }
+    asked.policy.checked_for_fragments().is_ok()
+}
+
 /// Takes all words.
 fn take_words<'a>(
     alloc: Global,
@@ -140,7 +148,7 @@ fn take_words<'a>(
             };
         }
     }
-    if takes.is_some() || asked.policy.checked().is_err() {
+    if takes.is_some() || !is_sound(asked) {
         return Err(ProgramFault::Usage);
     }
     Ok(())

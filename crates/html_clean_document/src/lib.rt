@@ -3,7 +3,6 @@
 //! Tests: `html_clean_tests`.
 #![tactic(auto)]
 
-pub mod laws;
 mod whole;
 
 pub use whole::{clean, clean_fragment, clean_fragment_in};

@@ -5,6 +5,4 @@
 #[cfg(test)]
 mod again;
 #[cfg(test)]
-mod attacks;
-#[cfg(test)]
 mod policies;

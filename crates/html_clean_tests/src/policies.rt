@@ -10,22 +10,29 @@ use std::test::Fail;
 
 /// Links by `https` and marks, with a class, and no other attribute; no relative links.
 fn links_alone(alloc: Global) -> Result<Policy, ParseFault> {
-    let mut policy = Policy::text_alone(alloc);
+    let mut policy = Policy::text_alone(alloc)?;
     policy.keep(alloc, "a", &["href"])?;
     policy.keep(alloc, "mark", &[])?;
     policy
         .everywhere
         .push(LocalName::from_str(alloc, "class")?)?;
     policy.schemes.push(Text::from_str(alloc, "https")?)?;
+    policy.schemes.push(Text::from_str(alloc, "data")?)?;
     policy.dropped.push(LocalName::from_str(alloc, "aside")?)?;
     Ok(policy)
 }
 
 /// What stands in names that are never kept.
 fn unsafe_policy(alloc: Global) -> Result<Policy, ParseFault> {
-    let mut policy = Policy::text_alone(alloc);
-    for element in ["p", "script", "style", "image", "svg", "x-y", "title"] {
-        policy.keep(alloc, element, &["onclick", "style", "srcset", "title"])?;
+    let mut policy = Policy::text_alone(alloc)?;
+    for element in [
+        "p", "script", "style", "image", "svg", "x-y", "title", "embed",
+    ] {
+        policy.keep(
+            alloc,
+            element,
+            &["onclick", "style", "srcset", "code", "title"],
+        )?;
     }
     Ok(policy)
 }
@@ -55,9 +62,10 @@ fn leaves(alloc: Global, policy: &Policy, page: &str, left: &str, counts: Cleane
 fn a_policy_of_ones_own(rt: HostRuntime) -> Result<(), Fail> {
     let alloc = rt.alloc();
     let policy = links_alone(alloc)?;
-    assert!(rt; policy.checked().is_ok());
+    let refused = policy.checked().err();
+    assert!(rt; refused.is_some_and(|scheme| scheme == "data"));
     let page =
-        "<p class=a>x<a href=https://b id=c class=d>y</a><a href=e>z</a></p><aside>u<b>v</b></aside><!-- w --><mark class=a class=b>";
+        "<p class=a>x<a href=https://b id=c class=d>y</a><a href=data:e>z</a></p><aside>u<b>v</b></aside><!-- w --><mark class=a class=b>";
     let left = "x<a href=\"https://b\" class=\"d\">y</a><a>z</a><mark class=\"a\"></mark>";
     let counts = Cleaned {
         unwrapped: 1,
@@ -74,13 +82,14 @@ fn some_names_are_never_kept(rt: HostRuntime) -> Result<(), Fail> {
     let alloc = rt.alloc();
     let policy = unsafe_policy(alloc)?;
     let first = policy.checked().err();
-    assert!(rt; first.is_some_and(|name| name.as_str() == "script"));
-    let page = "<p onclick=a style=b srcset=c title=d><script>e</script><x-y>f</x-y><svg>g</svg>";
-    let left = "<p title=\"d\">efg</p>";
+    assert!(rt; first.is_some_and(|name| name == "script"));
+    let page =
+        "<p onclick=a style=b srcset=c title=d><script>e</script><x-y>f</x-y><svg>g</svg><embed code=h title=i>";
+    let left = "<p title=\"d\">fg<embed title=\"i\"></p>";
     let counts = Cleaned {
-        unwrapped: 3,
-        dropped: 0,
-        attributes: 3,
+        unwrapped: 2,
+        dropped: 1,
+        attributes: 4,
         comments: 0,
     };
     assert!(rt; leaves(alloc, &policy, page, left, counts));

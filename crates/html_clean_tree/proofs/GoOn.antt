@@ -8,7 +8,7 @@ use Rattle.html_clean.specs.declared.policy.Policy.{Policy}
 use Rattle.html_clean.specs.PieceLaws.{GoesOn}
 use Rattle.html_rules.specs.State.{State}
 use Rattle.html_rules.specs.Step.{step}
-use Rattle.html_clean_document.proofs.SafeTags.{is_unsafe, tag-continues}
+use Rattle.html_clean_tree.proofs.SafeTags.{is_unsafe, tag-continues}
 
 safe : (policy : Policy) (name : List ℕ) → is_kept_name policy name ≡ true → is_unsafe name ≡ false
 safe policy name h = ap not (and_parts (is_safe_name name) (is_ruled policy.kept.items name) h).0

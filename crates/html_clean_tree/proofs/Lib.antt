@@ -1,0 +1,4 @@
+pub mod Elements
+pub mod GoOn
+pub mod Pieces
+pub mod SafeTags

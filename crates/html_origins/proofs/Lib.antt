@@ -1,0 +1,9 @@
+pub mod Acts
+pub mod Adopting
+pub mod ManyTokens
+pub mod OneToken
+pub mod Rows
+pub mod Steps
+pub mod Trees
+pub mod Turns
+pub mod UsableStates
