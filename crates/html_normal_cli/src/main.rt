@@ -1,19 +1,36 @@
 //! The program `html_normal`: reads an HTML document from standard input, and writes its normal text to standard output.
+//!
+//! What it does is `html_normal_program`; here it gets its words, its files and its streams.
 #![tactic(auto)]
 
-ghost use Rattle.std.specs.Prelude.{◌≡◌, MatchResult};
-ghost use Rattle.html_normal.specs.Status.{program_status_of};
+ghost use Rattle.std.specs.Prelude.{None};
 
 use devices::{StdSource, StdTarget};
-use html_normal::{
-    Exact, NormalFault, ProgramFault, References, Report, TableFileFault, normalise, read_table,
-};
+use html_normal::{NormalFault, ProgramFault, Report};
+use html_normal_program::{Opener, normalised, tell};
 use std::env;
 use std::fs::File;
 use std::io::{self, BufWriter, ErrorKind};
 use std::process::ExitCode;
 
-// Why the words after the program's name were not read: for want of memory, or since one of them is no text.
+/// The files of the operating system.
+#[derive(Drop)]
+struct Files<'a> {
+    rt: &'a HostRuntime,
+}
+
+impl Opener<StdSource<File>> for Files<'_> {
+    ghost files = { λ _ _. None };
+
+    fn open(&self, name: &str) -> Option<StdSource<File>> {
+        match File::open(self.rt, name) {
+            Ok(file) => Some(StdSource::new(file)),
+            Err(_) => None,
+        }
+    }
+}
+
+/// Why the program's arguments could not be read: out of memory, or one of them is not UTF-8.
 fn words_fault(error: &io::Error) -> ProgramFault {
     match error.kind() {
         ErrorKind::OutOfMemory => ProgramFault::Normal(NormalFault::Memory),
@@ -21,7 +38,7 @@ fn words_fault(error: &io::Error) -> ProgramFault {
     }
 }
 
-// The words after the program's name.
+/// The words after the program's name.
 fn words(rt: &HostRuntime) -> Result<Vec<String>, ProgramFault> {
     let arguments = match env::args(rt) {
         Ok(arguments) => arguments,
@@ -36,66 +53,24 @@ fn words(rt: &HostRuntime) -> Result<Vec<String>, ProgramFault> {
     Ok(words)
 }
 
-// The table of references in the file that a word names, or else the five that a written text needs.
-fn table(rt: &HostRuntime, words: &[String]) -> Result<References, ProgramFault> {
-    match words {
-        [] => {
-            let Ok(five) = References::five(rt.alloc()) else {
-                return Err(ProgramFault::Normal(NormalFault::Memory));
-            };
-            Ok(five)
-        }
-        [path] => {
-            let Ok(file) = File::open(rt, path.as_str()) else {
-                return Err(ProgramFault::Table(TableFileFault::Read));
-            };
-            Ok(read_table(rt.alloc(), &mut StdSource::new(file))?)
-        }
-        _ => Err(ProgramFault::Usage),
-    }
-}
-
-fn normalised(rt: &HostRuntime) -> Result<Report, ProgramFault> {
+/// Normalises standard input, and hands on what the writer still holds.
+fn run(rt: &HostRuntime) -> Result<Report, ProgramFault> {
     let words = words(rt)?;
-    let table = table(rt, words.as_slice())?;
-    let mut reader = StdSource::new(rt.stdin());
     let Ok(buffer) = BufWriter::new(rt.alloc(), rt.stdout()) else {
         return Err(ProgramFault::Normal(NormalFault::Memory));
     };
-    let mut writer = StdTarget::new(buffer);
-    let report = normalise(
-        rt.alloc(),
-        &mut reader,
-        &mut writer,
-        table,
-        Exact::default(),
-    )?;
-    let Ok(()) = writer.flush() else {
-        return Err(ProgramFault::Normal(NormalFault::Write));
-    };
-    Ok(report)
-}
-
-// The status with which the program ends.
-fn status(outcome: &Result<Report, ProgramFault>) -> u8
-    ensures { MatchResult outcome.now (λ report. result ≡ 0) (λ fault. result ≡ program_status_of fault) }
-{
-    match outcome {
-        Ok(_) => 0,
-        Err(fault) => fault.status(),
+    let mut output = StdTarget::new(buffer);
+    let mut input = StdSource::new(rt.stdin());
+    let files = Files { rt };
+    let report = normalised(rt.alloc(), words.as_slice(), &files, &mut input, &mut output)?;
+    match output.flush() {
+        Ok(()) => Ok(report),
+        Err(_) => Err(ProgramFault::Normal(NormalFault::Write)),
     }
 }
 
 fn main(rt: HostRuntime) -> ExitCode {
-    let outcome = normalised(&rt);
-    let status = status(&outcome);
-    match outcome {
-        Ok(report) => {
-            let _ = eprintln!(rt; "{report}");
-        }
-        Err(fault) => {
-            let _ = eprintln!(rt; "{fault}");
-        }
-    }
-    ExitCode::from(status)
+    let outcome = run(&rt);
+    let mut errors = StdTarget::new(rt.stderr());
+    ExitCode::from(tell(&mut errors, &outcome))
 }

@@ -1,8 +1,6 @@
-//! Devices that fail at each call, odd pages, and a deep one.
+//! Devices that fail at each call, and a deep page.
 
-use crate::tests::{
-    BAD, Devices, GOOD, PLAIN_NOT_BAD, Told, WHOLE, is_body, is_normal, plain, reader_of,
-};
+use crate::tests::{Devices, WHOLE, is_normal, plain, reader_of};
 use devices::{MemReader, StdTarget};
 use html_normal::{Exact, NormalFault, References, Report, TableFileFault, normalise, read_table};
 use std::alloc::{AllocError, Global};
@@ -164,40 +162,6 @@ fn each_read_of_a_table_fails_once(rt: HostRuntime) {
         assert!(rt;
             matches!(is_table_up_to(rt.alloc(), call), Ok(true)),
             "{call}"
-        );
-    }
-}
-
-/// What is repeated, how often, what stands after it, what is written of that in the body, and what is told.
-type Odd = (&'static str, usize, &'static str, &'static str, Told);
-
-const ODD: &[Odd] = &[
-    ("\0", 100, "a", "a", BAD),
-    ("", 0, "<p>a\r\r\n\rb", "<p>a\n\n\nb</p>", GOOD),
-    (
-        "",
-        0,
-        "<b><i><em><code><u><p>x</b>",
-        "<b><i><em><code><u></u></code></em></i></b><em><code><u><p><b>x</b></p></u></code></em>",
-        PLAIN_NOT_BAD,
-    ),
-];
-
-/// Whether an odd page is written so, in whatever pieces it comes.
-fn is_odd_written(alloc: Global, odd: &Odd) -> Result<bool, AllocError> {
-    let (repeated, times, behind, body, told) = *odd;
-    let mut text = repeated.repeat(alloc, times)?;
-    text.push_str(behind)?;
-    is_body(alloc, text.as_str(), body, told)
-}
-
-#[test]
-fn odd_pages(rt: HostRuntime) {
-    for odd in ODD {
-        assert!(rt;
-            matches!(is_odd_written(rt.alloc(), odd), Ok(true)),
-            "{}",
-            odd.2
         );
     }
 }

@@ -6,8 +6,8 @@
 #[cfg(test)]
 mod again;
 #[cfg(test)]
-mod comments;
-#[cfg(test)]
 mod hostile;
+#[cfg(test)]
+mod program;
 #[cfg(test)]
 mod tests;

@@ -29,15 +29,6 @@ pub(crate) const WHOLE: Devices = Devices {
     room: 1000,
 };
 
-const BY_SEVENS: Devices = Devices {
-    read: 7,
-    write: 7,
-    read_fails: None,
-    write_fails: None,
-    zero: false,
-    room: 1000,
-};
-
 const BY_BYTE: Devices = Devices {
     read: 1,
     write: 1,
@@ -46,10 +37,6 @@ const BY_BYTE: Devices = Devices {
     zero: false,
     room: 1000,
 };
-
-const FRONT: &str = "<!DOCTYPE html><html><head></head><body>";
-
-const BACK: &str = "</body></html>";
 
 // What a normalisation answers, and what it wrote.
 #[derive(Drop)]
@@ -102,209 +89,6 @@ pub(crate) fn is_normal(
 ) -> Result<bool, AllocError> {
     let seen = normal(alloc, bytes, on, exact)?;
     Ok(seen.answer == answer && seen.written.as_slice() == written)
-}
-
-/// Each setting of the switches for errors.
-const SWITCHES: &[(bool, bool)] = &[(false, false), (true, false), (false, true), (true, true)];
-
-/// What is told of a document: whether it is plain, its quirks mode, and whether errors are.
-pub(crate) type Told = (bool, QuirksMode, bool);
-
-pub(crate) const GOOD: Told = (true, QuirksMode::NoQuirks, false);
-
-pub(crate) const BAD: Told = (true, QuirksMode::NoQuirks, true);
-
-pub(crate) const PLAIN_NOT: Told = (false, QuirksMode::NoQuirks, false);
-
-pub(crate) const PLAIN_NOT_BAD: Told = (false, QuirksMode::NoQuirks, true);
-
-const QUIRKS: Told = (false, QuirksMode::Quirks, true);
-
-/// Whether a document that was written is plain and written so again, in whatever pieces it comes, and no error is told.
-fn is_kept(alloc: Global, written: &str) -> Result<bool, AllocError> {
-    for on in [&WHOLE, &BY_BYTE] {
-        for &(tokenizer, tree_builder) in SWITCHES {
-            let exact = Exact {
-                tokenizer,
-                tree_builder,
-            };
-            let bytes = written.as_bytes();
-            if !is_normal(alloc, bytes, on, exact, plain(0), bytes)? {
-                return Ok(false);
-            }
-        }
-    }
-    Ok(true)
-}
-
-fn is_told(answer: &Result<Report, NormalFault>, told: Told) -> bool {
-    let (is_plain, quirks, errors) = told;
-    match answer {
-        Ok(report) => {
-            report.plain == is_plain && report.quirks == quirks && (report.errors > 0) == errors
-        }
-        Err(_) => false,
-    }
-}
-
-/// Whether a document is written so, and this is told of it.
-fn is_written(
-    alloc: Global,
-    input: &str,
-    on: &Devices,
-    exact: Exact,
-    written: &str,
-    told: Told,
-) -> Result<bool, AllocError> {
-    let seen = normal(alloc, input.as_bytes(), on, exact)?;
-    Ok(seen.written.as_slice() == written.as_bytes() && is_told(&seen.answer, told))
-}
-
-/// Whether a document is written so, in whatever pieces it comes, and with whatever errors are told; and again, if it is plain.
-pub(crate) fn is_row(
-    alloc: Global,
-    input: &str,
-    written: &str,
-    told: Told,
-) -> Result<bool, AllocError> {
-    for on in [&WHOLE, &BY_BYTE, &BY_SEVENS] {
-        for &(tokenizer, tree_builder) in SWITCHES {
-            let exact = Exact {
-                tokenizer,
-                tree_builder,
-            };
-            if !is_written(alloc, input, on, exact, written, told)? {
-                return Ok(false);
-            }
-        }
-    }
-    if told.0 {
-        is_kept(alloc, written)
-    } else {
-        Ok(true)
-    }
-}
-
-#[test]
-fn documents(rt: HostRuntime) {
-    // all of the text, all that is written, and what is told
-    let rows: &[(&str, &str, Told)] = &[
-        ("", "<html><head></head><body></body></html>", QUIRKS),
-        (
-            "<p>1<b>2<i>3</b>4</i>5</p>",
-            "<html><head></head><body><p>1<b>2<i>3</i></b><i>4</i>5</p></body></html>",
-            QUIRKS,
-        ),
-        (
-            "<!DOCTYPE html><title>&lt;/title></title><a href=\"x&amp;y\">z",
-            "<!DOCTYPE html><html><head><title>&lt;/title&gt;</title></head><body><a href=\"x&amp;y\">z</a></body></html>",
-            BAD,
-        ),
-        (
-            "<!DOCTYPE html><template><p>a",
-            "<!DOCTYPE html><html><head><template><p>a</p></template></head><body></body></html>",
-            PLAIN_NOT_BAD,
-        ),
-        (
-            "<p>é",
-            "<html><head></head><body><p>é</p></body></html>",
-            QUIRKS,
-        ),
-        (
-            "<meta charset=\"UTF-8\" /><meta charset=\"UTF-8\" /> other stuff",
-            "<html><head><meta charset=\"UTF-8\"><meta charset=\"UTF-8\"> </head><body>other stuff</body></html>",
-            QUIRKS,
-        ),
-        (
-            "<!DOCTYPE html><frameset><frame></frameset>",
-            "<!DOCTYPE html><html><head></head><frameset><frame></frameset></html>",
-            PLAIN_NOT,
-        ),
-        (
-            "<!DOCTYPE html><b>",
-            "<!DOCTYPE html><html><head></head><body><b></b></body></html>",
-            BAD,
-        ),
-        (
-            "<!DOCTYPE html><html><head> <title></title></head> <body><ul> <li>a</li></ul></body></html>",
-            "<!DOCTYPE html><html><head> <title></title></head> <body><ul> <li>a</li></ul></body></html>",
-            GOOD,
-        ),
-        (
-            "<!DOCTYPE html><html><head></head><body><p><a href=\"x\"><b>1</b></a></p><div><b><b><b><b>y</b></b></b></b>z</div></body></html>",
-            "<!DOCTYPE html><html><head></head><body><p><a href=\"x\"><b>1</b></a></p><div><b><b><b><b>y</b></b></b></b>z</div></body></html>",
-            GOOD,
-        ),
-        (
-            "<!DOCTYPE html PUBLIC \"-//W3C//DTD XHTML 1.0 Frameset//\" \"\">",
-            "<!DOCTYPE html><html><head></head><body></body></html>",
-            (false, QuirksMode::LimitedQuirks, true),
-        ),
-    ];
-    for &(input, written, told) in rows {
-        assert!(rt;
-            matches!(is_row(rt.alloc(), input, written, told), Ok(true)),
-            "{input}"
-        );
-    }
-}
-
-/// The same after the doctype, and in the body.
-pub(crate) fn is_body(
-    alloc: Global,
-    text: &str,
-    body: &str,
-    told: Told,
-) -> Result<bool, AllocError> {
-    let input = format!(in alloc; "<!DOCTYPE html>{text}")?;
-    let written = format!(in alloc; "{FRONT}{body}{BACK}")?;
-    is_row(alloc, input.as_str(), written.as_str(), told)
-}
-
-#[test]
-fn bodies(rt: HostRuntime) {
-    // after the doctype, what is written in the body, and what is told
-    let rows: &[(&str, &str, Told)] = &[
-        ("<p>a<br>b", "<p>a<br>b</p>", GOOD),
-        ("<p>a<br>b</p></body></html>", "<p>a<br>b</p>", GOOD),
-        ("<b>1<p>2</b>3</p>", "<b>1</b><p><b>2</b>3</p>", BAD),
-        ("<p>a&amp;b\r\nc", "<p>a&amp;b\nc</p>", GOOD),
-        (
-            "<table>x<tr><td>y</table>",
-            "x<table><tbody><tr><td>y</td></tr></tbody></table>",
-            BAD,
-        ),
-        (
-            "<table> <tr> <td>1</td></tr></table>",
-            "<table> <tbody><tr> <td>1</td></tr></tbody></table>",
-            GOOD,
-        ),
-        ("<svg><![CDATA[a<b]]></svg>", "<svg>a&lt;b</svg>", PLAIN_NOT),
-        ("<pre>&#10x</pre>", "<pre>x</pre>", PLAIN_NOT_BAD),
-        ("<p>a\u{feff}b", "<p>a\u{feff}b</p>", GOOD),
-        (
-            "<p><b><b><b><b>x</b></b></b></b>",
-            "<p><b><b><b><b>x</b></b></b></b></p>",
-            GOOD,
-        ),
-        ("<p>&#13;", "<p>\r</p>", PLAIN_NOT_BAD),
-        ("<p>a\0b", "<p>ab</p>", BAD),
-        ("<p>a</p>", "<p>a</p>", GOOD),
-        ("<p>a</p><!--c-->", "<p>a</p><!--c-->", GOOD),
-        ("", "", GOOD),
-        (" </p> a<p>b<p>c</p>d", "a<p>b</p><p>c</p>d", BAD),
-        ("a>b</p>", "a&gt;b<p></p>", BAD),
-        ("<p>é", "<p>é</p>", GOOD),
-        ("a\u{a0}b<p>\u{a0}>", "a&nbsp;b<p>&nbsp;&gt;</p>", GOOD),
-        ("<p> a</p> b ", "<p> a</p> b ", GOOD),
-        ("<p><p><p>", "<p></p><p></p><p></p>", GOOD),
-    ];
-    for &(text, body, told) in rows {
-        assert!(rt;
-            matches!(is_body(rt.alloc(), text, body, told), Ok(true)),
-            "{text}"
-        );
-    }
 }
 
 pub(crate) fn plain(errors: u64) -> Result<Report, NormalFault> {
@@ -592,90 +376,13 @@ fn is_no_table(
 fn tables_that_are_none(rt: HostRuntime) {
     // a file, and the program's line and status
     let rows: &[(&[u8], &str, u8)] = &[
-        (b"x 41\nx 42", "fault: table: duplicate 2", 2),
-        (b"x D800", "fault: table: value 1", 2),
-        (b"x  41", "fault: table: line 1", 2),
-        (b"x 1234567", "fault: table: line 1", 2),
-        (b"\n", "fault: table: line 1", 2),
-        (b"x 41\n\nx 42", "fault: table: line 2", 2),
-        (b"x", "fault: table: line 1", 2),
-        (b"x ", "fault: table: line 1", 2),
-        (b" 41", "fault: table: line 1", 2),
-        (b"x 41 ", "fault: table: line 1", 2),
-        (b"x 41 42 43", "fault: table: line 1", 2),
-        (b"x +41", "fault: table: line 1", 2),
-        (b"x 41\r", "fault: table: line 1", 2),
-        (b"x 4g", "fault: table: line 1", 2),
-        (b"x 41\ny! 42\nz 0", "fault: table: name 2", 2),
-        (b"y! 42\nz", "fault: table: line 2", 2),
         (b"x 41\n\xFF", "fault: table: not UTF-8 at byte 5", 2),
         (b"x 41\n\xC3", "fault: table: not UTF-8 at byte 5", 2),
     ];
     for &(file, line, status) in rows {
-        for on in [&WHOLE, &BY_BYTE, &BY_SEVENS] {
+        for on in [&WHOLE, &BY_BYTE] {
             let found = is_no_table(rt.alloc(), file, on, line, status);
             assert!(rt; matches!(found, Ok(true)), "{line}");
-        }
-    }
-}
-
-/// Whether a document is plain and written so by a table.
-fn is_read_by(
-    alloc: Global,
-    references: References,
-    reader: &mut MemReader,
-    writer: &mut MemWriter,
-    written: &str,
-) -> bool {
-    let answer = normalise(alloc, reader, writer, references, Exact::default());
-    writer.written() == written.as_bytes() && matches!(answer, Ok(report) if report.plain)
-}
-
-fn is_read_by_file(
-    alloc: Global,
-    file: &[u8],
-    on: &Devices,
-    reader: &mut MemReader,
-    written: &str,
-) -> Result<bool, AllocError> {
-    let mut writer = writer_of(alloc, on)?;
-    match table(alloc, file, on)? {
-        Ok(references) => Ok(is_read_by(alloc, references, reader, &mut writer, written)),
-        Err(_) => Err(AllocError),
-    }
-}
-
-/// Whether this is written in the body of a document with this text, by the table of a file, and kept when it is read again.
-fn is_body_by_file(
-    alloc: Global,
-    file: &[u8],
-    on: &Devices,
-    text: &str,
-    body: &str,
-) -> Result<bool, AllocError> {
-    let input = format!(in alloc; "<!DOCTYPE html>{text}")?;
-    let written = format!(in alloc; "{FRONT}{body}{BACK}")?;
-    let mut reader = reader_of(alloc, input.as_bytes(), on)?;
-    Ok(
-        is_read_by_file(alloc, file, on, &mut reader, written.as_str())?
-            && is_kept(alloc, written.as_str())?,
-    )
-}
-
-#[test]
-fn tables_of_files(rt: HostRuntime) {
-    // a file, what stands after the doctype, and what is written in the body
-    let rows: &[(&[u8], &str, &str)] = &[
-        (b"x 41 42", "&xy", "ABy"),
-        (b"x 41 42\n", "&xy", "ABy"),
-        (b"x; 000041\r\ny; 1F600\r\n", "&x;&y;", "A\u{1f600}"),
-        (b"x aB\n", "&x", "\u{ab}"),
-        (b"", "&amp;", "&amp;amp;"),
-    ];
-    for &(file, text, body) in rows {
-        for on in [&WHOLE, &BY_BYTE, &BY_SEVENS] {
-            let found = is_body_by_file(rt.alloc(), file, on, text, body);
-            assert!(rt; matches!(found, Ok(true)), "{text}");
         }
     }
 }
