@@ -137,7 +137,8 @@ impl Serializer for EventList {
 ///
 /// Errors: [`SerializeFault::Memory`], also where a text has more bytes than four bytes can count.
 pub fn tree_bytes(alloc: Global, forest: &Forest, id: NodeId) -> Result<Vec<u8>, SerializeFault>
-    ensures { IfOk result (λ bytes. bytes.items ≡ all_event_bytes (calls_of (walked forest.now id (ChildrenOnly None)))) }
+    ensures ok { IfOk result (λ bytes. bytes.items ≡ all_event_bytes (calls_of (walked forest.now id (ChildrenOnly None)))) }
+    ensures fault { IfErr result (λ fault. fault ≡ Memory) }
 {
     let mut list = EventList {
         bytes: Vec::new(alloc),

@@ -1,6 +1,6 @@
 //! What is read out of a tree: where it leads, the text that it shows, and the tree itself line by line.
 //!
-//! Tests: `pages_tests`.
+//! Tests: `conformance`.
 #![tactic(auto)]
 
 mod lines;

@@ -1,6 +1,6 @@
 //! A forest of nodes in memory, which a parser builds through the interface of trees.
 //!
-//! Tests: `src/tests`, which need private items.
+//! Tests: `html_forest_tests`.
 #![tactic(auto)]
 
 mod children;
@@ -19,6 +19,3 @@ pub use children::Children;
 pub use forest::Forest;
 pub use node::{AttributesRef, NodeData, NodeId, TextRef};
 pub use walk::ForestNode;
-
-#[cfg(test)]
-mod tests;

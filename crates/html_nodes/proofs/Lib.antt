@@ -1,4 +1,4 @@
-mod Levels
+pub mod Levels
 pub mod Walking
-mod Distinct
+pub mod Distinct
 mod Keeping

@@ -166,7 +166,8 @@ impl Serializer for Keeper {
 
 // All that a serializer is told of what stands in a node.
 fn told_below(alloc: Global, forest: &Forest, id: NodeId) -> Result<Vec<SeenCall>, SerializeFault>
-    ensures { IfOk result (λ made. made.items ≡ all_told (calls_of (walked forest.now id (ChildrenOnly None)))) }
+    ensures ok { IfOk result (λ made. made.items ≡ all_told (calls_of (walked forest.now id (ChildrenOnly None)))) }
+    ensures fault { IfErr result (λ fault. fault ≡ Memory) }
 {
     let mut keeper = Keeper {
         alloc,
@@ -182,6 +183,8 @@ fn told_below(alloc: Global, forest: &Forest, id: NodeId) -> Result<Vec<SeenCall
 /// identifiers of doctypes are not told.
 ///
 /// Takes memory for what is told of both.
+///
+/// Errors: [`SerializeFault::Memory`].
 pub fn are_told_alike(
     alloc: Global,
     first: &Forest,
@@ -189,8 +192,9 @@ pub fn are_told_alike(
     second: &Forest,
     second_top: NodeId,
 ) -> Result<bool, SerializeFault>
-    ensures { IfOk result (λ alike. Decides alike
+    ensures ok { IfOk result (λ alike. Decides alike
         (calls_of (walked first.now first_top (ChildrenOnly None)) ≡ calls_of (walked second.now second_top (ChildrenOnly None)))) }
+    ensures fault { IfErr result (λ fault. fault ≡ Memory) }
 {
     let first = told_below(alloc, first, first_top)?;
     let second = told_below(alloc, second, second_top)?;

@@ -1,7 +1,7 @@
 //! Deep and misnested pages, and text of a table in many pieces: whole and in single characters they make one document, in which each node
 //! stands under one parent at most.
 
-use crate::parsing::{document_of, opts};
+use crate::parsing::document_of;
 use html_forest::{Forest, ForestNode, NodeId};
 use html_serialize::{SerializeOpts, serialize};
 use markup::devices::MemWriter;
@@ -64,7 +64,7 @@ fn written_of(
     alloc: Global,
     pieces: Vec<String>,
 ) -> Result<MemWriter, ParseFault> {
-    let mut forest = document_of(alloc, opts((false, false)), pieces)?;
+    let mut forest = document_of(alloc, pieces)?;
     let id = forest.get_document();
     assert_one_parent(rt, alloc, &forest, id)?;
     let mut writer = MemWriter::new(alloc, ROOM, usize::MAX, None, false)?;
@@ -110,7 +110,7 @@ fn spaced_table(alloc: Global) -> Result<Vec<String>, ParseFault> {
 fn text_of_a_table_is_kept_whole(rt: HostRuntime) -> Result<(), Fail> {
     let alloc = rt.alloc();
     let pieces = spaced_table(alloc)?;
-    let mut forest = document_of(alloc, opts((false, false)), pieces)?;
+    let mut forest = document_of(alloc, pieces)?;
     assert!(rt; forest.is_plain()?);
     let written = written_of(&rt, alloc, spaced_table(alloc)?)?;
     let spaces = " ".repeat(alloc, TIMES)?;

@@ -11,8 +11,6 @@ mod deep;
 #[cfg(test)]
 mod direct;
 #[cfg(test)]
-mod documents;
-#[cfg(test)]
 mod feeding;
 #[cfg(test)]
 mod fragments;
@@ -22,7 +20,5 @@ mod hooks;
 mod listing;
 #[cfg(test)]
 mod memory;
-#[cfg(test)]
-mod modes;
 #[cfg(test)]
 mod parsing;

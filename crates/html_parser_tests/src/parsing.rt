@@ -1,5 +1,4 @@
 //! Texts by a parser into a forest, and what is written of that.
-ghost use Rattle.std.specs.Prelude.{◌≡◌, None};
 ghost use Rattle.html_tokenizer.specs.Calls.{IsReadyIf, refusal_of};
 ghost use Rattle.html_parser.specs.Documents.{builder};
 ghost use Rattle.html_parser.specs.Read.{stopped_by};
@@ -7,36 +6,11 @@ ghost use Rattle.html_parser.specs.Read.{stopped_by};
 use html_forest::{Forest, ForestNode, NodeId};
 use html_parser::{ParseOpts, Parser, parse_document};
 use html_serialize::{SerializeOpts, serialize};
-use html_tokenizer::{References, TokenizerOpts};
-use html_tree_builder::TreeBuilderOpts;
+use html_tokenizer::References;
 use markup::devices::MemWriter;
 use markup::{ParseFault, SerializeFault, TreeSink};
 use std::alloc::Global;
 use std::process::Abort;
-
-/// How exactly errors are told: by the tokenizer, and by the tree builder.
-pub(crate) const EXACT_ERRORS: &[(bool, bool)] = &[
-    (false, false),
-    (false, true),
-    (true, false),
-    (true, true),
-];
-
-/// Options that tell errors so.
-pub(crate) fn opts(exact_errors: (bool, bool)) -> ParseOpts
-    ensures { result.tokenizer.initial_state ≡ None }
-{
-    ParseOpts {
-        tokenizer: TokenizerOpts {
-            exact_errors: exact_errors.0,
-            ..TokenizerOpts::default()
-        },
-        tree_builder: TreeBuilderOpts {
-            exact_errors: exact_errors.1,
-            ..TreeBuilderOpts::default()
-        },
-    }
-}
 
 /// The table that escaping needs.
 pub(crate) fn five(alloc: Global) -> Result<References, ParseFault> {
@@ -61,15 +35,9 @@ pub(crate) fn take_all<Sink: TreeSink + Drop>(
 }
 
 /// The document of these pieces.
-pub(crate) fn document_of(
-    alloc: Global,
-    opts: ParseOpts,
-    pieces: Vec<String>,
-) -> Result<Forest, ParseFault>
-    requires { opts.tokenizer.initial_state ≡ None }
-{
+pub(crate) fn document_of(alloc: Global, pieces: Vec<String>) -> Result<Forest, ParseFault> {
     let forest = Forest::new(alloc)?;
-    let parser = parse_document(alloc, forest, opts, five(alloc)?)?;
+    let parser = parse_document(alloc, forest, ParseOpts::default(), five(alloc)?)?;
     take_all(parser, pieces)
 }
 

@@ -8,10 +8,6 @@ mod adoption;
 #[cfg(test)]
 mod classes;
 #[cfg(test)]
-mod doctypes;
-#[cfg(test)]
-mod encodings;
-#[cfg(test)]
 mod foreign;
 #[cfg(test)]
 mod formatting;

@@ -6,12 +6,8 @@ mod errors;
 #[cfg(test)]
 mod events;
 #[cfg(test)]
-mod extracts;
-#[cfg(test)]
 mod nodes;
 #[cfg(test)]
 mod pages;
-#[cfg(test)]
-mod read_back;
 #[cfg(test)]
 mod references;

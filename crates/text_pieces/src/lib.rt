@@ -5,4 +5,4 @@ pub mod page;
 pub mod pieces;
 
 pub use page::page_of;
-pub use pieces::{PIECE, as_given, in_characters, in_two, piece_of, split_piece};
+pub use pieces::{PIECE, as_given, in_characters, in_two, piece_of, pieces_of, split_piece};

@@ -3,6 +3,7 @@ ghost use Rattle.std.specs.Prelude.{◌≡◌, ◌++◌, ◌<◌, length};
 ghost use Rattle.std.specs.Str.{chars};
 
 use std::alloc::{AllocError, Global};
+use std::mem;
 
 /// The pieces, as they are given.
 pub fn as_given(alloc: Global, pieces: &[&str]) -> Result<Vec<String>, AllocError> {
@@ -45,6 +46,36 @@ fn push_characters(alloc: Global, pieces: &mut Vec<String>, text: &str) -> Resul
     for c in text.chars() {
         pieces.push(piece_of(alloc, c)?)?;
     }
+    Ok(())
+}
+
+/// A text in pieces of so many characters; in one piece for 0.
+pub fn pieces_of(alloc: Global, text: &str, count: usize) -> Result<Vec<String>, AllocError> {
+    if count == 0 {
+        return as_given(alloc, &[text]);
+    }
+    let mut pieces = Vec::new(alloc);
+    push_pieces(alloc, &mut pieces, text, count)?;
+    Ok(pieces)
+}
+
+fn push_pieces(
+    alloc: Global,
+    pieces: &mut Vec<String>,
+    text: &str,
+    count: usize,
+) -> Result<(), AllocError> {
+    let mut piece = String::new(alloc);
+    let mut left = count;
+    for c in text.chars() {
+        if left == 0 {
+            pieces.push(mem::replace(&mut piece, String::new(alloc)))?;
+            left = count;
+        }
+        piece.push(c)?;
+        left = left.saturating_sub(1);
+    }
+    pieces.push(piece)?;
     Ok(())
 }
 

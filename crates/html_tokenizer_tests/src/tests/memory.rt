@@ -5,7 +5,7 @@ ghost use Rattle.html_tokenizer.specs.Calls.{IsReadyIf, refusal};
 use super::calls::feed_text;
 use super::refusing::Refusing;
 use super::words::in_words;
-use super::{PAGE, Row, Setting, exact, feed_all, list_of, put, refuses, see, tokenizer_over};
+use super::{Row, feed_all, list_of, put, refuses, see, tokenizer_over};
 use html_tokenizer::{BufferQueue, Listed, TokenSink, Tokenizer};
 use markup::ParseFault;
 use std::alloc::Global;
@@ -46,27 +46,27 @@ fn feed_or_fail<S: TokenSink>(
     answer
 }
 
-/// Reads what stands in the input and its end over a sink that is lent.
+/// Reads what stands in the input and its end over a borrowed sink.
 fn read_or_fail<S: TokenSink>(
     alloc: Global,
     sink: &mut S,
-    setting: Setting,
+    exact_errors: bool,
     input: &mut BufferQueue,
 ) -> Result<(), ParseFault>
     requires { S.is_sound (S.view sink.old) }
 {
-    let mut tokenizer = tokenizer_over(alloc, sink, setting)?;
+    let mut tokenizer = tokenizer_over(alloc, sink, exact_errors)?;
     let answer = feed_or_fail(&mut tokenizer, input);
     drop(tokenizer);
     answer
 }
 
 /// What a list is told of a text and its end.
-fn read_text(alloc: Global, setting: Setting, text: &str) -> Result<Listed, ParseFault> {
+fn read_text(alloc: Global, exact_errors: bool, text: &str) -> Result<Listed, ParseFault> {
     let mut input = BufferQueue::new();
     put(alloc, &mut input, text)?;
-    let mut sink = list_of(alloc, setting);
-    read_or_fail(alloc, &mut sink, setting, &mut input)?;
+    let mut sink = list_of(alloc);
+    read_or_fail(alloc, &mut sink, exact_errors, &mut input)?;
     Ok(sink)
 }
 
@@ -79,8 +79,8 @@ fn are_words_or_memory(alloc: Global, sink: &Listed, want: &str) -> bool {
 }
 
 /// Whether a text tells its tokens, or memory was refused.
-fn is_told_or_memory(alloc: Global, setting: Setting, row: Row) -> bool {
-    match read_text(alloc, setting, row.0) {
+fn is_told_or_memory(alloc: Global, exact_errors: bool, row: Row) -> bool {
+    match read_text(alloc, exact_errors, row.0) {
         Ok(sink) => are_words_or_memory(alloc, &sink, row.1),
         Err(fault) => fault == ParseFault::Memory,
     }
@@ -88,7 +88,7 @@ fn is_told_or_memory(alloc: Global, setting: Setting, row: Row) -> bool {
 
 /// The same whether errors of characters are told or not.
 fn is_either_told_or_memory(alloc: Global, row: Row) -> bool {
-    is_told_or_memory(alloc, PAGE, row) && is_told_or_memory(alloc, exact(PAGE), row)
+    is_told_or_memory(alloc, false, row) && is_told_or_memory(alloc, true, row)
 }
 
 const ROWS: &[Row] = &[
@@ -167,7 +167,7 @@ fn is_refused<S: TokenSink + Drop>(
 ) -> bool
     requires { S.is_sound (S.view sink) }
 {
-    let Ok(mut tokenizer) = tokenizer_over(alloc, sink, PAGE) else {
+    let Ok(mut tokenizer) = tokenizer_over(alloc, sink, false) else {
         return false;
     };
     let is_right = passes_on(alloc, &mut tokenizer, text, at_end, fault);

@@ -3,7 +3,7 @@ ghost use Rattle.html_tokenizer.specs.Calls.{IsReadyIf, refusal};
 
 use super::sinks::Naming;
 use super::words::{Spoken, is_in_words};
-use super::{PAGE, list_of, put, see, tokenizer_over};
+use super::{list_of, put, see, tokenizer_over};
 use html_tokenizer::{BufferQueue, TokenSink, Tokenizer};
 use markup::{ParseFault, TokenizerResult};
 use std::alloc::Global;
@@ -202,7 +202,7 @@ fn is_read_on<S: TokenSink<Handle = u64> + Spoken>(
 fn is_row<S: TokenSink<Handle = u64> + Spoken + Drop>(alloc: Global, sink: S, row: &Row) -> bool
     requires { S.is_sound (S.view sink) }
 {
-    let Ok(mut tokenizer) = tokenizer_over(alloc, sink, PAGE) else {
+    let Ok(mut tokenizer) = tokenizer_over(alloc, sink, false) else {
         return false;
     };
     let is_right = is_read_on(alloc, &mut tokenizer, &mut BufferQueue::new(), row);
@@ -211,7 +211,7 @@ fn is_row<S: TokenSink<Handle = u64> + Spoken + Drop>(alloc: Global, sink: S, ro
 }
 
 fn is_script(alloc: Global, row: &Row) -> bool {
-    is_row(alloc, list_of(alloc, PAGE), row)
+    is_row(alloc, list_of(alloc), row)
 }
 
 #[test]

@@ -1,4 +1,4 @@
-//! A sink that names encodings, and keeps text and the codes of errors.
+//! A sink that names encodings, and keeps text.
 ghost use Rattle.std.specs.Prelude.{◌≡◌, ⊤, true, IfOk, IfErr};
 ghost use Rattle.markup.specs.declared.fault.ParseFault.TheVariants.{Memory};
 ghost use Rattle.html_tokens.specs.Sink.{numbered, fails, tells_failed, Counts, Gives, OnRefused};
@@ -9,15 +9,13 @@ use html_tokenizer::{Token, TokenSink, TokenSinkResult};
 use markup::{ParseFault, Text};
 use std::alloc::{AllocError, Global};
 
-/// A sink to which each tag names an encoding. It keeps the text and the codes of the errors that it is told.
+/// A sink to which each tag names an encoding. It keeps the text that it receives.
 #[derive(Drop)]
 pub struct Naming {
     alloc: Global,
     asks_cdata: bool,
     // The text that was told, in one.
     text: Text,
-    /// The codes of the errors that were told, each after a space.
-    pub codes: Text,
     errors: u64,
     has_failed: bool,
 }
@@ -29,22 +27,12 @@ impl Naming {
             alloc,
             asks_cdata,
             text: Text::empty(alloc),
-            codes: Text::empty(alloc),
             errors: 0,
             has_failed: false,
         }
     }
 
-    // Keeps a code.
-    fn keep_code(&mut self, code: &str) -> Result<(), ParseFault>
-        ensures fault { IfErr result (λ fault. fault ≡ Memory) }
-        ensures kept { self.new ≡ record self.old { codes = self.new.codes } }
-    {
-        self.codes.push(' ')?;
-        self.codes.push_str(code)
-    }
-
-    // Keeps the text or the code of a token.
+    // Keeps the text of a token.
     fn keep(&mut self, token: &Token) -> Result<(), ParseFault>
         ensures counts { Counts true token.now result self.old.errors self.new.errors }
         ensures fault { IfErr result (λ fault. fault ≡ Memory) }
@@ -53,9 +41,9 @@ impl Naming {
     {
         match token {
             Token::CharacterTokens(text) => self.text.append(text),
-            Token::ParseError(code) => {
+            Token::ParseError(_) => {
                 self.errors = self.errors.saturating_add(1);
-                self.keep_code(code)
+                Ok(())
             }
             _ => Ok(()),
         }

@@ -1,0 +1,7 @@
+use Rattle.html_tokenizer.specs.Calls.{IsReadyIf, refusal}
+use Rattle.conformance.proofs.tokens.feed_piece.Given as goal
+
+abbrev pub invariant-pauses : goal.invariant-pauses
+invariant-pauses g l =
+    let m = g.S.TokenSink in
+    IsReadyIf m (refusal l.tokenizer.stream) l.tokenizer

@@ -1,0 +1,8 @@
+use Rattle.html_tokenizer.specs.Calls.{IsReadyIf, refusal_of}
+use Rattle.html_parser.specs.Documents.{builder}
+use Rattle.html_parser.specs.Read.{stopped_by}
+use Rattle.conformance.proofs.trees.take_all.Given as goal
+
+abbrev pub invariant-loop-piece : goal.invariant-loop-piece
+invariant-loop-piece g l = IsReadyIf (builder g.Sink.TreeSink)
+    (stopped_by l.parser.has_failed (refusal_of l.parser.tokenizer)) l.parser.tokenizer

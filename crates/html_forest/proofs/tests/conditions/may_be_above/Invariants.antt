@@ -1,5 +1,0 @@
-use Rattle.markup.specs.Forest.{Above}
-use Rattle.html_forest.proofs.tests.conditions.may_be_above.Given as goal
-
-abbrev pub invariant-loop-i : goal.invariant-loop-i
-invariant-loop-i l = Above l.forest l.a l.fn.node → Above l.forest l.a l.at
