@@ -136,6 +136,12 @@ SHAPES = [
     ("</body> below <optgroup>", 5_000, lambda count: "<optgroup>" * count + "</body>" * count),
     ("<b> of other attributes", 5_000, lambda count: "".join(f"<b a{n}>" for n in range(count))),
     ("<b>x<i></b></i><p></p> below <div>", 5_000, lambda count: "<div>" * count + "<b>x<i></b></i><p></p>" * count),
+    ("<x> below <b>", 8_000, lambda count: "<b>" + "<x>" * count),
+    ("y<br> below <x> below <b>", 8_000, lambda count: "<b>" + "<x>" * count + "y<br>" * count),
+    ("<a> below <b>", 8_000, lambda count: "<b>" * count + "<a>" * count),
+    ("<a> below <template>", 4_000, lambda count: "<template>" * count + "<a>" * count),
+    ("<p><b></p>x below <div>", 2_000, lambda count: "<div>" * count + "<p><b></p>x" * count),
+    ("letters in a frameset, bytes", 1_000_000, lambda size: "<frameset>" + "letters" * (size // 7)),
 ]
 
 
