@@ -207,7 +207,7 @@ pub elements-cleaned : (policy : Policy) (trees : Trees) (breaks : ℕ) (s : Sta
     → IfOk (telling step breaks s (pieces_of (cleaned policy trees))) (λ after. IsStateAllowed (with_cleaned_origin policy s) after)
 elements-cleaned policy trees breaks s usable = by (telling step breaks s (pieces_of (cleaned policy trees)))
     (pieces-origins policy trees breaks s usable) where
-  by : {E : Type 0} (r : Result State E) → IfOk r (λ after. IsStateAllowed (with_kept_origin (is_kept_element policy) s) after)
-      → IfOk r (λ after. IsStateAllowed (with_cleaned_origin policy s) after)
-  by (Ok q) h = state policy s q h
-  by (Err e) h = tt
+      by : {E : Type 0} (r : Result State E) → IfOk r (λ after. IsStateAllowed (with_kept_origin (is_kept_element policy) s) after)
+          → IfOk r (λ after. IsStateAllowed (with_cleaned_origin policy s) after)
+      by (Ok q) h = state policy s q h
+      by (Err e) h = tt

@@ -80,5 +80,5 @@ pieces-usable policy trees breaks s usable = ok-map (IsGood policy s) Usable _ (
 
 pub pieces-origins : (policy : Policy) (trees : Trees) (breaks : ℕ) (s : State) → Usable s
     → IfOk (telling step breaks s (pieces_of (cleaned policy trees)))
-        (λ after. IsStateAllowed (with_kept_origin (is_kept_element policy) s) after)
+    (λ after. IsStateAllowed (with_kept_origin (is_kept_element policy) s) after)
 pieces-origins policy trees breaks s usable = ok-map (IsGood policy s) _ _ (λ q h. h.1) (good policy s trees breaks usable)

@@ -62,7 +62,13 @@ fn run(rt: &HostRuntime) -> Result<Report, ProgramFault> {
     let mut output = StdTarget::new(buffer);
     let mut input = StdSource::new(rt.stdin());
     let files = Files { rt };
-    let report = normalised(rt.alloc(), words.as_slice(), &files, &mut input, &mut output)?;
+    let report = normalised(
+        rt.alloc(),
+        words.as_slice(),
+        &files,
+        &mut input,
+        &mut output,
+    )?;
     match output.flush() {
         Ok(()) => Ok(report),
         Err(_) => Err(ProgramFault::Normal(NormalFault::Write)),

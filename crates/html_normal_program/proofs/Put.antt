@@ -20,10 +20,12 @@ pub put-then : (a b : List ℕ) (old mid new : Option (List ℕ)) (failed : Bool
 put-then a b old mid new false h k = k ∙ ap (λ known. append_known known b) h ∙ append_known-append old a b
 put-then a b old mid new true h k =
     let n = k.0 in
-    let bound : n ≤ length b = k.1 in
-    (length a + n, rw (length-append a b) (omega (arith, bound)),
-    k.2 ∙ ap (λ known. append_known known (take n b)) h ∙ append_known-append old a (take n b)
-    ∙ ap (append_known old) (sym (take-append-add a b n)))
+    let bound : n ≤ length b = k.1 in (
+      length a + n,
+      rw (length-append a b) (omega (arith, bound)),
+      k.2 ∙ ap (λ known. append_known known (take n b)) h ∙ append_known-append old a (take n b)
+          ∙ ap (append_known old) (sym (take-append-add a b n)),
+    )
 
 -- nothing is written after a failed write
 pub put-ended : (a b : List ℕ) (old new : Option (List ℕ)) → IsPut a old new true → IsPut (a ++ b) old new true

@@ -20,7 +20,11 @@ fn put<Errors: Target>(errors: &mut Errors, words: &str) -> Result<(), DeviceFau
 }
 
 /// Writes words, and a number after them.
-fn put_numbered<Errors: Target>(errors: &mut Errors, words: &str, number: u64) -> Result<(), DeviceFault>
+fn put_numbered<Errors: Target>(
+    errors: &mut Errors,
+    words: &str,
+    number: u64,
+) -> Result<(), DeviceFault>
     ensures put { IsPut (words.now ++ decimal number) (Errors.written errors.old) (Errors.written errors.new) (is_err result) }
     ensures counted { Errors.failures errors.new ≡ count_after (is_err result) (Errors.failures errors.old) }
 {
@@ -66,7 +70,10 @@ fn put_report<Errors: Target>(errors: &mut Errors, report: &Report) -> Result<()
 }
 
 /// Writes what is wrong with the table of references.
-fn put_table_fault<Errors: Target>(errors: &mut Errors, fault: TableFileFault) -> Result<(), DeviceFault>
+fn put_table_fault<Errors: Target>(
+    errors: &mut Errors,
+    fault: TableFileFault,
+) -> Result<(), DeviceFault>
     ensures put { IsPut (table_line fault) (Errors.written errors.old) (Errors.written errors.new) (is_err result) }
     ensures counted { Errors.failures errors.new ≡ count_after (is_err result) (Errors.failures errors.old) }
 {
@@ -92,7 +99,10 @@ fn put_table_fault<Errors: Target>(errors: &mut Errors, fault: TableFileFault) -
 }
 
 /// Writes why a document was not normalised.
-fn put_normal_fault<Errors: Target>(errors: &mut Errors, fault: NormalFault) -> Result<(), DeviceFault>
+fn put_normal_fault<Errors: Target>(
+    errors: &mut Errors,
+    fault: NormalFault,
+) -> Result<(), DeviceFault>
     ensures put { IsPut (fault_line fault) (Errors.written errors.old) (Errors.written errors.new) (is_err result) }
     ensures counted { Errors.failures errors.new ≡ count_after (is_err result) (Errors.failures errors.old) }
 {

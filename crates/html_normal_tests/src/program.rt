@@ -1,10 +1,10 @@
 //! The program `html_normal`: what it writes to standard output and to standard error, and its status, by its words, a file and its input.
 
+ghost use Rattle.std.specs.Prelude.{None};
+
 use devices::{MemReader, MemWriter};
 use html_normal_program::{Opener, normalised, tell};
 use std::alloc::{AllocError, Global};
-
-ghost use Rattle.std.specs.Prelude.{None};
 
 /// A disk with one file, of which a read may fail.
 #[derive(Drop)]
@@ -56,7 +56,10 @@ type Seen = (&'static str, &'static str, u8);
 
 const ROWS: &[(Run, Seen)] = &[
     (
-        Run { input: b"<!DOCTYPE html><p>a&lt;&eacute;", ..PLAIN },
+        Run {
+            input: b"<!DOCTYPE html><p>a&lt;&eacute;",
+            ..PLAIN
+        },
         (
             "<!DOCTYPE html><html><head></head><body><p>a&lt;&amp;eacute;</p></body></html>",
             "plain=yes quirks=no errors=1\n",
@@ -64,7 +67,12 @@ const ROWS: &[(Run, Seen)] = &[
         ),
     ),
     (
-        Run { words: &["t"], file: b"eacute; E9\nlt; 3C\n", input: b"<!DOCTYPE html>&eacute;&lt;&gt;", ..PLAIN },
+        Run {
+            words: &["t"],
+            file: b"eacute; E9\nlt; 3C\n",
+            input: b"<!DOCTYPE html>&eacute;&lt;&gt;",
+            ..PLAIN
+        },
         (
             "<!DOCTYPE html><html><head></head><body>\u{e9}&lt;&amp;gt;</body></html>",
             "plain=yes quirks=no errors=1\n",
@@ -72,7 +80,10 @@ const ROWS: &[(Run, Seen)] = &[
         ),
     ),
     (
-        Run { input: b"<p>a<table><p>b", ..PLAIN },
+        Run {
+            input: b"<p>a<table><p>b",
+            ..PLAIN
+        },
         (
             "<html><head></head><body><p>a<p>b</p><table></table></p></body></html>",
             "plain=no quirks=yes errors=4\n",
@@ -90,18 +101,100 @@ const ROWS: &[(Run, Seen)] = &[
             0,
         ),
     ),
-    (Run { words: &["t", "u"], ..PLAIN }, ("", "fault: usage: html_normal [TABLE]\n", 2)),
-    (Run { words: &["none"], ..PLAIN }, ("", "fault: read\n", 3)),
-    (Run { words: &["t"], file: b"lt; 3C", file_fails: Some(1), ..PLAIN }, ("", "fault: read\n", 3)),
-    (Run { words: &["t"], file: b"lt; 3C\n\xFF", ..PLAIN }, ("", "fault: table: not UTF-8 at byte 7\n", 2)),
-    (Run { words: &["t"], file: b"lt; 3C\nlt;\n", ..PLAIN }, ("", "fault: table: line 2\n", 2)),
-    (Run { words: &["t"], file: b"l! 3C\n", ..PLAIN }, ("", "fault: table: name 1\n", 2)),
-    (Run { words: &["t"], file: b"lt; 3C\nlt; 3E\n", ..PLAIN }, ("", "fault: table: duplicate 2\n", 2)),
-    (Run { words: &["t"], file: b"lt; D800\n", ..PLAIN }, ("", "fault: table: value 1\n", 2)),
-    (Run { input: b"ab\xFF", ..PLAIN }, ("", "fault: not UTF-8 at byte 2\n", 1)),
-    (Run { input: b"ab", input_fails: Some(1), ..PLAIN }, ("", "fault: read\n", 3)),
-    (Run { input: b"<!DOCTYPE html>a", output_fails: Some(1), ..PLAIN }, ("", "fault: write\n", 3)),
-    (Run { input: b"ab\xFF", errors_fail: Some(1), ..PLAIN }, ("", "", 1)),
+    (
+        Run {
+            words: &["t", "u"],
+            ..PLAIN
+        },
+        ("", "fault: usage: html_normal [TABLE]\n", 2),
+    ),
+    (
+        Run {
+            words: &["none"],
+            ..PLAIN
+        },
+        ("", "fault: read\n", 3),
+    ),
+    (
+        Run {
+            words: &["t"],
+            file: b"lt; 3C",
+            file_fails: Some(1),
+            ..PLAIN
+        },
+        ("", "fault: read\n", 3),
+    ),
+    (
+        Run {
+            words: &["t"],
+            file: b"lt; 3C\n\xFF",
+            ..PLAIN
+        },
+        ("", "fault: table: not UTF-8 at byte 7\n", 2),
+    ),
+    (
+        Run {
+            words: &["t"],
+            file: b"lt; 3C\nlt;\n",
+            ..PLAIN
+        },
+        ("", "fault: table: line 2\n", 2),
+    ),
+    (
+        Run {
+            words: &["t"],
+            file: b"l! 3C\n",
+            ..PLAIN
+        },
+        ("", "fault: table: name 1\n", 2),
+    ),
+    (
+        Run {
+            words: &["t"],
+            file: b"lt; 3C\nlt; 3E\n",
+            ..PLAIN
+        },
+        ("", "fault: table: duplicate 2\n", 2),
+    ),
+    (
+        Run {
+            words: &["t"],
+            file: b"lt; D800\n",
+            ..PLAIN
+        },
+        ("", "fault: table: value 1\n", 2),
+    ),
+    (
+        Run {
+            input: b"ab\xFF",
+            ..PLAIN
+        },
+        ("", "fault: not UTF-8 at byte 2\n", 1),
+    ),
+    (
+        Run {
+            input: b"ab",
+            input_fails: Some(1),
+            ..PLAIN
+        },
+        ("", "fault: read\n", 3),
+    ),
+    (
+        Run {
+            input: b"<!DOCTYPE html>a",
+            output_fails: Some(1),
+            ..PLAIN
+        },
+        ("", "fault: write\n", 3),
+    ),
+    (
+        Run {
+            input: b"ab\xFF",
+            errors_fail: Some(1),
+            ..PLAIN
+        },
+        ("", "", 1),
+    ),
 ];
 
 /// Whether a run of the program is seen so.
@@ -110,18 +203,31 @@ fn is_seen(alloc: Global, run: &Run, seen: &Seen) -> Result<bool, AllocError> {
     for &word in run.words {
         words.push(String::from_str(alloc, word)?)?;
     }
-    let disk = Disk { alloc, name: "t", bytes: run.file, fails_at: run.file_fails };
+    let disk = Disk {
+        alloc,
+        name: "t",
+        bytes: run.file,
+        fails_at: run.file_fails,
+    };
     let mut input = MemReader::new(Vec::from_slice(alloc, run.input)?, 3, run.input_fails);
     let mut output = MemWriter::new(alloc, 200, 5, run.output_fails, false)?;
     let mut errors = MemWriter::new(alloc, 200, 4, run.errors_fail, false)?;
     let outcome = normalised(alloc, words.as_slice(), &disk, &mut input, &mut output);
     let status = tell(&mut errors, &outcome);
-    Ok(output.written() == seen.0.as_bytes() && errors.written() == seen.1.as_bytes() && status == seen.2)
+    Ok(
+        output.written() == seen.0.as_bytes()
+            && errors.written() == seen.1.as_bytes()
+            && status == seen.2,
+    )
 }
 
 #[test]
 fn runs_of_the_program(rt: HostRuntime) {
     for (run, seen) in ROWS {
-        assert!(rt; matches!(is_seen(rt.alloc(), run, seen), Ok(true)), "{}", seen.1);
+        assert!(rt;
+            matches!(is_seen(rt.alloc(), run, seen), Ok(true)),
+            "{}",
+            seen.1
+        );
     }
 }

@@ -284,17 +284,42 @@ module _ (a : Allowed) (known : a.namespace Html) where
   act-from SaveMode t s g n is = record { elements = is.elements; listed = is.listed; opened = is.opened; context = is.context }
   act-from RestoreMode t s g n is = record { elements = is.elements; listed = is.listed; opened = is.opened; context = is.context }
   act-from ResetMode t s g n is = record { elements = is.elements; listed = is.listed; opened = is.opened; context = is.context }
-  act-from (PushTemplateMode mode) t s g n is = record { elements = is.elements; listed = is.listed; opened = is.opened; context =
-      is.context }
-  act-from (SetTemplateMode mode) t s g n is = record { elements = is.elements; listed = is.listed; opened = is.opened; context =
-      is.context }
+  act-from (PushTemplateMode mode) t s g n is = record {
+    elements = is.elements;
+    listed = is.listed;
+    opened = is.opened;
+    context =
+        is.context;
+  }
+  act-from (SetTemplateMode mode) t s g n is = record {
+    elements = is.elements;
+    listed = is.listed;
+    opened = is.opened;
+    context =
+        is.context;
+  }
   act-from PopTemplateMode t s g n is = record { elements = is.elements; listed = is.listed; opened = is.opened; context = is.context }
   act-from FramesetNotOk t s g n is = record { elements = is.elements; listed = is.listed; opened = is.opened; context = is.context }
-  act-from FramesetNotOkUnlessWhite t s g n is = record { elements = is.elements; listed = is.listed; opened = is.opened; context =
-      is.context }
+  act-from FramesetNotOkUnlessWhite t s g n is = record {
+    elements = is.elements;
+    listed = is.listed;
+    opened = is.opened;
+    context =
+        is.context;
+  }
   act-from IgnoreLineFeed t s g n is = record { elements = is.elements; listed = is.listed; opened = is.opened; context = is.context }
-  act-from EnableFosterParenting t s g n is = record { elements = is.elements; listed = is.listed; opened = is.opened; context =
-      is.context }
-  act-from DisableFosterParenting t s g n is = record { elements = is.elements; listed = is.listed; opened = is.opened; context =
-      is.context }
+  act-from EnableFosterParenting t s g n is = record {
+    elements = is.elements;
+    listed = is.listed;
+    opened = is.opened;
+    context =
+        is.context;
+  }
+  act-from DisableFosterParenting t s g n is = record {
+    elements = is.elements;
+    listed = is.listed;
+    opened = is.opened;
+    context =
+        is.context;
+  }
   act-from KeepText t s g n is = record { elements = is.elements; listed = is.listed; opened = is.opened; context = is.context }

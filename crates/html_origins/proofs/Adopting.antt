@@ -194,7 +194,7 @@ module _ (a : Allowed) (known : a.namespace Html) where
       (λ _. record { state = parse_error s; goes_on = false }) (λ _. adopt_open fe s))
       (unlisted-from fe (parse_error s) (error-from a s is))
       (choose-turned (not (in_scope set.DefaultScope (is_number fe.number) s.open_elems))
-          (record { state = parse_error s; goes_on = false })
+      (record { state = parse_error s; goes_on = false })
       (adopt_open fe s) (error-from a s is) (open-adopted fe s k is))
 
   turn-adopted : (name : List ℕ) (s : State) → IsStateAllowed a s → IsStateAllowed a (adoption_turn name s).state

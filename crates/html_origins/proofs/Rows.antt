@@ -180,7 +180,7 @@ module _ (a : Allowed) (roots : AreRootsAllowed a) where
       (λ h. or-then (bytes_eq name (codes "colgroup") && starts c (codes "col" ∷ [])) _ h
       (λ e. let p = and_parts (bytes_eq name (codes "colgroup")) (starts c (codes "col" ∷ [])) e in
       starting c (codes "col" ∷ []) t (λ t. MayCreate a Html name []) p.1 f k
-          (λ tag n s. by-name name (codes "colgroup") [] p.0 (s.colgroup n)))
+      (λ tag n s. by-name name (codes "colgroup") [] p.0 (s.colgroup n)))
       (λ h. or-then (bytes_eq name (codes "tbody") && starts c cells_and_rows) _ h
       (λ e. let p = and_parts (bytes_eq name (codes "tbody")) (starts c cells_and_rows) e in
       starting c cells_and_rows t (λ t. MayCreate a Html name []) p.1 f k (λ tag n s. by-name name (codes "tbody") [] p.0 (s.tbody n)))

@@ -154,7 +154,7 @@ module _ (a : Allowed) where
   unfolding process_end_tag_in_body
   generic-from name s is =
       choose-from (finds_generic (is_named name) s.open_elems)
-          (expect_to_close (is_named name) (generate_implied_end_except (is_named name) s))
+      (expect_to_close (is_named name) (generate_implied_end_except (is_named name) s))
       (parse_error s)
       (expect-from (is_named name) (generate_implied_end_except (is_named name) s) (except-from (is_named name) s is)) (error-from s is)
 
@@ -193,8 +193,13 @@ module _ (a : Allowed) where
 
   pub quirks-from : (mode : QuirksMode) → Keeps (set_quirks_mode mode)
   unfolding set_quirks_mode
-  quirks-from mode s is = record { elements = same-nodes s.forest is.elements _ _; listed = is.listed; opened = is.opened; context =
-      is.context }
+  quirks-from mode s is = record {
+    elements = same-nodes s.forest is.elements _ _;
+    listed = is.listed;
+    opened = is.opened;
+    context =
+        is.context;
+  }
 
   -- ELEMENTS COME
 
@@ -444,7 +449,7 @@ module _ (a : Allowed) where
   table_text-from : (text : List ℕ) → a.namespace Html → Keeps (insert_table_text text)
   table_text-from text known s is =
       choose-from (is_white text) (append_text text s) (set_foster_parenting false
-          (append_in_body text (set_foster_parenting true (parse_error s))))
+      (append_in_body text (set_foster_parenting true (parse_error s))))
       (text_put-from text s is)
       (foster-from false (append_in_body text (set_foster_parenting true (parse_error s)))
       (in_body-from text known (set_foster_parenting true (parse_error s)) (foster-from true (parse_error s) (error-from s is))))

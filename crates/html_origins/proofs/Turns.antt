@@ -127,7 +127,7 @@ none-among : {P : Type 0} (name : List ℕ) (names : List (List ℕ)) → list_a
     → is_among name names ≡ true → is_among name root_and_body ≡ true → P
 none-among name names h k n =
     absurd (true≢false (sym n ∙ not-true (is_among name root_and_body)
-        (among-all (λ name. not (is_among name root_and_body)) name names h k)))
+    (among-all (λ name. not (is_among name root_and_body)) name names h k)))
 
 never : {P : Type 0} (c : Class) (tag : Tag) → is_for_others c ≡ true → class_fits c (TagToken tag) ≡ true
     → is_among tag.name root_and_body ≡ true → P
@@ -254,8 +254,13 @@ module _ (a : Allowed) (roots : AreRootsAllowed a) (F : Fitting a) where
   line_feed-from b s is = record { elements = is.elements; listed = is.listed; opened = is.opened; context = is.context }
 
   hushed-from : Keeps a hushed
-  hushed-from s is = record { elements = same-nodes a s.forest is.elements _ _; listed = is.listed; opened = is.opened; context =
-      is.context }
+  hushed-from s is = record {
+    elements = same-nodes a s.forest is.elements _ _;
+    listed = is.listed;
+    opened = is.opened;
+    context =
+        is.context;
+  }
 
   module _ (t : Token) (from : IsTokenAllowed a t) where
     abbrev Uses : (InsertionMode → Token → State → Turn) → Type 0
@@ -284,7 +289,7 @@ module _ (a : Allowed) (roots : AreRootsAllowed a) (F : Fitting a) where
         → IsStateAllowed a (turn_by_row using r t s).state
     row-from using uses r m s fits is =
         let parts = and_parts (is_given r.on r.does && is_given_end r.on r.ends)
-            (is_adding_well r.does && is_used_well r r.ends) m.given_row in
+        (is_adding_well r.does && is_used_well r r.ends) m.given_row in
         let given = and_parts (is_given r.on r.does) (is_given_end r.on r.ends) parts.0 in
         let well = and_parts (is_adding_well r.does) (is_used_well r r.ends) parts.1 in
         concluded-from using uses r.ends r.on given.1 m.fit (current_number s.open_elems) (act r.does t s)

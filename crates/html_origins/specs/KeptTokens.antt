@@ -72,11 +72,16 @@ pub data KeptOrigin (kept : KeptTags) (s : State) : ℕ → QualName → List At
   Implied : (n : ℕ) → IsNew s n → (name : List ℕ) → is_among name implied_names ≡ true → KeptOrigin kept s n (element_name_of Html name) []
   WithAdded : (n : ℕ) (tag : List ℕ) (attributes others : List Attribute) → is_among tag root_and_body ≡ true → kept tag others ≡ true
       → KeptOrigin kept s n (element_name_of Html tag) attributes
-          → KeptOrigin kept s n (element_name_of Html tag) (with_missing attributes others)
+      → KeptOrigin kept s n (element_name_of Html tag) (with_missing attributes others)
 
 abbrev pub with_kept_origin : KeptTags → State → Allowed
-with_kept_origin kept s = record { first = node_count s.forest; element = KeptOrigin kept s; namespace = IsNamespaceOf s; adds = λ name
-    tag. name ≡ element_name_of Html tag }
+with_kept_origin kept s = record {
+  first = node_count s.forest;
+  element = KeptOrigin kept s;
+  namespace = IsNamespaceOf s;
+  adds = λ name
+      tag. name ≡ element_name_of Html tag;
+}
 
 -- what the rules become that are told these tokens
 abbrev pub after_tokens : List (Token × ℕ) → State → Result State Refusal

@@ -11,14 +11,14 @@ returns-then-not-is_fragment_name-clause-some c =
     sym c.loop-rule.invariant
     ∙ (dropped-more page_element c.args.rules.now c.loop-rule.rule-index c.rule-item.result c.loop-rule-test.true c.rule-item.is
     ∙ ap (λ b. cond b (page_element left) (Some c.rule-item.result.element))
-        (sym c.is_fragment_name.ensures ∙ c.if-not-is_fragment_name.true))
+    (sym c.is_fragment_name.ensures ∙ c.if-not-is_fragment_name.true))
 
 pub loop-rule-preserved : goal.loop-rule-preserved
 loop-rule-preserved c =
     let left = drop (c.loop-rule.rule-index + 1) c.args.rules.now in
     sym (dropped-more page_element c.args.rules.now c.loop-rule.rule-index c.rule-item.result c.loop-rule-test.true c.rule-item.is
     ∙ ap (λ b. cond b (page_element left) (Some c.rule-item.result.element))
-        (sym c.is_fragment_name.ensures ∙ c.if-not-is_fragment_name.false))
+    (sym c.is_fragment_name.ensures ∙ c.if-not-is_fragment_name.false))
     ∙ c.loop-rule.invariant
 
 pub returns-clause-none : goal.returns-clause-none

@@ -10,7 +10,7 @@ returns-then-not-is_safe_scheme-clause-some c =
     let left = drop (c.loop-scheme.scheme-index + 1) c.args.schemes.now in
     sym c.loop-scheme.invariant
     ∙ (dropped-more unsafe_scheme c.args.schemes.now c.loop-scheme.scheme-index c.scheme-item.result c.loop-scheme-test.true
-        c.scheme-item.is
+    c.scheme-item.is
     ∙ ap (λ b. cond b (unsafe_scheme left) (Some c.scheme-item.result))
     (sym c.is_safe_scheme.ensures ∙ c.if-not-is_safe_scheme.true))
 
@@ -18,7 +18,7 @@ pub loop-scheme-preserved : goal.loop-scheme-preserved
 loop-scheme-preserved c =
     let left = drop (c.loop-scheme.scheme-index + 1) c.args.schemes.now in
     sym (dropped-more unsafe_scheme c.args.schemes.now c.loop-scheme.scheme-index c.scheme-item.result c.loop-scheme-test.true
-        c.scheme-item.is
+    c.scheme-item.is
     ∙ ap (λ b. cond b (unsafe_scheme left) (Some c.scheme-item.result))
     (sym c.is_safe_scheme.ensures ∙ c.if-not-is_safe_scheme.false))
     ∙ c.loop-scheme.invariant

@@ -7,7 +7,7 @@ use Rattle.html_normal_program.proofs.telling.put_line.Goals as goal
 pub returns-in_err-put_words-clause-put : goal.returns-in_err-put_words-clause-put
 returns-in_err-put_words-clause-put g c =
     rw (err-is _ c.from_residual.result c.from_residual.ensures.1)
-        (put-ended (words_of c.args.outcome.now) (10 ∷ []) _ _ c.in_err-put_words.ensures.put)
+    (put-ended (words_of c.args.outcome.now) (10 ∷ []) _ _ c.in_err-put_words.ensures.put)
 
 pub returns-clause-put : goal.returns-clause-put
 returns-clause-put g c =

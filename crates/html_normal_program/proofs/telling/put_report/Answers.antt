@@ -18,7 +18,7 @@ returns-in_err-put_both-clause-put g c =
     let quirks = quirks_word c.args.report.now.quirks in
     let errors = decimal c.args.report.now.errors in
     rw (err-is _ c.from_residual.result c.from_residual.ensures.1)
-        (in-pairs (codes "plain=") plain (codes " quirks=") quirks (codes " errors=") errors _ _ true
+    (in-pairs (codes "plain=") plain (codes " quirks=") quirks (codes " errors=") errors _ _ true
     (put-ended (codes "plain=" ++ plain ++ (codes " quirks=" ++ quirks)) (codes " errors=" ++ errors) _ _
     (put-ended (codes "plain=" ++ plain) (codes " quirks=" ++ quirks) _ _
     (rw c.plain_word.ensures at c.in_err-put_both.ensures.put))))
