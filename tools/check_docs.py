@@ -1,7 +1,7 @@
 #!/usr/bin/env python3
 """Checks that what the documentation names is there.
 
-For README.md, CONTRIBUTING.md and all of docs/ and bindings/ it checks
+For README.md, CONTRIBUTING.md, all of docs/ and bindings/ and the README.md of each crate it checks
   - each relative link: its file, and the heading that it points to;
   - each file or folder that is named in backticks with a slash or with an extension of this repository;
   - each crate that a command in a code block enters, and each script that it runs;
@@ -32,7 +32,8 @@ def repository_files():
 
 def documents(files):
     top = [f for f in files if f in ("README.md", "CONTRIBUTING.md")]
-    return sorted(top + [f for f in files if f.startswith(("docs/", "bindings/")) and f.endswith(".md")])
+    below = [f for f in files if f.startswith(("docs/", "bindings/")) and f.endswith(".md")]
+    return sorted(top + below + [f for f in files if re.fullmatch(r"crates/\w+/README\.md", f)])
 
 
 def heading_anchor(line):
