@@ -38,12 +38,14 @@ high_scalar : (c : ℕ) → 57344 ≤ c → c < 1114112 → IsScalar c
 high_scalar c low high = grind (arith, nat_tests)
 
 -- two bytes that are a character
-two-text : (x y : ℕ) → 194 ≤ x → x < 224 → 128 ≤ y → y < 192 → IsUtf8 (x ∷ y ∷ [])
-two-text x y x_low x_high y_low y_high =
+pub IsUtf8-two : (x y : ℕ) → 194 ≤ x → x < 224 → IsContinuation y → IsUtf8 (x ∷ y ∷ [])
+IsUtf8-two x y low high second =
+    let y_low = second.low in
+    let y_high = second.high in
     let c : ℕ = (x - 192) * 64 + (y - 128) in
     let first : 192 + c / 64 ≡ x = omega arith in
-    let second : 128 + c % 64 ≡ y = omega arith in
-    let e : encode_utf8 c ≡ x ∷ y ∷ [] = encode-two c (omega arith) (omega arith) ∙ (rw (first, second) refl) in
+    let last : 128 + c % 64 ≡ y = omega arith in
+    let e : encode_utf8 c ≡ x ∷ y ∷ [] = encode-two c (omega arith) (omega arith) ∙ (rw (first, last) refl) in
     subst IsUtf8 e (IsUtf8-encode c (low_scalar c (omega arith)))
 
 -- three, by what each byte adds to its least value
@@ -99,9 +101,6 @@ second_of x y second =
       four_low = λ e. grind (arith, nat_tests);
       four_high = λ e. grind (arith, nat_tests);
     }
-
-pub IsUtf8-two : (x y : ℕ) → 194 ≤ x → x < 224 → IsSecond x y → IsUtf8 (x ∷ y ∷ [])
-IsUtf8-two x y low high second = let is = second_of x y second in two-text x y low high is.low is.high
 
 pub IsUtf8-three : (x y z : ℕ) → 224 ≤ x → x < 240 → IsSecond x y → IsContinuation z → IsUtf8 (x ∷ y ∷ z ∷ [])
 IsUtf8-three x y z low high second third =

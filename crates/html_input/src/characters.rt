@@ -38,22 +38,30 @@ fn is_continuation(byte: u8) -> bool
     byte >= 0x80 && byte < 0xC0
 }
 
-/// Whether a byte may follow the first byte of a character, which has two bytes or more.
+/// Whether a byte may follow this first byte of a character of three bytes.
 #[inline(always)]
-fn is_second(first: u8, second: u8) -> bool
+fn is_second_of_three(first: u8, second: u8) -> bool
+    requires low { 224 ≤ first }
+    requires high { first < 240 }
     ensures { IsTrue result → IsSecond first second }
 {
-    let least = match first {
-        0xE0 => 0xA0,
-        0xF0 => 0x90,
-        _ => 0x80,
-    };
-    let most = match first {
-        0xED => 0x9F,
-        0xF4 => 0x8F,
-        _ => 0xBF,
-    };
-    second >= least && second <= most
+    if first == 0xE0 && second < 0xA0 || first == 0xED && second >= 0xA0 {
+        return false;
+    }
+    is_continuation(second)
+}
+
+/// Whether a byte may follow this first byte of a character of four bytes.
+#[inline(always)]
+fn is_second_of_four(first: u8, second: u8) -> bool
+    requires low { 240 ≤ first }
+    requires high { first < 245 }
+    ensures { IsTrue result → IsSecond first second }
+{
+    if first == 0xF0 && second < 0x90 || first == 0xF4 && second >= 0x90 {
+        return false;
+    }
+    is_continuation(second)
 }
 
 /// How many bytes the character has that four bytes begin with, of two to four; 0 where they begin with no such character.
@@ -62,19 +70,28 @@ fn width_of(first: u8, second: u8, third: u8, fourth: u8) -> usize
     ensures within { result ≤ 4 }
     ensures text { IsUtf8 (take result (first ∷ second ∷ third ∷ fourth ∷ [])) }
 {
-    if first < 0xC2 || first > 0xF4 || !is_second(first, second) {
-        return 0;
-    }
     if first < 0xE0 {
-        return 2;
+        return if first >= 0xC2 && is_continuation(second) {
+            2
+        } else {
+            0
+        };
     }
     if !is_continuation(third) {
         return 0;
     }
     if first < 0xF0 {
-        return 3;
+        return if is_second_of_three(first, second) {
+            3
+        } else {
+            0
+        };
     }
-    if is_continuation(fourth) { 4 } else { 0 }
+    if first < 0xF5 && is_second_of_four(first, second) && is_continuation(fourth) {
+        4
+    } else {
+        0
+    }
 }
 
 /// The end of the characters of two to four bytes that stand one after the other from a place on, or a place before it near the end.
