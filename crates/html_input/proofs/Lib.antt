@@ -1,3 +1,4 @@
+pub mod WideBytes
 pub mod Whole
 pub mod Rows
 pub mod Utf8

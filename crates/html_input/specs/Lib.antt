@@ -1,3 +1,4 @@
+pub mod Wide
 pub mod Reading
 pub mod TableFile
 pub mod TableFault

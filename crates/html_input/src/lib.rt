@@ -3,6 +3,7 @@
 //! Tests: `html_normal_tests`.
 #![tactic(auto)]
 
+mod characters;
 mod fault;
 mod lines;
 mod read;

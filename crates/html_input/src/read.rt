@@ -1,10 +1,11 @@
 //! Reading a text from a source of bytes.
-ghost use Rattle.std.specs.Prelude.{◌≡◌, ◌≤◌, length, take, IfOk, IfErr, IsUtf8};
+ghost use Rattle.std.specs.Prelude.{◌≡◌, ◌≤◌, length, IfOk, IfErr, IsUtf8, take};
 ghost use Rattle.std.specs.Io.KnownBytes.{IsAtEnd, prepend_known};
 ghost use Rattle.std.specs.String.{string_bytes};
 ghost use Rattle.devices.specs.Devices.{count_after};
 ghost use Rattle.html_input.specs.Reading.{IsFront, IsReadFault, StaysAtFault, is_read_fault};
 
+use crate::characters::whole_front;
 use crate::fault::TextFault;
 use devices::Source;
 use std::alloc::Global;
@@ -19,6 +20,7 @@ pub(crate) fn valid_front(bytes: &[u8], known: usize) -> Result<usize, usize>
     ensures ok { IfOk result (IsFront bytes.now) }
     ensures err { IfErr result (StaysAtFault bytes.now) }
 {
+    let known = known + whole_front(&bytes[known..]);
     match str::from_utf8(&bytes[known..]) {
         Ok(_) => Ok(bytes.len()),
         Err(error) => {
