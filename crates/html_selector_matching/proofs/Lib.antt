@@ -1,5 +1,4 @@
 pub mod Lines
 mod Spelled
-mod Climbs
 mod Siblings
 mod Needles

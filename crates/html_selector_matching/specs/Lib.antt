@@ -1,4 +1,3 @@
 pub mod Around
 pub mod Simples
 pub mod Selects
-pub mod Climbs

@@ -87,7 +87,7 @@ relative_fails e inner in_has n i so_far first tokens whole less is h = fails_fi
 pub lefts_more : (parts : List LeftPart) (part : LeftPart) → map left_tree (parts ++ part ∷ []) ≡ map left_tree parts ++ left_tree part ∷ []
 lefts_more parts part = map-append left_tree parts (part ∷ [])
 
-joined_append : (lefts : List LeftTree) (left : LeftTree) (rest : RelativeTree)
+pub joined_append : (lefts : List LeftTree) (left : LeftTree) (rest : RelativeTree)
     → joined (lefts ++ left ∷ []) rest ≡ joined lefts (ThenTree left.combinator left.compound.simples left.compound.tests rest)
 joined_append [] left rest = refl
 joined_append (l ∷ ls) left rest = ap (ThenTree l.combinator l.compound.simples l.compound.tests) (joined_append ls left rest)

@@ -9,4 +9,5 @@ pub mod Trees
 pub mod Grammar
 pub mod Turns
 pub mod Written
+pub mod Readable
 pub mod Rows

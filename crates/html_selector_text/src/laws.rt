@@ -1,10 +1,13 @@
-//! What is written of selectors is read as the same, as far as a token goes.
-ghost use Rattle.std.specs.Prelude.{◌≡◌, ◌≤◌, ◌++◌, ℕ, List};
+//! What is written of selectors is read as the same.
+ghost use Rattle.std.specs.Prelude.{◌≡◌, ◌≤◌, ◌++◌, ℕ, List, Ok};
+ghost use Rattle.html_selector_text.specs.Grammar.{parsed};
+ghost use Rattle.html_selector_text.specs.Readable.{IsParsed, IsReadable};
+ghost use Rattle.html_selector_text.specs.Trees.{ListTree};
 ghost use Rattle.html_selector_text.specs.declared.tokens.TokenKind.TheVariants.{Str};
 ghost use Rattle.html_selector_text.specs.declared.nth.Term.{Term};
 ghost use Rattle.html_selector_text.specs.Nth.{IsPlace, IsSum, places};
 ghost use Rattle.html_selector_text.specs.Scanning.{digits, name, read, token};
-ghost use Rattle.html_selector_text.specs.Written.{EndsName, NoZero, decimal, identifier, quoted};
+ghost use Rattle.html_selector_text.specs.Written.{EndsName, NoZero, decimal, identifier, quoted, written};
 
 /// An identifier that is written is read as the same name, where no name goes on behind it.
 pub fn identifiers_are_read()
@@ -25,4 +28,12 @@ pub fn numbers_are_read()
 pub fn places_are_sums()
     ensures places { (a b : Term) (k : ℕ) → 1 ≤ k → IsPlace (places a b) k → IsSum a b k }
     ensures sums { (a b : Term) (k : ℕ) → 1 ≤ k → IsSum a b k → IsPlace (places a b) k }
+{}
+
+/// Selectors are read back from their text just where they are as parsing gives them and the text has at most 8,192 tokens. So what a
+/// text is parsed as is read back, unless it is written much longer.
+pub fn selectors_are_read()
+    ensures read_back { (list : ListTree) → IsReadable list → parsed (written list) ≡ Ok list }
+    ensures these_alone { (list : ListTree) → parsed (written list) ≡ Ok list → IsReadable list }
+    ensures parsed { (text : List ℕ) (list : ListTree) → parsed text ≡ Ok list → IsParsed list }
 {}

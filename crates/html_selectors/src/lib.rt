@@ -14,6 +14,6 @@ mod places;
 mod selecting;
 mod types;
 
-pub use html_selector_matching::{Above, closest, matches, nodes_above};
+pub use html_selector_matching::{Above, nodes_above};
 pub use page_index::Index;
 pub use selecting::{select_all, select_first};

@@ -1,4 +1,4 @@
-use Rattle.html_selector_text.proofs.Identifiers.{identifier_read}
+use Rattle.html_selector_text.proofs.ReadBack.Identifiers.{identifier_read}
 use Rattle.html_selector_text.proofs.laws.identifiers_are_read.Goals as goal
 
 pub returns : goal.returns

@@ -1,4 +1,4 @@
-use Rattle.html_selector_text.proofs.Decimals.{decimal_read}
+use Rattle.html_selector_text.proofs.ReadBack.Decimals.{decimal_read}
 use Rattle.html_selector_text.proofs.laws.numbers_are_read.Goals as goal
 
 pub returns : goal.returns

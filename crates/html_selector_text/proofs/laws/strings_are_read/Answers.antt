@@ -1,4 +1,4 @@
-use Rattle.html_selector_text.proofs.Strings.{string_read}
+use Rattle.html_selector_text.proofs.ReadBack.Strings.{string_read}
 use Rattle.html_selector_text.proofs.laws.strings_are_read.Goals as goal
 
 pub returns : goal.returns

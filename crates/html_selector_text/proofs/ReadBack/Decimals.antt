@@ -9,11 +9,11 @@ use Rattle.html_selector_text.specs.Scanning.{digits}
 use Rattle.html_selector_text.specs.Written.{decimal_in, decimal}
 
 -- a number has at most so many digits
-abbrev HasDigits : ℕ → ℕ → Type 0
+abbrev pub HasDigits : ℕ → ℕ → Type 0
 HasDigits zero n = n < 1
 HasDigits (suc count) n = HasDigits count (n / 10)
 
-is_digit : (d : ℕ) → d < 10 → is_ascii_digit (48 + d) ≡ true
+pub is_digit : (d : ℕ) → d < 10 → is_ascii_digit (48 + d) ≡ true
 is_digit d less = grind (arith, nat_tests)
 
 digit_is : (d : ℕ) → d < 10 → digit_value (48 + d) ≡ d
@@ -25,7 +25,7 @@ digit_read v d rest less small =
     let capped : min (v * 10 + d) 1000000000 ≡ v * 10 + d = grind (arith, nat_tests) in
     rw (is_digit d less, digit_is d less, capped) refl
 
-some_digits : (count n : ℕ) → HasDigits count n → 1 ≤ n → 0 < count
+pub some_digits : (count n : ℕ) → HasDigits count n → 1 ≤ n → 0 < count
 some_digits zero n few some = absurd (omega arith)
 some_digits (suc count) n few some = omega arith
 

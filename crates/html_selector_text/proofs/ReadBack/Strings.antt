@@ -10,7 +10,8 @@ use Rattle.std.proofs.lemmas.Bool.Decides.{nat_tests}
 use Rattle.html_selector_text.specs.declared.tokens.TokenKind.TheVariants.{Str}
 use Rattle.html_selector_text.specs.Scanning.{read, escaped, string_steps, string, token}
 use Rattle.html_selector_text.specs.Written.{as_code_point, is_control, string_character, quoted, NoZero}
-use Rattle.html_selector_text.proofs.Identifiers.{code_point_read, code_line, code_long, control_small, no_line, itself, either, rest_long}
+use Rattle.html_selector_text.proofs.ReadBack.Identifiers.{code_point_read, code_line, code_long, control_small, no_line, itself, either}
+use Rattle.html_selector_text.proofs.ReadBack.Identifiers.{rest_long}
 
 step_escape : (m : ℕ) (so_far others tail : List ℕ) (c : ℕ) → 1 ≤ length others → slice_index others 0 ≢ 10
     → escaped others ≡ record { value = c; rest = tail }

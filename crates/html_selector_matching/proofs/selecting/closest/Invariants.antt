@@ -1,9 +1,0 @@
-use Rattle.std.proofs.Common.{◌≡◌}
-use Rattle.std.specs.List.{find}
-use Rattle.html_selector_matching.specs.Around.{above}
-use Rattle.html_selector_matching.specs.Selects.{is_any}
-use Rattle.html_selector_matching.proofs.selecting.closest.Given as goal
-
-abbrev pub invariant-loop-up : goal.invariant-loop-up
-invariant-loop-up l = find (is_any l.fn.selectors l.fn.forest l.fn.id) (above l.fn.forest l.fn.id)
-    ≡ find (is_any l.fn.selectors l.fn.forest l.fn.id) l.up-iterator

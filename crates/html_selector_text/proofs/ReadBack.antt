@@ -1,0 +1,22 @@
+-- What is written of selectors is read back: tokens, simple selectors, compound and complex ones, and lists.
+pub mod Shorter
+pub mod Lexing
+pub mod Identifiers
+pub mod Strings
+pub mod Decimals
+pub mod Words
+pub mod Parts
+pub mod Attributes
+pub mod Numbers
+pub mod Classes
+pub mod Compounds
+pub mod Ends
+pub mod Joins
+pub mod Lists
+pub mod Relatives
+pub mod Selectors
+pub mod Clean
+pub mod Sound
+pub mod Sounds
+pub mod Parsed
+pub mod Whole
