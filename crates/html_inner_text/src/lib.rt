@@ -1,0 +1,12 @@
+//! The text of an element as it is rendered: `innerText` (HTML Standard, section 3.2.7).
+//!
+//! Tests: `html_inner_text_tests`.
+#![tactic(auto)]
+
+mod kinds;
+mod siblings;
+mod styles;
+mod walk;
+mod writer;
+
+pub use walk::inner_text;
