@@ -96,11 +96,12 @@ is_hidden f n local =
 abbrev pub html_kind : Forest → ℕ → List ℕ → Kind
 html_kind f n local = cond (is_hidden f n local) NotRendered (kind_named local)
 
--- the text of a drawing stands apart from other texts in it (SVG 2, sections 11.1 and 12.4)
+-- a drawing is a box in the line, and each text in it a block (SVG 2, sections 11.1 and 12.4)
 abbrev pub foreign_kind : List ℕ → Kind
 foreign_kind local =
     cond (is_among local foreign_names) NotRendered
-    (cond (bytes_eq local (codes "text") || bytes_eq local (codes "foreignObject")) Block Inline)
+    (cond (bytes_eq local (codes "svg")) InlineBlock
+    (cond (bytes_eq local (codes "text") || bytes_eq local (codes "foreignObject")) Block Inline))
 
 abbrev pub kind_by : Forest → ℕ → Option QualName → Kind
 kind_by f n None = Inline

@@ -209,6 +209,8 @@ fn foreign_kind(local: &str) -> Kind
 {
     if is_among(local, &FOREIGN_NAMES) {
         Kind::NotRendered
+    } else if local == "svg" {
+        Kind::InlineBlock
     } else if local == "text" || local == "foreignObject" {
         Kind::Block
     } else {
