@@ -1,6 +1,4 @@
 //! The text of an element as it is rendered: `innerText` (HTML Standard, section 3.2.7).
-//!
-//! Tests: `html_inner_text_tests`.
 #![tactic(auto)]
 
 mod kinds;
