@@ -1,0 +1,50 @@
+-- A node has fewer nodes below it than its parent, and none has as many as there are nodes.
+use Rattle.std.proofs.Common.{◌≡◌, ◌∙◌, ◌==◌, ◌<◌, ◌≤◌, ◌-◌, ℕ, Bool, true, false, cond, List, [], ◌∷◌, Some, length, arith, refl, sym, eqb}
+use Rattle.std.specs.Prelude.{◌||◌}
+use Rattle.std.specs.List.{AllByRecursion, IsDistinct, list_any}
+use Rattle.std.proofs.lemmas.Bool.{or_parts}
+use Rattle.std.proofs.lemmas.Map.Steps.{length-le_from_distinct_below}
+use Rattle.markup.specs.Forest.{Forest, IsForest, children_of, is_among, node_count, parent_of}
+use Rattle.markup.specs.Forest as forest
+use Rattle.markup.proofs.Parents.{is_among-parent}
+use Rattle.html_nodes.specs.Below.{IsBelow, below}
+use Rattle.html_nodes.specs.Below.IsBelow.{child, deeper}
+use Rattle.html_nodes.proofs.Distinct.{among-below, below-distinct}
+use Rattle.html_nodes.proofs.Levels.{below-other}
+use Rattle.html_nodes.proofs.Walking.{below-behind, climb-less}
+
+-- what is below a node is a node
+below-IsNode : (f : Forest) → IsForest f → (a n : ℕ) → IsBelow f a n → n < node_count f
+below-IsNode f is a n (child e) = is.in_range a n (is_among-parent f n a e)
+below-IsNode f is a n (deeper {m = m} e b) = is.in_range m n (is_among-parent f n m e)
+
+-- two ways to say that a number is in a list, and that a list has no number twice
+or-cond : (b x y : Bool) → x ≡ y → (b || x) ≡ cond b true y
+or-cond true x y same = refl
+or-cond false x y same = same
+
+among-any : (n : ℕ) (ns : List ℕ) → list_any (eqb n) ns ≡ is_among n ns
+among-any n [] = refl
+among-any n (m ∷ ms) = or-cond (n == m) _ _ (among-any n ms)
+
+apart-all : (n : ℕ) (ns : List ℕ) → list_any (eqb n) ns ≡ false → AllByRecursion (λ m. eqb n m ≡ false) ns
+apart-all n [] h = tt
+apart-all n (m ∷ ms) h = let p = or_parts (eqb n m) (list_any (eqb n) ms) h in (p.0, apart-all n ms p.1)
+
+distinct : (ns : List ℕ) → forest.IsDistinct ns → IsDistinct eqb ns
+unfolding IsDistinct
+distinct [] d = tt
+distinct (n ∷ ns) d = (apart-all n ns (among-any n ns ∙ d.0), distinct ns d.1)
+
+fits : (f : Forest) → IsForest f → (n : ℕ) → length (below f n) ≤ node_count f
+fits f is n = length-le_from_distinct_below (below f n) (node_count f) (distinct (below f n) (below-distinct f is n))
+    (λ m among. below-IsNode f is n m (among-below f is n m (sym (among-any m (below f n)) ∙ among)))
+
+-- so the way up ends
+pub climbs : (f : Forest) → IsForest f → (n p : ℕ) → parent_of f n ≡ Some p
+    → node_count f - length (below f p) < node_count f - length (below f n)
+climbs f is n p e =
+    let less = climb-less f is p n (below-behind f is p n (child e)) (λ same. below-other f is p n (child e) (sym same)) p e in
+    let fit : length (below f p) ≤ node_count f = fits f is p in
+    let fewer : length (below f n) < length (below f p) = less.0 in
+    omega (arith, fewer, fit)
