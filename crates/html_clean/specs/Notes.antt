@@ -1,0 +1,56 @@
+-- What is noted of a policy: its answers for known names.
+use Rattle.std.specs.Prelude.{◌≡◌, ℕ, Bool, true, false, ◌&&◌, List, Option, Some, None, is_none, slice_index_or}
+use Rattle.markup.specs.KnownNames.{IsNameAt}
+use Rattle.markup.specs.declared.known_names.KnownName.{KnownName}
+use Rattle.markup.specs.declared.names.QualName.{QualName}
+use Rattle.html_round_trip.specs.Slices.Forms.{is_no_text}
+use Rattle.html_clean.specs.Policies.{has_url, html_fate, is_kept_kind, is_named_for, is_safe_attribute_name}
+use Rattle.html_clean.specs.Urls.{url_kind}
+use Rattle.html_clean.specs.declared.elements.Fate.{Fate}
+use Rattle.html_clean.specs.declared.notes.NotedVerdict.{NotedVerdict}
+use Rattle.html_clean.specs.declared.notes.Verdict.{Verdict}
+use Rattle.html_clean.specs.declared.notes.Verdict.TheVariants.{Refused, Kept, KeptByUrl}
+use Rattle.html_clean.specs.declared.policy.Policy.{Policy}
+
+-- without a prefix and a namespace
+abbrev pub is_unprefixed : QualName → Bool
+is_unprefixed name = is_none name.prefix && is_no_text name.ns
+
+-- by whether an element may have an attribute of a name, and whether the attribute's value is a URL
+abbrev pub verdict_by : Bool → Bool → Verdict
+verdict_by false url = Refused
+verdict_by true true = KeptByUrl
+verdict_by true false = Kept
+
+-- what a policy says of an attribute, by its name and that of its element
+abbrev pub verdict : Policy → List ℕ → QualName → Verdict
+verdict policy element name =
+    verdict_by (is_safe_attribute_name name && is_named_for policy element name.local) (has_url policy name.local)
+
+-- whether an attribute on which there is this verdict is kept with this value
+abbrev pub is_kept_value : Policy → Verdict → List ℕ → Bool
+is_kept_value policy Refused value = false
+is_kept_value policy Kept value = true
+is_kept_value policy KeptByUrl value = is_kept_kind policy (url_kind value)
+
+-- the fate of the HTML element of the known name at a place
+abbrev pub IsFateOf : Policy → ℕ → Fate → Type 0
+IsFateOf policy place fate = (name : List ℕ) → IsNameAt place name → fate ≡ html_fate policy name
+
+abbrev pub IsFateNote : Policy → ℕ → Option Fate → Type 0
+IsFateNote policy place (Some fate) = IsFateOf policy place fate
+IsFateNote policy place None = Unit {0}
+
+-- the verdict on an attribute of a known name, of an element of a known name
+abbrev pub IsVerdictOn : Policy → KnownName → KnownName → Verdict → Type 0
+IsVerdictOn policy element name v = (e : List ℕ) (n : QualName) → IsNameAt element.place e → IsNameAt name.place n.local
+    → is_unprefixed n ≡ true → v ≡ verdict policy e n
+
+abbrev pub IsVerdictNote : Policy → Option NotedVerdict → Type 0
+IsVerdictNote policy (Some noted) = IsVerdictOn policy noted.element noted.name noted.verdict
+IsVerdictNote policy None = Unit {0}
+
+-- all notes say what the policy says
+pub record AreNotes (policy : Policy) (fates : List (Option Fate)) (verdicts : List (Option NotedVerdict)) : Type 0 where
+  pub each_fate : (place : ℕ) → IsFateNote policy place (slice_index_or fates place None)
+  pub each_verdict : (slot : ℕ) → IsVerdictNote policy (slice_index_or verdicts slot None)
