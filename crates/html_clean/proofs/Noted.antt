@@ -1,8 +1,10 @@
 -- Notes of a policy.
 use Rattle.std.proofs.Common.{◌≡◌, ◌∙◌, ℕ, zero, suc, Bool, true, false, List, [], ◌∷◌, ◌++◌, Option, None, replicate, take, refl, ap, subst, sym}
-use Rattle.std.specs.Prelude.{cond, slice_index_or}
-use Rattle.html_clean.specs.Notes.{AreNotes, IsFateNote, IsVerdictNote}
-use Rattle.html_clean.specs.declared.elements.Fate.{Fate}
+use Rattle.std.specs.Prelude.{cond, slice_index_or, slice_set}
+use Rattle.std.proofs.Common.{◌<◌, Some, length, inl, inr, get_or-set_same, get_or-set_other}
+use Rattle.std.proofs.lemmas.Bool.{cases_eq}
+use Rattle.html_clean.specs.Notes.{AreNotes, IsElementAt, IsElementNote, IsVerdictNote}
+use Rattle.html_clean.specs.declared.notes.Judged.{Judged}
 use Rattle.html_clean.specs.declared.notes.NotedVerdict.{NotedVerdict}
 use Rattle.html_clean.specs.declared.policy.Policy.{Policy}
 
@@ -29,11 +31,31 @@ filled_at {A} true n count i old new none is =
 filled_at {A} false n count i old new none is = ap (λ (xs : List (Option A)). slice_index_or xs i None) (is ∙ none)
 
 -- where nothing is noted, all notes are right
-pub nothing-noted : (policy : Policy) (a b : Bool) (n m count more : ℕ) (fates fates' : List (Option Fate))
-    (verdicts verdicts' : List (Option NotedVerdict)) → fates ≡ [] → verdicts ≡ []
-    → fates' ≡ cond a (take n fates ++ replicate count None) fates → verdicts' ≡ cond b (take m verdicts ++ replicate more None) verdicts
-    → AreNotes policy fates' verdicts'
-nothing-noted policy a b n m count more fates fates' verdicts verdicts' no_fates no_verdicts are_fates are_verdicts = record {
-  each_fate = λ place. subst (IsFateNote policy place) (sym (filled_at a n count place fates fates' no_fates are_fates)) tt;
+pub nothing-noted : (policy : Policy) (a b : Bool) (n m count more : ℕ) (elements elements' : List (Option Judged))
+    (verdicts verdicts' : List (Option NotedVerdict)) → elements ≡ [] → verdicts ≡ []
+    → elements' ≡ cond a (take n elements ++ replicate count None) elements → verdicts' ≡ cond b (take m verdicts ++ replicate more None) verdicts
+    → AreNotes policy elements' verdicts'
+nothing-noted policy a b n m count more elements elements' verdicts verdicts' no_elements no_verdicts are_elements are_verdicts = record {
+  each_element = λ place. subst (IsElementNote policy place) (sym (filled_at a n count place elements elements' no_elements are_elements)) tt;
   each_verdict = λ slot. subst (IsVerdictNote policy) (sym (filled_at b m more slot verdicts verdicts' no_verdicts are_verdicts)) tt;
+}
+
+-- one note more of an element
+pub element-noted : (policy : Policy) (elements : List (Option Judged)) (verdicts : List (Option NotedVerdict)) (place : ℕ)
+    (judged : Judged) → AreNotes policy elements verdicts → place < length elements → IsElementAt policy place judged
+    → AreNotes policy (slice_set elements place (Some judged)) verdicts
+element-noted policy elements verdicts place judged are within is = record {
+  each_element = λ p.
+      elim (cases_eq p place) [
+        | inl here ↦
+            let same : slice_index_or (slice_set elements place (Some judged)) place None ≡ Some judged =
+            get_or-set_same elements place (Some judged) None within in
+            subst (λ (q : ℕ). IsElementNote policy q (slice_index_or (slice_set elements place (Some judged)) q None)) (sym here)
+            (subst (IsElementNote policy place) (sym same) is)
+        | inr other ↦
+            let same : slice_index_or (slice_set elements place (Some judged)) p None ≡ slice_index_or elements p None =
+            get_or-set_other elements place p (Some judged) None other in
+            subst (IsElementNote policy p) (sym same) (are.each_element p)
+      ];
+  each_verdict = are.each_verdict;
 }

@@ -6,7 +6,8 @@ use Rattle.markup.specs.declared.names.QualName.{QualName}
 use Rattle.html_round_trip.specs.Slices.Forms.{is_no_text}
 use Rattle.html_clean.specs.Policies.{has_url, html_fate, is_kept_kind, is_named_for, is_safe_attribute_name}
 use Rattle.html_clean.specs.Urls.{url_kind}
-use Rattle.html_clean.specs.declared.elements.Fate.{Fate}
+use Rattle.html_clean.specs.Names.{is_void}
+use Rattle.html_clean.specs.declared.notes.Judged.{Judged}
 use Rattle.html_clean.specs.declared.notes.NotedVerdict.{NotedVerdict}
 use Rattle.html_clean.specs.declared.notes.Verdict.{Verdict}
 use Rattle.html_clean.specs.declared.notes.Verdict.TheVariants.{Refused, Kept, KeptByUrl}
@@ -33,13 +34,18 @@ is_kept_value policy Refused value = false
 is_kept_value policy Kept value = true
 is_kept_value policy KeptByUrl value = is_kept_kind policy (url_kind value)
 
--- the fate of the HTML element of the known name at a place
-abbrev pub IsFateOf : Policy → ℕ → Fate → Type 0
-IsFateOf policy place fate = (name : List ℕ) → IsNameAt place name → fate ≡ html_fate policy name
+-- what is noted of the HTML element of a name is what the policy says
+pub record IsJudged (policy : Policy) (name : List ℕ) (judged : Judged) : Type 0 where
+  pub fate : judged.fate ≡ html_fate policy name
+  pub void : judged.is_void ≡ is_void name
 
-abbrev pub IsFateNote : Policy → ℕ → Option Fate → Type 0
-IsFateNote policy place (Some fate) = IsFateOf policy place fate
-IsFateNote policy place None = Unit {0}
+-- so it is for the known name at a place
+abbrev pub IsElementAt : Policy → ℕ → Judged → Type 0
+IsElementAt policy place judged = (name : List ℕ) → IsNameAt place name → IsJudged policy name judged
+
+abbrev pub IsElementNote : Policy → ℕ → Option Judged → Type 0
+IsElementNote policy place (Some judged) = IsElementAt policy place judged
+IsElementNote policy place None = Unit {0}
 
 -- the verdict on an attribute of a known name, of an element of a known name
 abbrev pub IsVerdictOn : Policy → KnownName → KnownName → Verdict → Type 0
@@ -51,6 +57,6 @@ IsVerdictNote policy (Some noted) = IsVerdictOn policy noted.element noted.name 
 IsVerdictNote policy None = Unit {0}
 
 -- all notes say what the policy says
-pub record AreNotes (policy : Policy) (fates : List (Option Fate)) (verdicts : List (Option NotedVerdict)) : Type 0 where
-  pub each_fate : (place : ℕ) → IsFateNote policy place (slice_index_or fates place None)
+pub record AreNotes (policy : Policy) (elements : List (Option Judged)) (verdicts : List (Option NotedVerdict)) : Type 0 where
+  pub each_element : (place : ℕ) → IsElementNote policy place (slice_index_or elements place None)
   pub each_verdict : (slot : ℕ) → IsVerdictNote policy (slice_index_or verdicts slot None)

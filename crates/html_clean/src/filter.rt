@@ -10,8 +10,7 @@ ghost use Rattle.markup.specs.Calls.Call.{StartElem, EndElem};
 use crate::attributes::kept_attributes;
 use crate::counts::Cleaned;
 use crate::elements::Fate;
-use crate::names::is_void;
-use crate::notes::Notes;
+use crate::notes::{Judged, Notes};
 use crate::policy::Policy;
 use crate::texts::{is_kept_whole, is_no_text, text_at};
 use markup::{Attribute, QualName, SerializeFault, Serializer};
@@ -279,9 +278,9 @@ impl<'a, S: Serializer> Serializer for Filter<'a, S> {
     ghost references = { λ f. f.serializer.ghost_name ∷ S.references f.serializer.now };
 
     fn start_elem(&mut self, name: &QualName, attrs: &[Attribute]) -> Result<(), SerializeFault> {
-        let fate = self.notes.fate(name);
+        let Judged { fate, is_void } = self.notes.element(name);
         let hidden = self.begun.hides();
-        let opened = opened_by(hidden, fate, is_void(&name.local));
+        let opened = opened_by(hidden, fate, is_void);
         self.begun.push(opened)?;
         let lost = pass_start(
             self.alloc,

@@ -1,11 +1,13 @@
 //! What a policy says of known names, noted when it is first asked.
 ghost use Rattle.std.specs.Prelude.{◌≡◌, ◌<◌, Some, IfSome};
 ghost use Rattle.html_clean.specs.Notes as notes;
-ghost use Rattle.html_clean.specs.Notes.{IsFateNote, IsFateOf, IsVerdictOn};
-ghost use Rattle.html_clean.specs.Policies.{fate, html_fate};
+ghost use Rattle.html_clean.specs.Names.{is_void};
+ghost use Rattle.html_clean.specs.Notes.{IsElementAt, IsElementNote, IsJudged, IsVerdictOn};
+ghost use Rattle.html_clean.specs.Policies.{fate};
 
 use crate::attributes::{has_url, is_named_for, is_safe_attribute_name, is_unprefixed};
 use crate::elements::{Fate, html_fate, is_html, other_fate};
+use crate::names::is_void;
 use crate::policy::Policy;
 use markup::{KnownName, LocalName, QualName};
 use std::alloc::Global;
@@ -26,6 +28,13 @@ pub(crate) enum Verdict {
     Kept,
     /// It is kept where its value is a URL that is.
     KeptByUrl,
+}
+
+/// What becomes of an element, and whether it has no children.
+#[derive(Clone, Copy)]
+pub(crate) struct Judged {
+    pub fate: Fate,
+    pub is_void: bool,
 }
 
 /// A verdict on an attribute of a known name, of an element of a known name.
@@ -49,6 +58,16 @@ fn verdict_of(policy: &Policy, element: &LocalName, name: &QualName) -> Verdict
     }
 }
 
+/// What becomes of the HTML element of a name.
+fn judge(policy: &Policy, name: &LocalName) -> Judged
+    ensures { IsJudged policy.now name.now result }
+{
+    Judged {
+        fate: html_fate(policy, name),
+        is_void: is_void(name),
+    }
+}
+
 /// Where a verdict is noted.
 fn slot_of(element: KnownName, name: KnownName) -> usize
     ensures { result < 1024 }
@@ -61,8 +80,8 @@ fn slot_of(element: KnownName, name: KnownName) -> usize
 #[derive(Drop)]
 pub(crate) struct Notes<'a> {
     policy: &'a Policy,
-    /// What becomes of HTML elements, by the place of their names.
-    fates: Vec<Option<Fate>>,
+    /// HTML elements, by the place of their names.
+    elements: Vec<Option<Judged>>,
     verdicts: Vec<Option<NotedVerdict>>,
 }
 
@@ -74,7 +93,7 @@ impl<'a> Model for Notes<'a> {
 
     ghost view = { λ n. n.policy.now };
 
-    ghost invariant = { λ n. AreNotes n.policy.now n.fates.items n.verdicts.items };
+    ghost invariant = { λ n. AreNotes n.policy.now n.elements.items n.verdicts.items };
 }
 
 impl<'a> Notes<'a> {
@@ -82,13 +101,13 @@ impl<'a> Notes<'a> {
     pub(crate) fn new(alloc: Global, policy: &'a Policy) -> Notes<'a>
         ensures { result ≡ policy.now }
     {
-        let mut fates = Vec::new(alloc);
+        let mut elements = Vec::new(alloc);
         let mut verdicts = Vec::new(alloc);
-        let _ = fates.resize(NAMES, None);
+        let _ = elements.resize(NAMES, None);
         let _ = verdicts.resize(SLOTS, None);
         Notes {
             policy,
-            fates,
+            elements,
             verdicts,
         }
     }
@@ -100,52 +119,55 @@ impl<'a> Notes<'a> {
         self.policy
     }
 
-    /// What was noted of the element of a known name.
-    fn noted_fate(&self, known: KnownName) -> Option<Fate>
-        ensures { IsFateNote self.now known.place result }
+    /// What was noted of the HTML element of a known name.
+    fn noted_element(&self, known: KnownName) -> Option<Judged>
+        ensures { IsElementNote self.now known.place result }
     {
-        match self.fates.get(known.place as usize) {
+        match self.elements.get(known.place as usize) {
             Some(noted) => *noted,
             None => None,
         }
     }
 
     /// Notes what becomes of the HTML element of a known name.
-    fn note_fate(&mut self, known: KnownName, fate: Fate)
-        requires { IsFateOf self.old known.place fate }
+    fn note_element(&mut self, known: KnownName, judged: Judged)
+        requires { IsElementAt self.old known.place judged }
         ensures { self.new ≡ self.old }
     {
         let place = known.place as usize;
-        if place < self.fates.len() {
-            self.fates[place] = Some(fate);
+        if place < self.elements.len() {
+            self.elements[place] = Some(judged);
         }
     }
 
     /// What becomes of the HTML element of a name.
-    fn html_fate(&mut self, name: &LocalName) -> Fate
-        ensures fate { result ≡ html_fate self.old name.now }
+    fn html_element(&mut self, name: &LocalName) -> Judged
+        ensures judged { IsJudged self.old name.now result }
         ensures same { self.new ≡ self.old }
     {
         let Some(known) = name.known() else {
-            return html_fate(self.policy, name);
+            return judge(self.policy, name);
         };
-        if let Some(fate) = self.noted_fate(known) {
-            return fate;
+        if let Some(noted) = self.noted_element(known) {
+            return noted;
         }
-        let fate = html_fate(self.policy, name);
-        self.note_fate(known, fate);
-        fate
+        let judged = judge(self.policy, name);
+        self.note_element(known, judged);
+        judged
     }
 
     /// What becomes of an element.
-    pub(crate) fn fate(&mut self, name: &QualName) -> Fate
-        ensures fate { result ≡ fate self.old name.now }
+    pub(crate) fn element(&mut self, name: &QualName) -> Judged
+        ensures fate { result.fate ≡ fate self.old name.now }
+        ensures void { result.is_void ≡ is_void name.now.local }
         ensures same { self.new ≡ self.old }
     {
         if is_html(name) {
-            self.html_fate(&name.local)
-        } else {
-            other_fate(self.policy, &name.local)
+            return self.html_element(&name.local);
+        }
+        Judged {
+            fate: other_fate(self.policy, &name.local),
+            is_void: is_void(&name.local),
         }
     }
 
