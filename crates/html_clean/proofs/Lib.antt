@@ -11,3 +11,5 @@ pub mod Filtered
 pub mod Marks
 pub mod Read
 pub mod Stays
+pub mod Noted
+pub mod PlainTexts

@@ -1,4 +1,5 @@
 pub mod Names
+pub mod Notes
 pub mod Urls
 pub mod Policies
 pub mod Pieces

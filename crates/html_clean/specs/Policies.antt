@@ -32,6 +32,10 @@ fate_by true drops = Kept
 fate_by false true = Dropped
 fate_by false false = Unwrapped
 
+-- what becomes of the HTML element of a name
+abbrev pub html_fate : Policy → List ℕ → Fate
+html_fate policy name = fate_by (is_kept_name policy name) (is_among name policy.dropped.items)
+
 abbrev pub fate : Policy → QualName → Fate
 fate policy name = fate_by (is_html name && is_kept_name policy name.local) (is_among name.local policy.dropped.items)
 

@@ -1,7 +1,7 @@
 //! What becomes of elements.
-ghost use Rattle.std.specs.Prelude.{◌≡◌};
+ghost use Rattle.std.specs.Prelude.{◌≡◌, false};
 ghost use Rattle.markup.specs.Trees.{is_among, is_html};
-ghost use Rattle.html_clean.specs.Policies.{fate, is_kept_name, is_ruled};
+ghost use Rattle.html_clean.specs.Policies.{fate_by, html_fate, is_kept_name, is_ruled};
 
 use crate::names::is_safe_name;
 use crate::policy::{Policy, Rule};
@@ -30,7 +30,7 @@ fn is_kept_name(policy: &Policy, name: &LocalName) -> bool
 
 /// Whether the element of a name is one of HTML's.
 #[tactic(auto, unfolding(markup::specs::Names::html_namespace, markup::specs::Namespaces::name_of))]
-fn is_html(name: &QualName) -> bool
+pub(crate) fn is_html(name: &QualName) -> bool
     ensures { result ≡ is_html name.now }
 {
     name.ns.is_known(KnownNamespace::Html)
@@ -47,14 +47,21 @@ pub(crate) enum Fate {
     Unwrapped,
 }
 
-/// What becomes of an element.
-pub(crate) fn fate_of(policy: &Policy, name: &QualName) -> Fate
-    ensures { result ≡ fate policy.now name.now }
+/// What becomes of the HTML element of a name.
+pub(crate) fn html_fate(policy: &Policy, name: &LocalName) -> Fate
+    ensures { result ≡ html_fate policy.now name.now }
 {
-    if is_html(name) && is_kept_name(policy, &name.local) {
+    if is_kept_name(policy, name) {
         return Fate::Kept;
     }
-    if is_among(&name.local, &policy.dropped) {
+    other_fate(policy, name)
+}
+
+/// What becomes of an element that is not kept.
+pub(crate) fn other_fate(policy: &Policy, name: &LocalName) -> Fate
+    ensures { result ≡ fate_by false (is_among name.now policy.now.dropped.items) }
+{
+    if is_among(name, &policy.dropped) {
         return Fate::Dropped;
     }
     Fate::Unwrapped

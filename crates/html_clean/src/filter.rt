@@ -9,8 +9,8 @@ ghost use Rattle.markup.specs.Calls.Call.{StartElem, EndElem};
 
 use crate::attributes::kept_attributes;
 use crate::counts::Cleaned;
-use crate::elements::{Fate, fate_of};
-use crate::names::is_void;
+use crate::elements::Fate;
+use crate::notes::{Judged, Notes};
 use crate::policy::Policy;
 use crate::texts::{is_kept_whole, is_no_text, text_at};
 use markup::{Attribute, QualName, SerializeFault, Serializer};
@@ -118,22 +118,23 @@ fn lost(all: usize, kept: usize) -> u64
 /// Passes on a start tag with the attributes that are kept, and answers how many are not.
 fn pass_start<S: Serializer>(
     alloc: Global,
-    policy: &Policy,
+    notes: &mut Notes,
     serializer: &mut S,
     passes: bool,
     name: &QualName,
     attrs: &[Attribute],
 ) -> Result<u64, SerializeFault>
     ensures passes { Passes S.step S.refuses (S.view serializer.old)
-        (if_passed passes (StartElem name.now (policies.kept_attributes policy.now name.now.local attrs.now)))
+        (if_passed passes (StartElem name.now (policies.kept_attributes notes.old name.now.local attrs.now)))
         result (S.view serializer.new) }
-    ensures lost { IfOk result (λ lost. passes ≡ true → lost ≡ lost_attributes policy.now name.now.local attrs.now) }
+    ensures lost { IfOk result (λ lost. passes ≡ true → lost ≡ lost_attributes notes.old name.now.local attrs.now) }
+    ensures same_policy { notes.new ≡ notes.old }
     ensures same_references { S.references serializer.new ≡ S.references serializer.old }
 {
     if !passes {
         return Ok(0);
     }
-    let Ok(kept) = kept_attributes(alloc, policy, &name.local, attrs) else {
+    let Ok(kept) = kept_attributes(alloc, notes, &name.local, attrs) else {
         return Err(SerializeFault::Memory);
     };
     let kept = kept.as_slice();
@@ -205,7 +206,8 @@ fn pass_text<S: Serializer>(
 #[derive(Drop)]
 pub struct Filter<'a, S: Serializer> {
     serializer: &'a mut S,
-    policy: &'a Policy,
+    /// The policy.
+    notes: Notes<'a>,
     alloc: Global,
     begun: Open,
     /// Whether nothing was passed on yet.
@@ -221,14 +223,14 @@ impl<'a, S: Serializer> Filter<'a, S> {
     pub fn new(alloc: Global, policy: &'a Policy, serializer: &'a mut S) -> Filter<'a, S>
         ensures same_reference { result.serializer.ghost_name ≡ serializer.entry.ghost_name }
         ensures serializer { result.serializer.now ≡ serializer.old }
-        ensures policy { result.policy.now ≡ policy.now }
+        ensures policy { result.notes ≡ policy.now }
         ensures begun { result.begun ≡ [] }
         ensures front { result.front ≡ true }
         ensures counts { result.counts ≡ nothing_counted }
     {
         Filter {
             serializer,
-            policy,
+            notes: Notes::new(alloc, policy),
             alloc,
             begun: Open::new(alloc),
             front: true,
@@ -262,7 +264,7 @@ impl<'a, S: Serializer> Serializer for Filter<'a, S> {
     ghost State = { Filtering S.State };
 
     ghost view = { λ f. record {
-      policy = f.policy.now;
+      policy = f.notes;
       inner = S.view f.serializer.now;
       stack = f.begun;
       front = f.front;
@@ -276,13 +278,13 @@ impl<'a, S: Serializer> Serializer for Filter<'a, S> {
     ghost references = { λ f. f.serializer.ghost_name ∷ S.references f.serializer.now };
 
     fn start_elem(&mut self, name: &QualName, attrs: &[Attribute]) -> Result<(), SerializeFault> {
-        let fate = fate_of(self.policy, name);
+        let Judged { fate, is_void } = self.notes.element(name);
         let hidden = self.begun.hides();
-        let opened = opened_by(hidden, fate, is_void(&name.local));
+        let opened = opened_by(hidden, fate, is_void);
         self.begun.push(opened)?;
         let lost = pass_start(
             self.alloc,
-            self.policy,
+            &mut self.notes,
             self.serializer,
             opened.passes,
             name,

@@ -10,6 +10,7 @@ mod elements;
 mod filter;
 pub mod laws;
 mod names;
+mod notes;
 mod policy;
 mod ready;
 pub mod rows;

@@ -8,6 +8,7 @@ ghost use Rattle.html_round_trip.specs.Slices.Forms.{is_no_text};
 ghost use Rattle.html_clean.specs.Policies as policies;
 ghost use Rattle.markup.specs.declared.fault.ParseFault.TheVariants.{Memory};
 
+use html_plain::texts::is_plain_text;
 use markup::{ParseFault, Text};
 use std::alloc::Global;
 
@@ -36,7 +37,7 @@ fn filtered_text(alloc: Global, text: &str) -> Result<Text, ParseFault>
 fn is_plain(text: &str) -> bool
     ensures { result ≡ list_all is_plain_character (chars text.now) }
 {
-    text.chars().all(|c| is_plain_character(c))
+    is_no_text(text) || is_plain_text(text)
 }
 
 /// A text without U+0000 and U+000D.

@@ -290,7 +290,7 @@ known_split old new front whole left moved whole_is left_is =
 
 -- a read that shows bytes at fault
 pub shows-fault : (old new : Option (List ℕ)) (earlier last : List ℕ) (at : ℕ) → old ≡ prepend_known
-    (earlier ++ last) new → BeginsText earlier → length last ≤ 4096
+    (earlier ++ last) new → BeginsText earlier → length last ≤ 32768
     → ((more : List ℕ) → IsValidUpTo ((earlier ++ last) ++ more) at)
     → (whole left : List ℕ) → old ≡ Some whole → new ≡ Some left → ShowsNotUtf8 whole left at
 shows-fault old new earlier last at moved soon piece fault whole left whole_is left_is =

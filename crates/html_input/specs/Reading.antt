@@ -16,7 +16,7 @@ pub record ShowsNotUtf8 (whole left : List ℕ) (at : ℕ) : Type 0 where
   pub moved : whole ≡ (earlier ++ last) ++ left
   pub front : IsValidUpTo whole at
   pub soon : BeginsText earlier
-  pub piece : length last ≤ 4096
+  pub piece : length last ≤ 32768
 
 -- What was read begins a text.
 pub record HasBegun (whole left : List ℕ) : Type 0 where

@@ -10,8 +10,8 @@ use crate::fault::TextFault;
 use devices::Source;
 use std::alloc::Global;
 
-/// How many bytes are asked for a read.
-pub const PIECE: usize = 4096;
+/// The most bytes that one read asks for. The more they are, the fewer tags and characters are cut between two reads.
+pub const PIECE: usize = 32_768;
 
 /// The length of the longest front of bytes that begin a text; so much of it is known. An error is that of bytes that begin none.
 pub(crate) fn valid_front(bytes: &[u8], known: usize) -> Result<usize, usize>
@@ -33,7 +33,7 @@ pub(crate) fn valid_front(bytes: &[u8], known: usize) -> Result<usize, usize>
     }
 }
 
-/// Reads a text to its end, in reads of at most 4,096 bytes.
+/// Reads a text to its end, in reads of at most [`PIECE`] bytes.
 ///
 /// A fault is told as soon as a read shows it.
 pub fn read_text<R: Source>(alloc: Global, reader: &mut R) -> Result<String, TextFault>

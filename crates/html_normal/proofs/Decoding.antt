@@ -67,7 +67,7 @@ module _ (old mid new : Option (List ℕ)) (decoded held piece : List ℕ) (take
 
   -- a piece was read that shows bytes at fault
   pub fault-shown : (refused : Type 0) (fault : TextFault) (bytes : List ℕ) → bytes ≡ held ++ piece
-      → length piece ≤ 4096 → IsFaultAfter taken bytes fault → IsInputFault refused old new (input_fault_of fault)
+      → length piece ≤ 32768 → IsFaultAfter taken bytes fault → IsInputFault refused old new (input_fault_of fault)
   fault-shown refused (text.NotUtf8 at) bytes is short shown =
       let whole : decoded ++ bytes ≡ (decoded ++ held) ++ piece = ap (λ bs. decoded ++ bs) is ∙ sym (append_assoc decoded held piece) in
       let fault = subst (λ (bs : List ℕ). StaysAtFault bs at) whole (shown decoded so_far.text (sym so_far.counted)) in

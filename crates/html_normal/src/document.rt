@@ -18,8 +18,8 @@ use html_tree_builder::TreeBuilderOpts;
 use markup::TreeSink;
 use std::alloc::Global;
 
-/// Has a parser take all that a reader has, in reads of at most 4,096 bytes. A character that a read cuts is held until the rest
-/// of it comes.
+/// Has a parser take all that a reader has, in reads of at most [`PIECE`] bytes. A character that a read cuts is held until the
+/// rest of it comes.
 pub(crate) fn read_into<R: Source, Sink: TreeSink>(
     alloc: Global,
     reader: &mut R,

@@ -10,14 +10,14 @@ returns-clause-walks g c =
     let k : c.serializer-1.given.0 ≡ c.serialize-answer.new.serializer.serializer.now = c.serializer-1.given.1
     (sym (c.end.ensures.same_reference ∙ (e ∙ c.new-filter.ensures.same_reference))) ∙ c.end.ensures.serializer in
     let old : Filtering g.S.Serializer.State = record {
-      policy = c.new-filter.result.policy.now;
+      policy = c.new-filter.result.notes;
       inner = g.S.Serializer.view c.new-filter.result.serializer.now;
       stack = c.new-filter.result.begun;
       front = c.new-filter.result.front;
       counts = c.new-filter.result.counts;
     } in
     let new : Filtering g.S.Serializer.State = record {
-      policy = c.serialize-answer.new.serializer.policy.now;
+      policy = c.serialize-answer.new.serializer.notes;
       inner = g.S.Serializer.view c.serialize-answer.new.serializer.serializer.now;
       stack = c.serialize-answer.new.serializer.begun;
       front = c.serialize-answer.new.serializer.front;
@@ -33,14 +33,14 @@ returns-clause-walks g c =
 pub returns-clause-counts : goal.returns-clause-counts
 returns-clause-counts g c =
     let old : Filtering g.S.Serializer.State = record {
-      policy = c.new-filter.result.policy.now;
+      policy = c.new-filter.result.notes;
       inner = g.S.Serializer.view c.new-filter.result.serializer.now;
       stack = c.new-filter.result.begun;
       front = c.new-filter.result.front;
       counts = c.new-filter.result.counts;
     } in
     let new : Filtering g.S.Serializer.State = record {
-      policy = c.serialize-answer.new.serializer.policy.now;
+      policy = c.serialize-answer.new.serializer.notes;
       inner = g.S.Serializer.view c.serialize-answer.new.serializer.serializer.now;
       stack = c.serialize-answer.new.serializer.begun;
       front = c.serialize-answer.new.serializer.front;

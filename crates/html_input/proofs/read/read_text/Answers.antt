@@ -31,7 +31,7 @@ returns-in-Err-clause-err g c =
     let last = take c.in-Ok.count c.read_some.new.buffer in
     let all : c.as_slice.result.now ≡ earlier ++ last = grind (arith, common_steps) in
     let room = c.loop-count.invariant.room in
-    let piece : length last ≤ 4096 = omega (arith, length-take c.in-Ok.count c.read_some.new.buffer, c.in-Ok.ensures.within) in
+    let piece : length last ≤ 32768 = omega (arith, length-take c.in-Ok.count c.read_some.new.buffer, c.in-Ok.ensures.within) in
     let fault = subst (λ (bs : List ℕ). StaysAtFault bs c.in-Err.valid) all c.in-Err.ensures.err in
     shows-fault _ _ earlier last c.in-Err.valid (moved-more _ _ _ earlier last c.loop-count.invariant.moved c.in-Ok.ensures.moved)
     (BeginsText-front earlier c.loop-count.valid c.loop-count.invariant.front) piece fault

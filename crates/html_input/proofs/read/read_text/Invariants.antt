@@ -8,7 +8,7 @@ invariant-loop-count g l = record {
   moved : g.R.Source.left l.fn.reader ≡ prepend_known l.bytes.items (g.R.Source.left l.reader);
   front : IsFront l.bytes.items l.valid;
   counted : g.R.Source.failures l.reader ≡ g.R.Source.failures l.fn.reader;
-  room : length l.buffer ≡ 4096;
+  room : length l.buffer ≡ 32768;
   same_references : g.R.Source.references l.reader ≡ g.R.Source.references l.fn.reader;
 }
 

@@ -64,7 +64,7 @@ returns-in_err-text-clause-err g c =
     let bytes = c.extend_from_slice.new.self.items in
     let is : bytes ≡ c.loop-count.held.items ++ piece = grind (arith, common_steps) in
     let room = c.loop-count.invariant.room in
-    let short : length piece ≤ 4096 = omega (arith, length-take c.in-Ok.count c.read_some.new.buffer, c.in-Ok.ensures.within) in
+    let short : length piece ≤ 32768 = omega (arith, length-take c.in-Ok.count c.read_some.new.buffer, c.in-Ok.ensures.within) in
     rw (p.1, p.2)
     (fault-shown _ _ _ so_far.0 c.loop-count.held.items piece c.loop-count.taken so_far.1.0 c.in-Ok.ensures.moved
     (MayRefuse g.Sink.TreeSink c.args.parser.now.tokenizer) _ bytes is short c.in_err-text.ensures.err)

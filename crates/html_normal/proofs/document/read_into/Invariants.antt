@@ -14,7 +14,7 @@ invariant-loop-count g l = record {
   rest : IsAtRest g.Sink.TreeSink l.parser.has_failed l.parser.tokenizer l.parser.input_buffer;
   small : l.taken + length l.held.items < 2 ^ 64;
   counted : g.R.Source.failures l.reader ≡ g.R.Source.failures l.fn.reader;
-  room : length l.buffer ≡ 4096;
+  room : length l.buffer ≡ 32768;
   same_references : g.R.Source.references l.reader ≡ g.R.Source.references l.fn.reader;
 }
 
