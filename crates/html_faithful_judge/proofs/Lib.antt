@@ -1,0 +1,3 @@
+mod Emitted
+mod Turns
+mod Words
