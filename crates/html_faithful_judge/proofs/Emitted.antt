@@ -18,7 +18,7 @@ use Rattle.std.specs.Prelude.{Some}
 use Rattle.std.specs.Str.{bytes_eq}
 use Rattle.html_plain.proofs.Parts.{distinct-more, repeated, split-at, take-at}
 use Rattle.html_faithful.specs.Forms.{are_told, told_attribute}
-use Rattle.html_faithful_judge.specs.Texts.{is_told}
+use Rattle.html_faithful_judge.specs.Texts.{is_kept_attribute}
 
 prefixes : (o : Option KnownNamespace) (b : Bool) → chars (prefix_by o b) ≡ prefix_by o b
 prefixes (Some NoNamespace) b = chars-plain (codes "") refl
@@ -41,42 +41,42 @@ pub emitted-next : (l : List Attribute) (i : ℕ) (x : Attribute) → i < length
     → map told_attribute (take (i + 1) l) ≡ map told_attribute (take i l) ++ told_attribute x ∷ []
 emitted-next l i x lt e = ap (map told_attribute) (take-at l i x lt e) ∙ map-append told_attribute (take i l) (x ∷ [])
 
-told-by : (a b c d : Bool) → ((a && (b && true)) && (c && not d)) ≡ ((a && c) && (b && not d))
-told-by true true c d = refl
-told-by true false true d = refl
-told-by true false false d = refl
-told-by false b c d = refl
+kept-by : (a b c d : Bool) → ((a && (b && true)) && (c && not d)) ≡ ((a && c) && (b && not d))
+kept-by true true c d = refl
+kept-by true false true d = refl
+kept-by true false false d = refl
+kept-by false b c d = refl
 
-told-more : (front : List Attribute) (a : Attribute) → are_told (front ++ a ∷ []) ≡
-    (are_told front && (is_told a && not (has_local_name a.name.local front)))
-told-more front a =
-    ap (λ b. b && are_distinct (front ++ a ∷ [])) (list_all-append is_told front (a ∷ []))
-    ∙ (ap (λ b. (list_all is_told front && (is_told a && true)) && b) (distinct-more front a)
-    ∙ told-by (list_all is_told front) (is_told a) (are_distinct front) (has_local_name a.name.local front))
+kept-more : (front : List Attribute) (a : Attribute) → are_told (front ++ a ∷ []) ≡
+    (are_told front && (is_kept_attribute a && not (has_local_name a.name.local front)))
+kept-more front a =
+    ap (λ b. b && are_distinct (front ++ a ∷ [])) (list_all-append is_kept_attribute front (a ∷ []))
+    ∙ (ap (λ b. (list_all is_kept_attribute front && (is_kept_attribute a && true)) && b) (distinct-more front a)
+    ∙ kept-by (list_all is_kept_attribute front) (is_kept_attribute a) (are_distinct front) (has_local_name a.name.local front))
 
 -- one more may join them
-pub told-joined : (front : List Attribute) (a : Attribute) (b : Bool) → are_told front ≡ true
-    → b ≡ (is_told a && not (has_local_name a.name.local front)) → b ≡ true → are_told (front ++ a ∷ []) ≡ true
-told-joined front a b h e may = told-more front a ∙ (ap (λ t. t && (is_told a && not (has_local_name a.name.local front))) h ∙ (sym e ∙ may))
+pub kept-joined : (front : List Attribute) (a : Attribute) (b : Bool) → are_told front ≡ true
+    → b ≡ (is_kept_attribute a && not (has_local_name a.name.local front)) → b ≡ true → are_told (front ++ a ∷ []) ≡ true
+kept-joined front a b h e may = kept-more front a ∙ (ap (λ t. t && (is_kept_attribute a && not (has_local_name a.name.local front))) h ∙ (sym e ∙ may))
 
-untold-by : (a b : Bool) → ((a && (false && b)) && true) ≡ false
-untold-by true b = refl
-untold-by false b = refl
+unkept-by : (a b : Bool) → ((a && (false && b)) && true) ≡ false
+unkept-by true b = refl
+unkept-by false b = refl
 
 and-false : (a : Bool) → (a && false) ≡ false
 and-false true = refl
 and-false false = refl
 
-untold : (all distinct told has : Bool) (rest : Bool) → (told && not has) ≡ false → (has ≡ true → distinct ≡ false)
+unkept : (all distinct told has : Bool) (rest : Bool) → (told && not has) ≡ false → (has ≡ true → distinct ≡ false)
     → ((all && (told && rest)) && distinct) ≡ false
-untold all distinct false has rest h d = elim all as (λ all. ((all && false) && distinct) ≡ false) [ true ↦ refl | false ↦ refl ]
-untold all distinct true true rest h d = ap (λ b. (all && rest) && b) (d refl) ∙ and-false (all && rest)
-untold all distinct true false rest h d = absurd cc
+unkept all distinct false has rest h d = elim all as (λ all. ((all && false) && distinct) ≡ false) [ true ↦ refl | false ↦ refl ]
+unkept all distinct true true rest h d = ap (λ b. (all && rest) && b) (d refl) ∙ and-false (all && rest)
+unkept all distinct true false rest h d = absurd cc
 
 -- one may not
-pub told-refused : (front : List Attribute) (a : Attribute) (rest : List Attribute) (b : Bool)
-    → b ≡ (is_told a && not (has_local_name a.name.local front)) → b ≡ false → are_told (front ++ a ∷ rest) ≡ false
-told-refused front a rest b e refused =
-    ap (λ t. t && are_distinct (front ++ a ∷ rest)) (list_all-append is_told front (a ∷ rest))
-    ∙ untold (list_all is_told front) (are_distinct (front ++ a ∷ rest)) (is_told a) (has_local_name a.name.local front)
-    (list_all is_told rest) (sym e ∙ refused) (repeated front a rest)
+pub kept-refused : (front : List Attribute) (a : Attribute) (rest : List Attribute) (b : Bool)
+    → b ≡ (is_kept_attribute a && not (has_local_name a.name.local front)) → b ≡ false → are_told (front ++ a ∷ rest) ≡ false
+kept-refused front a rest b e refused =
+    ap (λ t. t && are_distinct (front ++ a ∷ rest)) (list_all-append is_kept_attribute front (a ∷ rest))
+    ∙ unkept (list_all is_kept_attribute front) (are_distinct (front ++ a ∷ rest)) (is_kept_attribute a) (has_local_name a.name.local front)
+    (list_all is_kept_attribute rest) (sym e ∙ refused) (repeated front a rest)

@@ -11,8 +11,8 @@ begins_lower [] = false
 begins_lower (c ∷ cs) = is_ascii_lowercase c
 
 -- whether an attribute that is emitted has the name and the value with which it is written
-abbrev pub is_told : Attribute → Bool
-is_told a = is_attribute_name a.name.local && is_kept a.value
+abbrev pub is_kept_attribute : Attribute → Bool
+is_kept_attribute a = is_attribute_name a.name.local && is_kept a.value
 
 -- the attributes that are emitted, where they have the names and the values with which they are written
 abbrev pub emitted_attributes : List Attribute → Option (List Attribute)

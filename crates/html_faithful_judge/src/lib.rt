@@ -1,9 +1,15 @@
 //! Whether a document is faithful: whether what is written of it (HTML Standard, section 13.3) is read as just it (section 13.2).
 #![tactic(auto)]
 
+mod actions;
 mod characters;
+mod inserting;
+pub mod made;
 mod names;
+pub mod rows;
+pub mod spot;
 mod texts;
+pub mod tokens;
 
 pub use names::{emitted_attributes, is_attribute_name, is_tag_name};
 pub use texts::{is_comment_text, is_kept, is_raw_text};

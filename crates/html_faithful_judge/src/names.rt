@@ -7,7 +7,7 @@ ghost use Rattle.markup.specs.Attributes.{has_local_name};
 ghost use Rattle.markup.specs.Escape.{attribute_prefix};
 ghost use Rattle.markup.specs.declared.fault.ParseFault.TheVariants.{Memory};
 ghost use Rattle.html_faithful.specs.Forms.{is_attribute_name, is_error_in_name, is_odd_in_name, is_tag_name, lowered, told_attribute};
-ghost use Rattle.html_faithful_judge.specs.Texts.{begins_lower, emitted_attributes, is_told};
+ghost use Rattle.html_faithful_judge.specs.Texts.{begins_lower, emitted_attributes, is_kept_attribute};
 
 use crate::texts::is_kept;
 use markup::{
@@ -119,17 +119,17 @@ fn emitted_attribute(alloc: Global, attribute: &Attribute) -> Result<Attribute, 
 }
 
 /// Whether an attribute that is emitted has the name and the value with which it is written.
-fn is_told(attribute: &Attribute) -> bool
-    ensures { result ≡ is_told attribute.now }
+fn is_kept_attribute(attribute: &Attribute) -> bool
+    ensures { result ≡ is_kept_attribute attribute.now }
 {
     is_attribute_name(attribute.name.local.as_str()) && is_kept(attribute.value.as_str())
 }
 
 /// Whether an attribute that is emitted after others is so, and is not dropped since its name is that of one of them.
 fn may_join(emitted: &Attributes, attribute: &Attribute) -> bool
-    ensures { result ≡ (is_told attribute.now && not (has_local_name attribute.now.name.local emitted.now)) }
+    ensures { result ≡ (is_kept_attribute attribute.now && not (has_local_name attribute.now.name.local emitted.now)) }
 {
-    is_told(attribute) && !emitted.has_local_name(&attribute.name.local)
+    is_kept_attribute(attribute) && !emitted.has_local_name(&attribute.name.local)
 }
 
 /// Attributes as they are emitted with a start tag; none where one of them would be emitted with another name or value than it is written
