@@ -1,4 +1,6 @@
-//! Whether a document is faithful: whether what is written of it (HTML Standard, section 13.3) is read as just it (section 13.2).
+//! What a judge of faithful documents asks (HTML Standard, sections 13.2 and 13.3): which names, attributes, texts and comments are read as
+//! they are written; where the next node of a tree stands, and what the rows of the rules ask there; and what actions of rows do there, where
+//! they only put one node or close the current one.
 #![tactic(auto)]
 
 mod actions;
