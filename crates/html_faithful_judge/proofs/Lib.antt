@@ -1,0 +1,7 @@
+mod Contexts
+mod Doing
+mod Emitted
+mod FewRows
+mod Foreign
+mod Turns
+mod Words

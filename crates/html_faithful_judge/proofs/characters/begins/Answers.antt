@@ -1,0 +1,6 @@
+use Rattle.std.proofs.Common.{◌∙◌, sym, arith}
+use Rattle.html_faithful_judge.proofs.Words.{begins-short}
+use Rattle.html_faithful_judge.proofs.characters.begins.Goals as goal
+
+pub returns-then-i-text : goal.returns-then-i-text
+returns-then-i-text c = sym (c.loop-i.invariant ∙ begins-short c.args.word.now c.args.text.now c.loop-i.i (omega arith) (omega arith))

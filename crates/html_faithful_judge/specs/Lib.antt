@@ -1,0 +1,5 @@
+pub mod Mades
+pub mod Rows
+pub mod Spots
+pub mod Texts
+pub mod Tokens
