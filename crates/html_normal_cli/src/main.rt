@@ -3,32 +3,12 @@
 //! What it does is `html_normal_program`; here it gets its words, its files and its streams.
 #![tactic(auto)]
 
-ghost use Rattle.std.specs.Prelude.{None};
-
 use devices::{StdSource, StdTarget};
 use html_normal::{NormalFault, ProgramFault, Report};
-use html_normal_program::{Opener, normalised, tell};
+use html_normal_program::{HostFiles, normalised, tell};
 use std::env;
-use std::fs::File;
 use std::io::{self, BufWriter, ErrorKind};
 use std::process::ExitCode;
-
-/// The files of the operating system.
-#[derive(Drop)]
-struct Files<'a> {
-    rt: &'a HostRuntime,
-}
-
-impl Opener<StdSource<File>> for Files<'_> {
-    ghost files = { λ _ _. None };
-
-    fn open(&self, name: &str) -> Option<StdSource<File>> {
-        match File::open(self.rt, name) {
-            Ok(file) => Some(StdSource::new(file)),
-            Err(_) => None,
-        }
-    }
-}
 
 /// Why the program's arguments could not be read: out of memory, or one of them is not UTF-8.
 fn words_fault(error: &io::Error) -> ProgramFault {
@@ -61,7 +41,7 @@ fn run(rt: &HostRuntime) -> Result<Report, ProgramFault> {
     };
     let mut output = StdTarget::new(buffer);
     let mut input = StdSource::new(rt.stdin());
-    let files = Files { rt };
+    let files = HostFiles::new(rt);
     let report = normalised(
         rt.alloc(),
         words.as_slice(),

@@ -7,6 +7,6 @@ mod opener;
 mod running;
 mod telling;
 
-pub use opener::Opener;
+pub use opener::{HostFiles, Opener};
 pub use running::normalised;
 pub use telling::tell;

@@ -1,8 +1,9 @@
 //! What opens files.
-ghost use Rattle.std.specs.Prelude.{ℕ, List, Option, IfNone, IfSome};
+ghost use Rattle.std.specs.Prelude.{ℕ, List, None, Option, IfNone, IfSome};
 ghost use Rattle.html_normal_program.specs.Streams.{IsMissing, IsOpened};
 
-use devices::Source;
+use devices::{Source, StdSource};
+use std::fs::File;
 
 /// What opens files by their names.
 ///
@@ -15,4 +16,28 @@ pub trait Opener<File: Source> {
     fn open(&self, name: &str) -> Option<File>
         ensures opened { IfSome result (λ file. IsOpened (files self.now name.now) (File.left file)) }
         ensures missing { IfNone result (IsMissing (files self.now name.now)) };
+}
+
+/// The files of the operating system, of which contracts state nothing.
+#[derive(Drop)]
+pub struct HostFiles<'a> {
+    rt: &'a HostRuntime,
+}
+
+impl HostFiles<'_> {
+    /// The files that a program may open.
+    pub fn new(rt: &HostRuntime) -> HostFiles<'_> {
+        HostFiles { rt }
+    }
+}
+
+impl Opener<StdSource<File>> for HostFiles<'_> {
+    ghost files = { λ _ _. None };
+
+    fn open(&self, name: &str) -> Option<StdSource<File>> {
+        match File::open(self.rt, name) {
+            Ok(file) => Some(StdSource::new(file)),
+            Err(_) => None,
+        }
+    }
 }
