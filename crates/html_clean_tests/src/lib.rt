@@ -6,3 +6,5 @@
 mod again;
 #[cfg(test)]
 mod policies;
+#[cfg(test)]
+mod program;
