@@ -12,6 +12,8 @@ mod page;
 mod report;
 mod room;
 mod table;
+#[cfg(test)]
+mod tests;
 mod tree;
 
 use clean::{clean_document_by, clean_fragment_by};
