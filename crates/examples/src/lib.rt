@@ -7,6 +7,7 @@ pub mod documents;
 pub mod links;
 pub mod nodes;
 pub mod outlines;
+pub mod selecting;
 pub mod tags;
 pub mod texts;
 pub mod tokens;

@@ -3,6 +3,7 @@ use examples::documents::normal;
 use examples::links::links;
 use examples::nodes::{count_children, title};
 use examples::outlines::outline;
+use examples::selecting::links_elsewhere;
 use examples::tags::tags;
 use examples::texts::text;
 use examples::tokens::tokens;
@@ -60,6 +61,19 @@ fn a_page_is_looked_through(rt: HostRuntime) -> Result<(), Fail> {
     assert!(rt; headings.len() == 2);
     let shown = text(alloc, table(alloc)?, page(alloc)?)?;
     assert!(rt; shown.as_str() == "A caféOne andSee two or three, none.End");
+    Ok(())
+}
+
+#[test]
+fn elements_are_selected(rt: HostRuntime) -> Result<(), Fail> {
+    let alloc = rt.alloc();
+    let page = "<p><a href=//x>one</a> <a href=/y>two</a><a href=https://z>thr<i>ee</i></a>";
+    let forest = tree(alloc, table(alloc)?, String::from_str(alloc, page)?)?;
+    let texts = links_elsewhere(alloc, &forest)?;
+    for (text, want) in texts.iter().zip(["one", "three"]) {
+        assert!(rt; text.as_str() == want);
+    }
+    assert!(rt; texts.len() == 2);
     Ok(())
 }
 

@@ -60,5 +60,16 @@ pub use Rattle.html_nodes.specs.Looks
 pub use Rattle.html_extracts.specs.Lines
 pub use Rattle.html_extracts.specs.Links as PageLinks
 pub use Rattle.html_extracts.specs.Shown
+pub use Rattle.html_inner_text.specs.InnerText
+pub use Rattle.html_inner_text.specs.Styles as RenderedStyles
 pub use Rattle.html_pages.specs.Pages
 pub use Rattle.html_pages.specs.ReadBack
+-- pages in other encodings
+pub use Rattle.html_encodings.specs.Labels as EncodingLabels
+pub use Rattle.html_encodings.specs.Sniffing
+pub use Rattle.html_encodings.specs.declared.names.Encoding
+pub use Rattle.html_encodings.specs.declared.sniffing.Sniffed
+pub use Rattle.html_encodings.specs.declared.sniffing.Why
+pub use Rattle.html_encodings_multibyte.specs.Every as Decoding
+pub use Rattle.html_encodings_multibyte.specs.Texts as DecodedTexts
+pub use Rattle.html_decoded_source.specs.Sources

@@ -1,8 +1,9 @@
 //! Nodes of a page: which stand below one, and what they are named, have and say.
 
 use figpliers::{
-    Forest, NodeId, NormalFault, ParseFault, Query, References, are_told_alike, attribute_of,
-    attributes_of, document, element_name, has_class, is_html, nodes_below, select, text_content,
+    Forest, NodeId, NormalFault, ParseFault, References, SelectorError, are_told_alike,
+    attribute_of, attributes_of, document, element_name, has_class, is_html, nodes_below, select,
+    text_content,
 };
 use std::alloc::Global;
 use std::test::Fail;
@@ -10,26 +11,24 @@ use std::test::Fail;
 const PAGE: &str =
     "<!DOCTYPE html><title>T</title><body id=body class='x y'><p id=one class=x>1 <b id=bold class=X>2</b><!-- 3 --></p><svg id=image><a id=drawn xlink:href=q href=r>4</a></svg><template id=kept><p id=inner class=x>5</p></template><p id=two class=' y\tx '>6</p><a id=link href='/u?a=1&amp;b' class=''>7</a><script>8</script>";
 
-/// Names, ids and classes that are asked for, and the ids of the elements that have them.
-const QUERIES: &[(Option<&str>, Option<&str>, Option<&str>, &str)] = &[
-    (Some("p"), None, None, "one two "),
-    (Some("a"), None, None, "link "),
-    (Some("P"), None, None, ""),
-    (None, Some("bold"), None, "bold "),
-    (None, None, Some("x"), "body one two "),
-    (None, None, Some("y"), "body two "),
-    (None, None, Some("X"), "bold "),
-    (None, None, Some("x y"), ""),
-    (None, None, Some(""), ""),
-    (Some("p"), None, Some("y"), "two "),
-    (Some("p"), Some("one"), Some("x"), "one "),
-    (Some("p"), Some("one"), Some("y"), ""),
-    (
-        None,
-        None,
-        None,
-        "- - - body one bold image drawn kept two link - ",
-    ),
+/// Selectors, and the ids of the elements that they select.
+const SELECTORS: &[(&str, &str)] = &[
+    ("p", "one two "),
+    ("P", "one two "),
+    ("a", "drawn link "),
+    ("svg|a", "drawn "),
+    ("#bold", "bold "),
+    (".x", "body one two "),
+    (".y", "body two "),
+    (".X", "bold "),
+    (".x.y", "body two "),
+    ("p.y", "two "),
+    ("p#one.x", "one "),
+    ("p#one.y", ""),
+    ("body > :not(p)", "image kept link - "),
+    ("p:has(> b) ~ a", "link "),
+    ("a:nth-of-type(1)", "drawn link "),
+    ("*", "- - - body one bold image drawn kept two link - "),
 ];
 
 /// Ids of elements, and the text in each.
@@ -50,25 +49,20 @@ fn page_of(alloc: Global, text: &str) -> Result<Forest, NormalFault> {
     document(alloc, five, String::from_str(alloc, text)?)
 }
 
-/// The ids of the elements that are asked for, each with a space after it.
-fn ids_of(alloc: Global, forest: &Forest, query: &Query<'_>) -> Result<String, ParseFault> {
+/// The ids of the elements that are selected, each with a space after it.
+fn ids_of(alloc: Global, forest: &Forest, selector: &str) -> Result<String, SelectorError> {
     let mut ids = String::new(alloc);
-    for id in select(alloc, forest, forest.document(), query)? {
+    for id in select(alloc, forest, forest.document(), selector)? {
         ids.push_str(attribute_of(forest, id, "id").unwrap_or("-"))?;
         ids.push_str(" ")?;
     }
     Ok(ids)
 }
 
-/// The first query that finds others.
-fn first_wrong_query(alloc: Global, forest: &Forest) -> Option<usize> {
-    for (place, (name, id, class, wanted)) in QUERIES.iter().enumerate() {
-        let query = Query {
-            name: *name,
-            id: *id,
-            class: *class,
-        };
-        let Ok(ids) = ids_of(alloc, forest, &query) else {
+/// The first selector that selects others.
+fn first_wrong_selector(alloc: Global, forest: &Forest) -> Option<usize> {
+    for (place, (selector, wanted)) in SELECTORS.iter().enumerate() {
+        let Ok(ids) = ids_of(alloc, forest, selector) else {
             return Some(place);
         };
         if ids.as_str() != *wanted {
@@ -80,15 +74,12 @@ fn first_wrong_query(alloc: Global, forest: &Forest) -> Option<usize> {
 
 /// The first element of this id.
 fn named(alloc: Global, forest: &Forest, id: &str) -> Option<NodeId> {
-    let query = Query {
-        name: None,
-        id: Some(id),
-        class: None,
-    };
-    select(alloc, forest, forest.document(), &query)
-        .ok()?
-        .first()
-        .copied()
+    for node in nodes_below(forest, forest.document()) {
+        if attribute_of(forest, node, "id") == Some(id) {
+            return Some(node);
+        }
+    }
+    None
 }
 
 /// The first element that has another text.
@@ -110,7 +101,7 @@ fn first_wrong_text(alloc: Global, forest: &Forest) -> Option<usize> {
 #[test]
 fn elements_are_found(rt: HostRuntime) -> Result<(), Fail> {
     let forest = page_of(rt.alloc(), PAGE)?;
-    assert_eq!(rt; first_wrong_query(rt.alloc(), &forest), None);
+    assert_eq!(rt; first_wrong_selector(rt.alloc(), &forest), None);
     assert_eq!(rt; first_wrong_text(rt.alloc(), &forest), None);
     Ok(())
 }
