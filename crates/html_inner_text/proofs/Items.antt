@@ -4,7 +4,7 @@ use Rattle.markup.specs.Forest.{Forest, IsForest, is_among, node_count}
 use Rattle.markup.specs.Named.{HasContents}
 use Rattle.markup.specs.Trees.{inner_of}
 use Rattle.markup.proofs.WholeTrees.{Within, among-first, among-later, inner-within}
-use Rattle.html_inner_text.specs.InnerText.{Item, items, items_each, items_within, node_items}
+use Rattle.html_inner_text.specs.Items.{Item, items, items_each, items_within, node_items}
 use Rattle.html_inner_text.specs.Styles.{Style, inside}
 
 each-same : (f : Forest) (g h : Style → List ℕ → List Item) (s : Style) (ns : List ℕ)

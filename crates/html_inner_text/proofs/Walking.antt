@@ -7,7 +7,8 @@ use Rattle.markup.specs.Named.{HasContents}
 use Rattle.markup.specs.NodeCounts.{nodes_in}
 use Rattle.markup.specs.Trees.{inner_of}
 use Rattle.markup.proofs.WholeTrees.{nodes-first, nodes-none}
-use Rattle.html_inner_text.specs.InnerText.{Item, At, closes, edged, items, node_items, opens, run, text_items}
+use Rattle.html_inner_text.specs.Items.{Item, At, closes, items, node_items, opens, text_items}
+use Rattle.html_inner_text.specs.InnerText.{edged, run}
 use Rattle.html_inner_text.specs.Styles.{inside}
 use Rattle.html_inner_text.specs.Walk.{IsEntered, IsLeft, IsTaken, finished, items_around, level_of, nodes_around, nodes_left}
 use Rattle.html_inner_text.specs.declared.walk.Level.{Level}

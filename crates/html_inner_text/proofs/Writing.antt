@@ -1,6 +1,7 @@
 -- Texts and items, one after the other.
 use Rattle.std.proofs.Common.{◌≡◌, ℕ, Bool, List, [], ◌∷◌, ◌++◌, refl}
-use Rattle.html_inner_text.specs.InnerText.{Item, after, pushed, run, written}
+use Rattle.html_inner_text.specs.Items.{Item}
+use Rattle.html_inner_text.specs.InnerText.{after, pushed, run, written}
 use Rattle.html_inner_text.specs.declared.writer.Writer.{Writer}
 
 pub written_more : (preserves : Bool) (w : Writer) (cs : List ℕ) (c : ℕ)

@@ -1,3 +1,4 @@
 pub mod Styles
+pub mod Items
 pub mod InnerText
 pub mod Walk

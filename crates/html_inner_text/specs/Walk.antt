@@ -3,7 +3,8 @@ use Rattle.std.specs.Prelude.{◌≡◌, ℕ, suc, ◌+◌, ◌<◌, List, [], �
 use Rattle.markup.specs.Forest.{Forest}
 use Rattle.markup.specs.NodeCounts.{nodes_in}
 use Rattle.markup.specs.Trees.{inner_of}
-use Rattle.html_inner_text.specs.InnerText.{Item, At, closes, edged, items, opens, run}
+use Rattle.html_inner_text.specs.Items.{Item, At, closes, items, opens}
+use Rattle.html_inner_text.specs.InnerText.{edged, run}
 use Rattle.html_inner_text.specs.Styles.{inside}
 use Rattle.html_inner_text.specs.declared.walk.Level.{Level}
 use Rattle.html_inner_text.specs.declared.walk.Walk.{Walk}

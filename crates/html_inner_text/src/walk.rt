@@ -7,7 +7,9 @@ ghost use Rattle.markup.specs.Named.{HasContents};
 ghost use Rattle.markup.specs.Trees.{inner_of};
 ghost use Rattle.markup.specs.declared.fault.ParseFault.TheVariants.{Memory};
 ghost use Rattle.html_inner_text.specs.InnerText as spec;
-ghost use Rattle.html_inner_text.specs.InnerText.{IsInnerText, edge_if};
+ghost use Rattle.html_inner_text.specs.Items as items;
+ghost use Rattle.html_inner_text.specs.Items.{edge_if};
+ghost use Rattle.html_inner_text.specs.InnerText.{IsInnerText};
 ghost use Rattle.html_inner_text.specs.Walk.{IsEntered, IsLeft, IsTaken};
 
 use crate::kinds::{Kind, kind_of};
@@ -41,7 +43,7 @@ pub(crate) struct Walk<'a> {
 }
 
 fn opening(kind: Kind) -> Edge
-    ensures { result ≡ spec.opening kind }
+    ensures { result ≡ items.opening kind }
 {
     match kind {
         Kind::Inline => Edge::Nothing,
@@ -58,7 +60,7 @@ fn opening(kind: Kind) -> Edge
 }
 
 fn end_of_cell(forest: &Forest, id: NodeId) -> Edge
-    ensures { result ≡ spec.end_of_cell forest.now id }
+    ensures { result ≡ items.end_of_cell forest.now id }
 {
     if cell_follows(forest, id) {
         Edge::LineEnd('\t')
@@ -68,7 +70,7 @@ fn end_of_cell(forest: &Forest, id: NodeId) -> Edge
 }
 
 fn end_of_row(forest: &Forest, id: NodeId) -> Edge
-    ensures { result ≡ spec.end_of_row forest.now id }
+    ensures { result ≡ items.end_of_row forest.now id }
 {
     if row_follows(forest, id) {
         Edge::LineEnd('\n')
@@ -78,7 +80,7 @@ fn end_of_row(forest: &Forest, id: NodeId) -> Edge
 }
 
 fn closing(forest: &Forest, id: NodeId, kind: Kind) -> Edge
-    ensures { result ≡ spec.closing forest.now id kind }
+    ensures { result ≡ items.closing forest.now id kind }
 {
     match kind {
         Kind::Inline => Edge::Nothing,
@@ -95,7 +97,7 @@ fn closing(forest: &Forest, id: NodeId, kind: Kind) -> Edge
 }
 
 fn opens(style: Style, kind: Kind) -> Edge
-    ensures { result ≡ edge_if style.rendered (spec.opening kind) }
+    ensures { result ≡ edge_if style.rendered (items.opening kind) }
 {
     if style.rendered {
         opening(kind)
@@ -105,7 +107,7 @@ fn opens(style: Style, kind: Kind) -> Edge
 }
 
 fn closes(forest: &Forest, style: Style, id: NodeId, kind: Kind) -> Edge
-    ensures { result ≡ edge_if style.rendered (spec.closing forest.now id kind) }
+    ensures { result ≡ edge_if style.rendered (items.closing forest.now id kind) }
 {
     if style.rendered {
         closing(forest, id, kind)

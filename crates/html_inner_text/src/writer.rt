@@ -3,6 +3,7 @@ ghost use Rattle.std.specs.Prelude.{◌≡◌, ◌++◌, IfErr, OnOk, option_map
 ghost use Rattle.std.specs.Str.{chars};
 ghost use Rattle.markup.specs.declared.fault.ParseFault.TheVariants.{Memory};
 ghost use Rattle.html_inner_text.specs.InnerText as spec;
+ghost use Rattle.html_inner_text.specs.Items as items;
 ghost use Rattle.html_inner_text.specs.declared.writer.Edge.TheVariants.{LineEnd};
 
 use crate::styles::Style;
@@ -194,7 +195,7 @@ impl Writer {
 
     /// Writes a text that inherits that style, if there is one.
     pub(crate) fn write_text(&mut self, style: Style, text: Option<&str>) -> Result<(), ParseFault>
-        ensures ok { OnOk result (self.new ≡ spec.run self.old (spec.text_items style (option_map (λ text. chars text.now) text.entry))) }
+        ensures ok { OnOk result (self.new ≡ spec.run self.old (items.text_items style (option_map (λ text. chars text.now) text.entry))) }
         ensures fault { IfErr result (λ fault. fault ≡ Memory) }
     {
         match text {

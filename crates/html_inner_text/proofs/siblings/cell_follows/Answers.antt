@@ -1,5 +1,5 @@
 use Rattle.std.proofs.Common.{◌∙◌, sym}
-use Rattle.html_inner_text.specs.InnerText.{cell_follows, is_cell}
+use Rattle.html_inner_text.specs.Items.{cell_follows, is_cell}
 use Rattle.html_inner_text.proofs.Following.{any-first, any-later, fewer, none-behind}
 use Rattle.html_inner_text.proofs.siblings.cell_follows.Goals as goal
 

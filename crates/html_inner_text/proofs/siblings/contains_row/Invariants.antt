@@ -1,7 +1,7 @@
 use Rattle.std.proofs.Common.{◌≡◌}
 use Rattle.std.specs.List.{list_any}
 use Rattle.markup.specs.Forest.{children_of}
-use Rattle.html_inner_text.specs.InnerText.{is_row}
+use Rattle.html_inner_text.specs.Items.{is_row}
 use Rattle.html_inner_text.proofs.siblings.contains_row.Given as goal
 
 abbrev pub invariant-loop-child : goal.invariant-loop-child

@@ -1,5 +1,5 @@
 use Rattle.std.proofs.Common.{◌∙◌, sym}
-use Rattle.html_inner_text.specs.InnerText.{has_row}
+use Rattle.html_inner_text.specs.Items.{has_row}
 use Rattle.html_inner_text.proofs.Following.{any-first, any-later, fewer, none-behind}
 use Rattle.html_inner_text.proofs.siblings.row_is_behind.Goals as goal
 

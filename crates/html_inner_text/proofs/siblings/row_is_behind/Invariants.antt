@@ -1,7 +1,7 @@
 use Rattle.std.proofs.Common.{◌≡◌, length}
 use Rattle.std.specs.List.{list_any}
 use Rattle.html_forest.specs.Walk.{behind}
-use Rattle.html_inner_text.specs.InnerText.{has_row}
+use Rattle.html_inner_text.specs.Items.{has_row}
 use Rattle.html_inner_text.proofs.siblings.row_is_behind.Given as goal
 
 abbrev pub invariant-loop-next : goal.invariant-loop-next

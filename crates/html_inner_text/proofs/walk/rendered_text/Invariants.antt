@@ -1,6 +1,7 @@
 use Rattle.std.proofs.Common.{◌≡◌}
 use Rattle.markup.specs.Trees.{inner_of}
-use Rattle.html_inner_text.specs.InnerText.{empty, items, run}
+use Rattle.html_inner_text.specs.Items.{items}
+use Rattle.html_inner_text.specs.InnerText.{empty, run}
 use Rattle.html_inner_text.specs.Styles.{inside}
 use Rattle.html_inner_text.specs.Walk.{finished, nodes_left}
 use Rattle.html_inner_text.proofs.walk.rendered_text.Given as goal

@@ -1,6 +1,7 @@
 use Rattle.std.proofs.Common.{◌∙◌, Option, List, ℕ, refl, sym, ap}
 use Rattle.std.proofs.lemmas.Result.{on_ok_weaker}
-use Rattle.html_inner_text.specs.InnerText.{run, text_items}
+use Rattle.html_inner_text.specs.Items.{text_items}
+use Rattle.html_inner_text.specs.InnerText.{run}
 use Rattle.html_inner_text.specs.Walk.{IsEntered}
 use Rattle.html_inner_text.proofs.Walking.{holder-taken, leaf-taken}
 use Rattle.html_inner_text.proofs.walk.Walk.take.Goals as goal
