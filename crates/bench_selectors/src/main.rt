@@ -1,0 +1,89 @@
+//! What selectors select in a page, and how long that takes: `bench_selectors FILE SELECTOR..`.
+//!
+//! Standard output gets a line for each selector: the numbers of the elements that are selected, counted from 0 in tree order, or
+//! `refused` where the text is no selector. Standard error gets how long the search took.
+#![tactic(auto)]
+
+use anyhow::{Context, Result, bail};
+use html_forest::{Forest, NodeId};
+use html_nodes::{element_name, nodes_below};
+use html_pages::document_lossy;
+use html_selector_text::{SelectorError, parse};
+use html_selectors::Index;
+use html_standard_references::standard;
+use selectors::Selectors;
+use std::alloc::Global;
+use std::env;
+use std::fs::File;
+use std::io::Read;
+use std::rt::{Clock, Files};
+use std::time::Instant;
+
+fn main(rt: HostRuntime) -> Result<()> {
+    let alloc = rt.alloc();
+    let words: Vec<String> = env::args(&rt)?.skip(1).collect(alloc)?;
+    let Some(path) = words.get(0) else {
+        bail!("the name of a page is missing");
+    };
+    let forest = page_of(&rt, alloc, path.as_str())?;
+    let Ok(index) = Index::new(alloc, &forest) else {
+        bail!("no memory for the index");
+    };
+    for word in words.iter().skip(1) {
+        match parse(alloc, word.as_str()) {
+            Ok(selectors) => measure(&rt, alloc, &forest, &index, word.as_str(), &selectors)?,
+            Err(SelectorError::Memory) => bail!("no memory for the selector"),
+            Err(SelectorError::Syntax { .. }) => println!(rt; "refused")?,
+        }
+    }
+    Ok(())
+}
+
+fn page_of<R: Files>(rt: &R, alloc: Global, path: &str) -> Result<Forest> {
+    let mut file = File::open(rt, path).context("the page")?;
+    let mut bytes = Vec::new(alloc);
+    file.read_to_end(&mut bytes)?;
+    let Ok(references) = standard(alloc) else {
+        bail!("no memory for the references");
+    };
+    let Ok(forest) = document_lossy(alloc, references, bytes.as_slice()) else {
+        bail!("no memory for the page");
+    };
+    Ok(forest)
+}
+
+fn measure<R: Clock + Print + Eprint>(
+    rt: &R,
+    alloc: Global,
+    forest: &Forest,
+    index: &Index<'_>,
+    text: &str,
+    selectors: &Selectors,
+) -> Result<()> {
+    let start = Instant::now(rt)?;
+    let Ok(found) = index.select_all(forest.document(), selectors) else {
+        bail!("no memory for the search");
+    };
+    let seconds = start.elapsed(rt)?.as_secs_f64();
+    let numbers = numbers_of(alloc, forest, found.as_slice())?;
+    println!(rt; "{numbers}")?;
+    eprintln!(rt; "{text}: {} found, {seconds} s", found.len())?;
+    Ok(())
+}
+
+// The numbers of those elements among all of a page.
+fn numbers_of(alloc: Global, forest: &Forest, found: &[NodeId]) -> Result<String> {
+    let mut text = String::new(alloc);
+    let mut number = 0u64;
+    let mut next = 0usize;
+    for id in nodes_below(forest, forest.document()) {
+        if element_name(forest, id).is_some() {
+            if found.get(next) == Some(&id) {
+                text.push_str(format!(in alloc; "{number} ")?.as_str())?;
+                next = next.saturating_add(1);
+            }
+            number = number.saturating_add(1);
+        }
+    }
+    Ok(text)
+}
