@@ -14,13 +14,13 @@ use Rattle.html_normal.specs.declared.program.ProgramFault.TheVariants.{Usage, T
 use Rattle.html_normal.specs.declared.report.Report.{Report}
 use Rattle.std.specs.Prelude.{false}
 
--- what is told of files, by their names
+-- By a file's name: nothing where its bytes are not stated; else the bytes, if there is such a file.
 abbrev pub Files : Type 0
 Files = List ℕ → Option (Option (List ℕ))
 
 -- THE TABLE OF REFERENCES
 
--- the table in a file of which so much is told: there is one, and it is the table that its lines are
+-- the table in a file: where its bytes are stated, there is such a file, and the table is that of its lines
 abbrev pub IsTableIn : Option (Option (List ℕ)) → List Row → Type 0
 IsTableIn None table = Unit {0}
 IsTableIn (Some None) table = ⊥
@@ -61,8 +61,8 @@ abbrev pub IsEnded : List Row → (left left' old new : Option (List ℕ)) → P
 IsEnded table left left' old new (Normal fault) = IsFailed table left left' old new fault
 IsEnded table left left' old new fault = ⊥
 
--- What the program comes to, by what is told of files and the words after its name, the bytes of standard input that are left before and
--- after, and those of standard output that were written before and are after.
+-- The outcome of the program, by the files and the arguments, the bytes of standard input that are left before and after it, and the bytes
+-- that were written to standard output before and after it.
 abbrev pub IsOutcome : Files → List (List ℕ) → (left left' old new : Option (List ℕ)) → Result Report ProgramFault → Type 0
 IsOutcome files words left left' old new (Ok report) =
     With files words (λ table. (whole : List ℕ) → left ≡ Some whole → IsNormalised table false whole left' old new report)

@@ -1,14 +1,14 @@
--- What is told of files and of streams.
+-- Files and streams whose bytes may be stated.
 use Rattle.std.specs.Prelude.{◌≡◌, ℕ, ◌≤◌, Bool, true, false, List, length, take, Option, Some, None}
 use Rattle.std.specs.Io.KnownBytes.{append_known}
 
--- the bytes that a file has, which was opened by what tells so much of its name
+-- the bytes of a file that was opened: those that are stated for its name, if any are
 abbrev pub IsOpened : Option (Option (List ℕ)) → Option (List ℕ) → Type 0
 IsOpened None left = Unit {0}
 IsOpened (Some None) left = ⊥
 IsOpened (Some (Some bytes)) left = left ≡ Some bytes
 
--- there is no such file, if that is told
+-- no bytes are stated for a file that cannot be opened
 abbrev pub IsMissing : Option (Option (List ℕ)) → Type 0
 IsMissing (Some (Some bytes)) = ⊥
 IsMissing told = Unit {0}

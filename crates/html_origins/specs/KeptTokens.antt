@@ -83,7 +83,7 @@ with_kept_origin kept s = record {
       tag. name ≡ element_name_of Html tag;
 }
 
--- what the rules become that are told these tokens
+-- the state of the rules after they have processed these tokens, each with its line
 abbrev pub after_tokens : List (Token × ℕ) → State → Result State Refusal
 after_tokens [] s = Ok s
 after_tokens (t ∷ ts) s = step s t.0 t.1 >>= λ p. after_tokens ts p.0

@@ -1,4 +1,4 @@
-//! What a sink is told by `Tokenizer::feed` and `Tokenizer::end`, over a tree builder.
+//! Which calls `Tokenizer::feed` and `Tokenizer::end` make on a sink, over a tree builder.
 ghost use Rattle.html_tokenizer.specs.Calls.{IsReadyIf, refusal_of};
 
 use crate::listing::Listing;
