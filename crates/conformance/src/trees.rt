@@ -80,7 +80,8 @@ fn top(forest: &Forest, row: &Row) -> NodeId {
 
 /// The lines of a tree.
 fn tree(alloc: Global, forest: &Forest, top: NodeId) -> Result<String, ParseFault> {
-    let Ok(writer) = write_tree(alloc, forest, top, VecWriter::new(alloc)) else {
+    let mut writer = VecWriter::new(alloc);
+    let Ok(()) = write_tree(alloc, forest, top, &mut writer) else {
         return Err(ParseFault::Memory);
     };
     let written = text_of(alloc, writer.written())?;

@@ -1,10 +1,9 @@
 -- A tree line by line, as the tests of html5lib print it: a line for each node, each with a bar, two spaces for each node around it, and
 -- what the node is; an element's attributes follow in lines of their own, and so does the word `content` in a template.
-use Rattle.std.specs.Prelude.{◌≡◌, ◌⊎◌, ℕ, ◌-◌, ◌==◌, ◌&&◌, Bool, cond, List, [], ◌∷◌, ◌++◌, length, take, Option, Some, None}
-use Rattle.std.specs.Prelude.{Ok, codes, encode_utf8_all}
+use Rattle.std.specs.Prelude.{ℕ, ◌-◌, ◌==◌, ◌&&◌, Bool, cond, List, [], ◌∷◌, ◌++◌, length, take, Option, Some, None}
+use Rattle.std.specs.Prelude.{Ok, Err, codes, encode_utf8_all}
 use Rattle.std.specs.BTreeMap.{insert_entry}
 use Rattle.std.specs.Cmp.Lexicographic.{slice_cmp}
-use Rattle.std.specs.Io.KnownBytes.{append_known}
 use Rattle.std.specs.Ordering.{nat_cmp}
 use Rattle.std.specs.Str.{bytes_eq}
 use Rattle.markup.specs.declared.attributes.Attribute.{Attribute}
@@ -16,9 +15,10 @@ use Rattle.markup.specs.Namespaces.{known_namespace, name_of}
 use Rattle.markup.specs.declared.names.QualName.{QualName}
 use Rattle.markup.specs.Calls.{Call, Refuses, Step, calls_of}
 use Rattle.markup.specs.Calls.Call.{StartElem, EndElem, WriteText, WriteComment, WriteDoctype, WriteProcessingInstruction}
-use Rattle.markup.specs.declared.serializer.SerializeFault.TheVariants.{Memory, Write}
 use Rattle.markup.specs.declared.serializer.TraversalScope.TheVariants.{IncludeNode}
 use Rattle.html_forest.specs.Walk.{walked}
+use Rattle.html_serialize.specs.Puts.{WriterView, with_bytes}
+use Rattle.html_serialize.specs.Serializing.{Writes}
 
 -- a line after so many spaces
 abbrev pub line : List ℕ → List ℕ → List ℕ
@@ -135,18 +135,18 @@ tree_lines f top = all_lines f (children_of f top)
 
 -- WHO WRITES THEM
 
--- what is known of who writes lines: how far the next one is moved in, and what was written, where that is told
+-- what is known of who writes lines: how far the next one is moved in, and what the writer tells
 pub record Lines : Type 0 where
   pub indent : List ℕ
-  pub written : Option (List ℕ)
+  pub told : WriterView
 
 -- a call more
 abbrev pub listed : Step Lines
 listed lines call = Ok (record {
   indent = indent_after lines.indent call;
-  written = append_known lines.written (call_lines lines.indent call);
+  told = with_bytes lines.told (call_lines lines.indent call);
 })
 
--- what refuses a call
+-- what a call that is refused leaves: a beginning of its lines was written, and then a write failed or memory was wanted
 abbrev pub refuses : Refuses Lines
-refuses lines call fault after = (fault ≡ Memory) ⊎ (fault ≡ Write)
+refuses lines call fault after = Writes {R = Unit {0}} (call_lines lines.indent call) lines.told (Err fault) after.told

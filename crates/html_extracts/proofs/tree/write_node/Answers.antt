@@ -14,8 +14,8 @@ same_line : (name name' public_id public_id' system_id system_id' : List ℕ) �
     → doctype_line name public_id system_id ≡ doctype_line name' public_id' system_id'
 same_line name name' public_id public_id' system_id system_id' n p s = λ i. doctype_line (n i) (p i) (s i)
 
-pub returns-in-Some-Doctype-clause-ok : goal.returns-in-Some-Doctype-clause-ok
-returns-in-Some-Doctype-clause-ok g c =
+pub returns-in-Some-Doctype-clause-writes : goal.returns-in-Some-Doctype-clause-writes
+returns-in-Some-Doctype-clause-writes g c =
     let f = c.args.forest.now in
     let name = chars c.in-Some-Doctype.name.text.now in
     let public_id = chars c.in-Some-Doctype.public_id.text.now in
@@ -28,4 +28,4 @@ returns-in-Some-Doctype-clause-ok g c =
     (bytes_of c.as_str-in-Some-Doctype.result.now public_id c.as_str-in-Some-Doctype.utf8 c.as_str-in-Some-Doctype.ensures)
     (bytes_of c.as_str-in-Some-Doctype-2.result.now system_id c.as_str-in-Some-Doctype-2.utf8 c.as_str-in-Some-Doctype-2.ensures)
     ∙ ap (λ node. data_lines node (calls_of (walked f c.args.id IncludeNode))) is in
-    rw lines at c.doctype.ensures.ok
+    rw lines at c.doctype.ensures.writes
