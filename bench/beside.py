@@ -1,0 +1,79 @@
+"""What bench/beside.sh runs: programs that read a page and write it, in turns.
+
+    beside.py FOLDER PROGRAM [PAGE]..
+
+PROGRAM is the built html_normal, which gets the Standard's table of references; FOLDER has the peers html5ever_normal and
+lexbor_normal, and gets beside.json with what was measured.
+"""
+
+import json
+import os
+import statistics
+import sys
+import tempfile
+from pathlib import Path
+
+from normal import Page
+
+TOP = Path(__file__).resolve().parent.parent
+TABLE = TOP / "crates/bench_tokenizer/data/named_references.table"
+ROUNDS = int(os.environ.get("ROUNDS", "9"))
+MEGABYTES = float(os.environ.get("MEGABYTES", "10"))
+
+
+def run(command, page):
+    """Returns the processor seconds that a program takes for a page, and the megabytes that it holds."""
+    process = os.fork()
+    if process == 0:
+        os.dup2(os.open(page, os.O_RDONLY), 0)
+        nowhere = os.open(os.devnull, os.O_WRONLY)
+        os.dup2(nowhere, 1)
+        os.dup2(nowhere, 2)
+        os.execv(command[0], command)
+    _, status, used = os.wait4(process, 0)
+    if status:
+        sys.exit(f"{command[0]} ended with {status} on {page}")
+    return used.ru_utime + used.ru_stime, used.ru_maxrss / 1024
+
+
+def measure(programs, page):
+    """Returns for each program the median of its seconds, of their ratio to the first program's in the same round, and its megabytes."""
+    seen = {name: [] for name in programs}
+    for number in range(ROUNDS):
+        # (each program is the first in turn)
+        for name in list(programs)[:: 1 if number % 2 == 0 else -1]:
+            seen[name].append(run(programs[name], page))
+    ours, median = seen[next(iter(programs))], statistics.median
+    return {
+        name: {
+            "seconds": median(it for it, _ in rounds),
+            "share": median(own[0] / max(its[0], 1e-9) for own, its in zip(ours, rounds)),
+            "megabytes": median(it for _, it in rounds),
+        }
+        for name, rounds in seen.items()
+    }
+
+
+def main():
+    folder, program, *pages = sys.argv[1:]
+    programs = {
+        "figpliers": [program, str(TABLE)],
+        "html5ever": [f"{folder}/html5ever_normal"],
+        "lexbor": [f"{folder}/lexbor_normal"],
+    }
+    with tempfile.TemporaryDirectory() as room:
+        made, empty = Path(room) / "made.html", Path(room) / "empty.html"
+        made.write_text(Page(1).text(int(MEGABYTES * 1_000_000)), encoding="utf-8")
+        empty.write_text("", encoding="utf-8")
+        measured = []
+        for label, page in [("bench/normal.sh's", made), ("empty", empty), *((Path(it).name, Path(it)) for it in pages)]:
+            found = measure(programs, page)
+            measured.append({"page": label, "bytes": page.stat().st_size, "programs": found})
+            shares = "; ".join(f"{found[name]['share']:.2f} of {name}'s time" for name in list(programs)[1:])
+            figures = ", ".join(f"{name} {it['seconds']:.3f} s {it['megabytes']:.1f} MB" for name, it in found.items())
+            print(f"{label}, {page.stat().st_size:,} bytes: {shares} ({figures})", flush=True)
+    (Path(folder) / "beside.json").write_text(json.dumps({"rounds": ROUNDS, "measured": measured}, indent=1), encoding="utf-8")
+
+
+if __name__ == "__main__":
+    main()
