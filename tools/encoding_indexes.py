@@ -95,10 +95,23 @@ def trimmed(index):
     return index
 
 
+def a_row(kind):
+    """How many entries of a type stand in a row."""
+    return 14 if kind == "u32" else 16
+
+
 def write(file, title, name, kind, index):
-    digits, many = (5, 14) if kind == "u32" else (4, 16)
+    digits, many = 5 if kind == "u32" else 4, a_row(kind)
     rows = "".join("    " + " ".join(f"0x{v:0{digits}X}," for v in index[at : at + many]) + "\n" for at in range(0, len(index), many))
     (ROOT / file).write_text(HEAD.format(title=title, name=name, kind=kind, length=len(index)) + rows + "];\n")
+
+
+def write_parts(stem, title, name, kind, index):
+    """Writes an index in two parts, where one file would have more than 800 lines."""
+    many = a_row(kind)
+    middle = -(-len(index) // (2 * many)) * many
+    write(f"{stem}_low.rt", f"{title} below pointer {middle:,}", f"{name}_LOW", kind, index[:middle])
+    write(f"{stem}_high.rt", f"{title} from pointer {middle:,} on", f"{name}_HIGH", kind, index[middle:])
 
 
 def main():
@@ -107,17 +120,17 @@ def main():
     for (lead, trail), codes in found["gb18030"].items():
         if 0x40 <= trail != 0x7F and len(codes) == 1:
             gb[(lead - 0x81) * 190 + trail - (0x40 if trail < 0x7F else 0x41)] = MOVED.get(lead * 256 + trail, codes[0])
-    write("gb18030_index.rt", "The index of gb18030", "GB18030", "u16", gb)
+    write_parts("gb18030", "The index of gb18030", "GB18030", "u16", gb)
     big5 = [0] * 19782
     for (lead, trail), codes in found["big5"].items():
         if (0x40 <= trail <= 0x7E or trail >= 0xA1) and len(codes) == 1:
             big5[(lead - 0x81) * 157 + trail - (0x40 if trail < 0x7F else 0x62)] = codes[0]
-    write("big5_index.rt", "The index of Big5", "BIG5", "u32", trimmed(big5))
+    write_parts("big5", "The index of Big5", "BIG5", "u32", trimmed(big5))
     korean = [0] * 23940
     for (lead, trail), codes in found["euc-kr"].items():
         if trail >= 0x41 and len(codes) == 1:
             korean[(lead - 0x81) * 190 + trail - 0x41] = codes[0]
-    write("euc_kr_index.rt", "The index of EUC-KR", "EUC_KR", "u16", trimmed(korean))
+    write_parts("euc_kr", "The index of EUC-KR", "EUC_KR", "u16", trimmed(korean))
     jis = [0] * 11280
     for (lead, trail), codes in found["shift_jis"].items():
         if not 0xA0 <= lead <= 0xDF and 0x40 <= trail <= 0xFC and trail != 0x7F and len(codes) == 1:

@@ -4,6 +4,11 @@ What is declared is found by the steps of the HTML Standard (section 13.2.3.2) o
 stand there, and not as the crate's definitions have them:
 
     python3 tools/prescan_rows.py [COUNT] > FILE
+
+Or the pages of html5lib's tests of encodings, each with the encoding that its test expects, as rows of
+the same program. FOLDER is html5lib/tests/testdata/encoding of its source (Debian's html5lib_1.2.orig.tar.gz):
+
+    python3 tools/prescan_rows.py --html5lib FOLDER > FILE
 """
 
 import random
@@ -175,7 +180,24 @@ def prescan(bytes_):
         return xml(bytes_)
 
 
+def pages_of(path):
+    """The pages of a file of html5lib's tests, each with the encoding that is expected."""
+    for test in re.split(rb"(?:^|\n)#data\n", path.read_bytes())[1:]:
+        page, expected = re.split(rb"\n#encoding\n", test)
+        yield page, expected.strip().decode()
+
+
+def html5lib(folder):
+    shown = {name.lower(): name for name in SHOWN.values()}
+    for path in sorted(Path(folder).rglob("*.dat")):
+        for page, expected in pages_of(path):
+            print("sniff", page.hex().upper() or "-", "-", shown[expected.lower()])
+
+
 def main():
+    if sys.argv[1:2] == ["--html5lib"]:
+        html5lib(sys.argv[2])
+        return
     chosen = random.Random(13)
     for number in range(int(sys.argv[1]) if len(sys.argv) > 1 else 2000):
         page = b"".join(chosen.choice(PARTS) for _ in range(chosen.randint(1, 14)))

@@ -3,14 +3,17 @@
 #![tactic(auto)]
 
 mod big5;
-mod big5_index;
+mod big5_high;
+mod big5_low;
 mod decoding;
 mod euc_jp;
 mod euc_kr;
-mod euc_kr_index;
+mod euc_kr_high;
+mod euc_kr_low;
 mod every;
 mod gb18030;
-mod gb18030_index;
+mod gb18030_high;
+mod gb18030_low;
 mod indexes;
 mod iso_2022_jp;
 mod jis0208_index;

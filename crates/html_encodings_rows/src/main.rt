@@ -4,7 +4,7 @@
 //!
 //! - `decode LABEL BYTES TEXT`: the text, in UTF-8, of bytes in an encoding, whole and cut in two at each place;
 //! - `label BYTES NAME`: the encoding of a label, or `-` if it has none;
-//! - `sniff BYTES LABEL NAME WHY`: the encoding of a page that came with a label, and how it was found out.
+//! - `sniff BYTES LABEL NAME WHY`: the encoding of a page that came with a label, and how it was found out, or without `WHY`.
 #![tactic(auto)]
 
 mod bytes;

@@ -90,7 +90,7 @@ fn why_of(why: Why) -> &'static str {
     }
 }
 
-/// Whether a page is found to be in an encoding.
+/// Whether a page is found to be in an encoding, and in that way if the row says which.
 fn sniff_row(
     alloc: Global,
     bytes: &str,
@@ -106,5 +106,5 @@ fn sniff_row(
         Some(label.as_slice())
     };
     let sniffed = sniff(bytes.as_slice(), label, Encoding::Windows1252);
-    Ok(sniffed.encoding.name() == name && why_of(sniffed.why) == why)
+    Ok(sniffed.encoding.name() == name && (why.is_empty() || why_of(sniffed.why) == why))
 }
