@@ -1,5 +1,9 @@
 -- What open elements are asked together is what the definitions ask one by one.
-use Rattle.std.proofs.Common.{◌≡◌, ℕ, Bool, true, false, List, [], ◌∷◌, refl, ap, ap₂, is_some, codes}
+use Rattle.std.proofs.Common.{◌≡◌, ◌∙◌, ℕ, suc, Bool, true, false, List, [], ◌∷◌, refl, sym, ap, ap₂, is_some, codes, length, take, arith}
+use Rattle.std.proofs.Math.Seq.{take-length}
+use Rattle.html_stack.specs.Stacks.{open_of, opens_of}
+use Rattle.html_stack.specs.declared.entries.OpenElement.{OpenElement}
+use Rattle.html_stack.proofs.WalksBack.{more}
 use Rattle.std.specs.Prelude.{◌&&◌, ◌||◌, not, Some}
 use Rattle.std.specs.List.{list_all}
 use Rattle.std.specs.Str.{bytes_eq}
@@ -7,7 +11,7 @@ use Rattle.html_tokens.specs.Tags.{named}
 use Rattle.html_tokens.specs.declared.tags.TagKind.TheVariants.{StartTag}
 use Rattle.html_rules.specs.Choice.{choose}
 use Rattle.html_rules.specs.Formatting.{last_named}
-use Rattle.html_rules.specs.Stack.{has_open}
+use Rattle.html_rules.specs.Stack.{has_open, without_current}
 use Rattle.html_rules.specs.State.{Element, Entry, Marker, Open, is_in}
 use Rattle.html_rules.specs.declared.tag_set.TagSet.TheVariants as set
 use Rattle.html_faithful.specs.Listing.{link_open}
@@ -42,3 +46,15 @@ link-context (x ∷ xs) = ap (λ b. choose (is_marked x) (λ _. false) (λ _. ch
 pub body-context : (xs : List Open) → (context_of xs).ends_with_body ≡ list_all (is_in set.BodyEnd) xs
 body-context [] = refl
 body-context (x ∷ xs) = ap (λ b. is_in set.BodyEnd x && b) (body-context xs)
+
+-- the open elements below the current node
+pub below-is : {H : Type 0} (node : H → ℕ) (xs : List (OpenElement H)) (k : ℕ) → length xs ≡ suc k
+    → without_current (opens_of node xs) ≡ opens_of node (take k xs)
+below-is node [] k e = absurd cc
+below-is node (x ∷ xs) k e =
+    let whole : take (suc k) (x ∷ xs) ≡ x ∷ xs = ap (λ n. take n (x ∷ xs)) (sym e) ∙ take-length (x ∷ xs) in
+    ap (λ ys. without_current (opens_of node ys)) (sym whole) ∙ ap without_current (more (open_of node) (x ∷ xs) k x (omega (arith, e)))
+
+pub none-below : {H : Type 0} (node : H → ℕ) (xs : List (OpenElement H)) → length xs ≡ 0 → without_current (opens_of node xs) ≡ []
+none-below node [] e = refl
+none-below node (x ∷ xs) e = absurd (omega (arith, e))

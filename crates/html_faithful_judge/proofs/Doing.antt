@@ -1,5 +1,5 @@
 -- What actions do, by what they are.
-use Rattle.std.proofs.Common.{◌≡◌, ◌∙◌, ◌∷◌, Bool, ap, sym, is_some}
+use Rattle.std.proofs.Common.{◌≡◌, ◌∙◌, ◌∷◌, Bool, true, false, ap, sym, refl, is_some, true≢false}
 use Rattle.std.specs.Prelude.{Option, Some, None, is_none, not}
 use Rattle.html_tokens.specs.declared.token.Token.{Token}
 use Rattle.html_modes.specs.Tables.{action_of}
@@ -8,6 +8,7 @@ use Rattle.html_faithful.specs.Harmless.{Made, does, provided}
 use Rattle.html_rules.specs.Actions.{without_first}
 use Rattle.html_rules.specs.declared.insertion_mode.InsertionMode.{InsertionMode}
 use Rattle.html_faithful.specs.Harmless.{with_template_modes}
+use Rattle.html_faithful_judge.specs.Mades.{is_alone}
 
 pub does-as : (a b : Action) (t : Token) (m : Made) (r : Option Made) → a ≡ b → does (action_of b) t m ≡ r → does (action_of a) t m ≡ r
 does-as a b t m r e h = ap (λ a. does (action_of a) t m) e ∙ h
@@ -19,6 +20,10 @@ provided-as a b m e = ap (λ b. provided b m) (sym e)
 pub none-some : {A : Type 0} (o : Option A) (b : Bool) → b ≡ is_some o → not b ≡ is_none o
 none-some None b e = ap not e
 none-some (Some x) b e = ap not e
+
+-- an action that has others in it is not alone
+pub not-alone : (a b : Action) → a ≡ b → is_alone (action_of a) ≡ true → is_alone (action_of b) ≡ false → ⊥
+not-alone a b e h k = true≢false (sym h ∙ (ap (λ a. is_alone (action_of a)) e ∙ k))
 
 the : {A : Type 0} (a b : A) → Some a ≡ Some b → a ≡ b
 the a b h = cc

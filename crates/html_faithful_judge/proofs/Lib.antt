@@ -3,5 +3,6 @@ mod Doing
 mod Emitted
 mod FewRows
 mod Foreign
+mod MadeByRows
 mod Turns
 mod Words

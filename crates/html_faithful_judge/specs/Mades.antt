@@ -1,16 +1,23 @@
 -- What is made of a token, in the code.
-use Rattle.std.specs.Prelude.{List, ◌∷◌, ℕ, option_map}
+use Rattle.std.specs.Prelude.{List, ◌∷◌, ℕ, Bool, true, false, Option, Some, None, option_map}
 use Rattle.html_rules.specs.Names.{Namespace, namespace_of}
 use Rattle.html_rules.specs.Stack.{without_current}
+use Rattle.html_rules.specs.Table as table
+use Rattle.html_rules.specs.Table.{Action, Row}
+use Rattle.html_rules.specs.declared.insertion_mode.InsertionMode.{InsertionMode}
 use Rattle.html_faithful.specs.Harmless as harmless
 use Rattle.html_faithful.specs.Harmless.{Made, with_raw}
 use Rattle.html_faithful.specs.Spots.{opened_at}
+use Rattle.html_faithful_judge.specs.Rows.{rows_in}
 use Rattle.html_faithful_judge.specs.Spots.{spot_of}
 use Rattle.html_faithful_judge.specs.declared.made.Change.{Change}
 use Rattle.html_faithful_judge.specs.declared.made.Change.TheVariants as change
 use Rattle.html_faithful_judge.specs.declared.made.FormChange.{FormChange}
 use Rattle.html_faithful_judge.specs.declared.made.FormChange.TheVariants as form
 use Rattle.html_faithful_judge.specs.declared.made.Made as declared
+use Rattle.html_faithful_judge.specs.declared.making.Next.{Next}
+use Rattle.html_faithful_judge.specs.declared.making.Next.TheVariants as next
+use Rattle.html_faithful_judge.specs.declared.rows.Table.TheVariants.{Mode}
 use Rattle.html_faithful_judge.specs.declared.made.Put.{Put}
 use Rattle.html_faithful_judge.specs.declared.made.Put.TheVariants as put
 
@@ -52,3 +59,19 @@ pushed namespace name made =
 -- the current node leaves the open elements, and nothing else changes
 abbrev pub popped : Made → Made
 popped made = record made { spot = record made.spot { path = without_current made.spot.path } }
+
+-- an action that has no others in it
+abbrev pub is_alone : Action → Bool
+is_alone (table.Then a b) = false
+is_alone (table.When c a) = false
+is_alone a = true
+
+abbrev pub again_if : Bool → InsertionMode → Next
+again_if true mode = next.Again (Mode mode)
+again_if false mode = next.Stop
+
+-- how it goes on after a row; `again` has what other rows make of the token
+abbrev pub next_by : (List Row → Made → Option Made) → Next → Made → Option Made
+next_by again (next.Done raw) made = Some (with_raw raw made)
+next_by again (next.Again table) made = again (rows_in table) made
+next_by again next.Stop made = None

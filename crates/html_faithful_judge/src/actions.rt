@@ -20,7 +20,7 @@ use std::alloc::Global;
 
 impl Made {
     /// The current node, if it is in a set, is closed by its own end tag.
-    pub fn close_in(&mut self, set: TagSet, token: &NamedToken<'_>) -> bool
+    pub(crate) fn close_in(&mut self, set: TagSet, token: &NamedToken<'_>) -> bool
         ensures { closes_if (is_in set) (token_of token.now.content) (made_as self.old) ≡ provided result (made_as self.new) }
     {
         let passes = self.spot.current_is(set);
@@ -28,7 +28,7 @@ impl Made {
     }
 
     /// The same, if it has the token's name.
-    pub fn close_named(&mut self, token: &NamedToken<'_>) -> bool
+    pub(crate) fn close_named(&mut self, token: &NamedToken<'_>) -> bool
         requires { IsNamed token.now }
         ensures { closes_if (is_named (name_of (token_of token.now.content))) (token_of token.now.content) (made_as self.old)
             ≡ provided result (made_as self.new) }
@@ -38,7 +38,7 @@ impl Made {
     }
 
     /// A `p` that is the current node is closed, where one is in button scope.
-    pub fn close_p(&mut self, token: &NamedToken<'_>) -> bool
+    pub(crate) fn close_p(&mut self, token: &NamedToken<'_>) -> bool
         ensures { does table.CloseP (token_of token.now.content) (made_as self.old) ≡ provided result (made_as self.new) }
     {
         if self.spot.stack.in_scope(TagSet::ButtonScope, TagSet::P) {
@@ -49,7 +49,7 @@ impl Made {
     }
 
     /// The current node is closed by the adoption agency.
-    pub fn adopt(&mut self, token: &NamedToken<'_>) -> bool
+    pub(crate) fn adopt(&mut self, token: &NamedToken<'_>) -> bool
         requires { IsNamed token.now }
         ensures { does table.AdoptionAgency (token_of token.now.content) (made_as self.old) ≡ provided result (made_as self.new) }
     {
@@ -60,7 +60,7 @@ impl Made {
     }
 
     /// The current node is closed, unless it is `html`.
-    pub fn pop_current(&mut self, token: &NamedToken<'_>) -> bool
+    pub(crate) fn pop_current(&mut self, token: &NamedToken<'_>) -> bool
         ensures { does table.Pop (token_of token.now.content) (made_as self.old) ≡ provided result (made_as self.new) }
     {
         let passes = self.spot.current_is_not(TagSet::Html);
@@ -68,7 +68,7 @@ impl Made {
     }
 
     /// The form that the form element pointer names is closed.
-    pub fn remove_form(&mut self, token: &NamedToken<'_>) -> bool
+    pub(crate) fn remove_form(&mut self, token: &NamedToken<'_>) -> bool
         ensures { does table.RemoveFormElem (token_of token.now.content) (made_as self.old) ≡ provided result (made_as self.new) }
     {
         if self.is_untouched() && self.spot.is_form_current() {
@@ -79,7 +79,7 @@ impl Made {
     }
 
     /// The current node is closed in foreign content.
-    pub fn close_foreign(&mut self, token: &NamedToken<'_>) -> bool
+    pub(crate) fn close_foreign(&mut self, token: &NamedToken<'_>) -> bool
         requires { IsNamed token.now }
         ensures { does table.CloseForeign (token_of token.now.content) (made_as self.old) ≡ provided result (made_as self.new) }
     {
@@ -98,7 +98,7 @@ impl Made {
     }
 
     /// Whether no end tag would be implied but those of a set.
-    pub fn implies_none_but(&self, except: TagSet) -> bool
+    pub(crate) fn implies_none_but(&self, except: TagSet) -> bool
         ensures { result ≡ not (implies CursoryImpliedEnd (is_in except) (made_as self.now)) }
     {
         let excepted = self.spot.current_is(except);
@@ -106,7 +106,7 @@ impl Made {
     }
 
     /// Whether no end tag would be implied but that of the token's name.
-    pub fn implies_none_but_token(&self, token: &NamedToken<'_>) -> bool
+    pub(crate) fn implies_none_but_token(&self, token: &NamedToken<'_>) -> bool
         requires { IsNamed token.now }
         ensures { result ≡ not (implies CursoryImpliedEnd (is_named (name_of (token_of token.now.content))) (made_as self.now)) }
     {
@@ -115,7 +115,7 @@ impl Made {
     }
 
     /// Whether no end tag of a set would be implied.
-    pub fn implies_none(&self, implied: TagSet) -> bool
+    pub(crate) fn implies_none(&self, implied: TagSet) -> bool
         ensures { result ≡ not (implies implied (λ x. false) (made_as self.now)) }
     {
         !self.spot.current_is(implied)
@@ -132,7 +132,7 @@ impl Made {
     }
 
     /// The form element pointer names the element that was opened.
-    pub fn set_form(&mut self) -> bool
+    pub(crate) fn set_form(&mut self) -> bool
         ensures { (t : Token) → does table.SetFormElem t (made_as self.old) ≡ provided result (made_as self.new) }
     {
         if !self.is_opened() || self.closed {
@@ -143,7 +143,7 @@ impl Made {
     }
 
     /// The form element pointer names nothing.
-    pub fn forget_form(&mut self) -> bool
+    pub(crate) fn forget_form(&mut self) -> bool
         ensures { (t : Token) → does table.ForgetFormElem t (made_as self.old) ≡ provided result (made_as self.new) }
     {
         if !self.closed {
@@ -154,7 +154,7 @@ impl Made {
     }
 
     /// The original mode becomes the mode.
-    pub fn restore_mode(&mut self)
+    pub(crate) fn restore_mode(&mut self)
         ensures { (t : Token) → does table.RestoreMode t (made_as self.old) ≡ Some (made_as self.new) }
     {
         if let Some(mode) = self.spot.orig_mode {
@@ -164,7 +164,7 @@ impl Made {
     }
 
     /// The insertion mode is reset.
-    pub fn reset_mode(&mut self)
+    pub(crate) fn reset_mode(&mut self)
         ensures { (t : Token) → does table.ResetMode t (made_as self.old) ≡ Some (made_as self.new) }
     {
         self.spot.mode = self
@@ -173,7 +173,7 @@ impl Made {
             .reset_insertion_mode(self.spot.has_head, None);
     }
     /// The frameset-ok flag is cleared, unless the token's text is white space.
-    pub fn frameset_not_ok_unless_white(&mut self, token: &NamedToken<'_>)
+    pub(crate) fn frameset_not_ok_unless_white(&mut self, token: &NamedToken<'_>)
         ensures { does table.FramesetNotOkUnlessWhite (token_of token.now.content) (made_as self.old) ≡ Some (made_as self.new) }
     {
         let white = token.is_white();
@@ -181,7 +181,7 @@ impl Made {
     }
 
     /// A template insertion mode is pushed.
-    pub fn push_template_mode(&mut self, mode: InsertionMode) -> Result<bool, ParseFault>
+    pub(crate) fn push_template_mode(&mut self, mode: InsertionMode) -> Result<bool, ParseFault>
         ensures ok { IfOk result (λ goes_on. (t : Token) → does (table.PushTemplateMode mode) t (made_as self.old) ≡ provided goes_on (made_as self.new)) }
         ensures fault { IfErr result (λ fault. fault ≡ Memory) }
     {
@@ -190,14 +190,14 @@ impl Made {
     }
 
     /// The current template insertion mode leaves.
-    pub fn pop_template_mode(&mut self)
+    pub(crate) fn pop_template_mode(&mut self)
         ensures { (t : Token) → does table.PopTemplateMode t (made_as self.old) ≡ Some (made_as self.new) }
     {
         drop(self.spot.stack.pop_template_mode());
     }
 
     /// The current template insertion mode is changed.
-    pub fn set_template_mode(&mut self, mode: InsertionMode) -> Result<bool, ParseFault>
+    pub(crate) fn set_template_mode(&mut self, mode: InsertionMode) -> Result<bool, ParseFault>
         ensures ok { IfOk result (λ goes_on. (t : Token) → does (table.SetTemplateMode mode) t (made_as self.old) ≡ provided goes_on (made_as self.new)) }
         ensures fault { IfErr result (λ fault. fault ≡ Memory) }
     {

@@ -98,7 +98,11 @@ impl Made {
     }
 
     /// The root is put for a token, where nothing is open.
-    pub fn create_root(&mut self, alloc: Global, token: &NamedToken<'_>) -> Result<bool, ParseFault>
+    pub(crate) fn create_root(
+        &mut self,
+        alloc: Global,
+        token: &NamedToken<'_>,
+    ) -> Result<bool, ParseFault>
         ensures ok { IfOk result (λ goes_on. does table.CreateRoot (token_of token.now.content) (made_as self.old) ≡ provided goes_on (made_as self.new)) }
         ensures fault { IfErr result (λ fault. fault ≡ Memory) }
     {
@@ -119,7 +123,7 @@ impl Made {
     }
 
     /// An element is put for a token, and opened.
-    pub fn insert_element(
+    pub(crate) fn insert_element(
         &mut self,
         alloc: Global,
         token: &NamedToken<'_>,
@@ -134,7 +138,7 @@ impl Made {
     }
 
     /// The same, and it is listed.
-    pub fn insert_formatting(
+    pub(crate) fn insert_formatting(
         &mut self,
         alloc: Global,
         token: &NamedToken<'_>,
@@ -149,7 +153,7 @@ impl Made {
     }
 
     /// A template is put for a token that asks for no shadow root, and opened.
-    pub fn insert_template(
+    pub(crate) fn insert_template(
         &mut self,
         alloc: Global,
         token: &NamedToken<'_>,
@@ -169,7 +173,11 @@ impl Made {
     }
 
     /// An element is put for a token, and is not opened.
-    pub fn insert_void(&mut self, alloc: Global, token: &NamedToken<'_>) -> Result<bool, ParseFault>
+    pub(crate) fn insert_void(
+        &mut self,
+        alloc: Global,
+        token: &NamedToken<'_>,
+    ) -> Result<bool, ParseFault>
         ensures ok { IfOk result (λ goes_on. does table.InsertVoid (token_of token.now.content) (made_as self.old) ≡ provided goes_on (made_as self.new)) }
         ensures fault { IfErr result (λ fault. fault ≡ Memory) }
     {
@@ -189,7 +197,7 @@ impl Made {
     }
 
     /// `math` or `svg` is put for a token, and opened.
-    pub fn enter_foreign(
+    pub(crate) fn enter_foreign(
         &mut self,
         alloc: Global,
         namespace: Foreign,
@@ -225,7 +233,7 @@ impl Made {
     }
 
     /// An element is put for a token in the namespace of the current node, and opened.
-    pub fn insert_foreign(
+    pub(crate) fn insert_foreign(
         &mut self,
         alloc: Global,
         token: &NamedToken<'_>,

@@ -1,14 +1,14 @@
-//! What a judge of faithful documents asks (HTML Standard, sections 13.2 and 13.3): which names, attributes, texts and comments are read as
-//! they are written; where the next node of a tree stands, and what the rows of the rules ask there; and what actions of rows do there, where
-//! they only put one node or close the current one.
+//! Whether a document is faithful: whether what is written of it (HTML Standard, section 13.3) is read as just it (section 13.2).
 #![tactic(auto)]
 
+mod acting;
 mod actions;
 mod characters;
 mod inserting;
 pub mod made;
+mod making;
 mod names;
-pub mod rows;
+mod rows;
 pub mod spot;
 mod texts;
 pub mod tokens;

@@ -88,21 +88,21 @@ pub struct Made {
 
 impl Made {
     /// Whether nothing was put or closed yet.
-    pub fn is_fresh(&self) -> bool
+    pub(crate) fn is_fresh(&self) -> bool
         ensures { result ≡ is_fresh (made_as self.now) }
     {
         self.put.is_none() && !self.closed
     }
 
     /// Nor did the list change.
-    pub fn is_untouched(&self) -> bool
+    pub(crate) fn is_untouched(&self) -> bool
         ensures { result ≡ is_untouched (made_as self.now) }
     {
         self.is_fresh() && self.change == Change::Unchanged
     }
 
     /// The list changes, if it did not yet.
-    pub fn changes(&mut self, change: Change) -> bool
+    pub(crate) fn changes(&mut self, change: Change) -> bool
         ensures { changes (change_of change) (made_as self.old) ≡ provided result (made_as self.new) }
     {
         if self.change != Change::Unchanged {
@@ -113,7 +113,7 @@ impl Made {
     }
 
     /// A node is put, if nothing was put or closed yet.
-    pub fn puts(&mut self, put: Put) -> bool
+    pub(crate) fn puts(&mut self, put: Put) -> bool
         ensures { puts (put_as put) (made_as self.old) ≡ provided result (made_as self.new) }
     {
         if !self.is_fresh() {
@@ -142,7 +142,7 @@ impl Made {
     }
 
     /// An element is put, and opened, if nothing was put or closed yet.
-    pub fn opens(
+    pub(crate) fn opens(
         &mut self,
         alloc: Global,
         namespace: Namespace,
@@ -166,7 +166,7 @@ impl Made {
     }
 
     /// Whether a token is the end tag of the current node.
-    pub fn ends_current(&self, token: &NamedToken<'_>) -> bool
+    pub(crate) fn ends_current(&self, token: &NamedToken<'_>) -> bool
         ensures { result ≡ ends_current (token_of token.now.content) (made_as self.now).spot.path }
     {
         match (token.content, self.spot.stack.open_elems().last()) {
@@ -186,7 +186,7 @@ impl Made {
     }
 
     /// The current node, which passes a test or does not, is closed by its own end tag, if nothing was put or closed yet.
-    pub fn closes(&mut self, passes: bool, token: &NamedToken<'_>) -> bool
+    pub(crate) fn closes(&mut self, passes: bool, token: &NamedToken<'_>) -> bool
         ensures { (p : Open → Bool) → passes ≡ current_is p (made_as self.old).spot.path
             → closes_if p (token_of token.now.content) (made_as self.old) ≡ provided result (made_as self.new) }
     {

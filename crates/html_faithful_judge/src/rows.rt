@@ -15,7 +15,7 @@ use html_rules::InsertionMode;
 
 /// Whose rows are gone through.
 #[derive(Clone, Copy)]
-pub enum Table {
+pub(crate) enum Table {
     /// Those of a mode.
     Mode(InsertionMode),
     /// Those of foreign content.
@@ -50,7 +50,7 @@ impl Spot {
     }
 
     /// The first row that is for a token, or what a token takes that no row is for.
-    pub fn first_row(&self, table: Table, token: &NamedToken<'_>) -> &'static Row
+    pub(crate) fn first_row(&self, table: Table, token: &NamedToken<'_>) -> &'static Row
         requires { IsNamed token.now }
         ensures { row_of result.now ≡ first_fit (rows_in table) (token_of token.now.content) (hollow (spot_of self.now)) }
     {

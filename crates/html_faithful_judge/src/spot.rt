@@ -7,7 +7,7 @@ ghost use Rattle.html_rules.specs.Conditions.{form_in_scope, form_is_current, ho
 ghost use Rattle.html_rules.specs.ForeignContent.{foreign_end, is_as_in_mode, is_foreign, is_foreign_end_error, is_named_any_case};
 ghost use Rattle.html_rules.specs.Formatting.{last_named};
 ghost use Rattle.html_rules.specs.Names.{Html};
-ghost use Rattle.html_rules.specs.Stack.{has_open, in_scope, item_name};
+ghost use Rattle.html_rules.specs.Stack.{has_open, in_scope, item_name, without_current};
 ghost use Rattle.html_rules.specs.State.{current_is, is_in, is_named};
 ghost use Rattle.html_rules.specs.declared.tag_set.TagSet.TheVariants.{BodyEnd, DefaultScope, Template};
 ghost use Rattle.html_modes.specs.Tables.{condition_of};
@@ -313,7 +313,7 @@ impl Spot {
     }
 
     /// What the open elements are asked together.
-    pub fn context(&self) -> Context
+    pub(crate) fn context(&self) -> Context
         ensures form { result.form ≡ form_of self.now.stack.open_elems }
         ensures in_template { result.in_template ≡ has_open Template self.now.stack.open_elems }
         ensures lists_a { result.lists_a ≡ is_some (last_named (codes "a") (entries_of self.now.stack.open_elems)) }
@@ -323,8 +323,20 @@ impl Spot {
         gather(self.open())
     }
 
+    /// What the open elements but the current node are asked together.
+    pub fn context_below(&self) -> Context
+        ensures { result ≡ context_of (without_current self.now.stack.open_elems) }
+    {
+        let open = self.open();
+        let count = open.len();
+        if count == 0 {
+            return Context::new();
+        }
+        gather(&open[..count - 1])
+    }
+
     /// Whether an item of a set would be closed.
-    pub fn has_item(&self, items: TagSet) -> bool
+    pub(crate) fn has_item(&self, items: TagSet) -> bool
         ensures { result ≡ is_some (item_name items self.now.stack.open_elems) }
     {
         has_item(self.open(), items)
@@ -338,7 +350,7 @@ impl Spot {
     }
 
     /// Whether the current node is the HTML element of a name, which comes with its class.
-    pub fn current_is_named(&self, class: ElementClass, name: &LocalName) -> bool
+    pub(crate) fn current_is_named(&self, class: ElementClass, name: &LocalName) -> bool
         requires { IsClassOf Html name.now class }
         ensures { result ≡ current_is (is_named name.now) self.now.stack.open_elems }
     {
@@ -353,14 +365,14 @@ impl Spot {
     }
 
     /// Whether there is a current node that is not in a set.
-    pub fn current_is_not(&self, set: TagSet) -> bool
+    pub(crate) fn current_is_not(&self, set: TagSet) -> bool
         ensures { result ≡ current_is (λ x. not (is_in set x)) self.now.stack.open_elems }
     {
         last_is_not_in(self.open(), set)
     }
 
     /// Whether the current node has a name in any case.
-    pub fn current_is_any_case(&self, name: &LocalName) -> bool
+    pub(crate) fn current_is_any_case(&self, name: &LocalName) -> bool
         ensures { result ≡ current_is (is_named_any_case name.now) self.now.stack.open_elems }
     {
         last_is_any_case(self.open(), name)
@@ -374,7 +386,7 @@ impl Spot {
     }
 
     /// Whether the form element pointer names an element in scope.
-    pub fn is_form_in_scope(&self) -> bool
+    pub(crate) fn is_form_in_scope(&self) -> bool
         ensures { result ≡ form_in_scope (form_of self.now.stack.open_elems) self.now.stack.open_elems }
     {
         match self.context().form {
@@ -384,7 +396,7 @@ impl Spot {
     }
 
     /// Whether the form element pointer names the current node.
-    pub fn is_form_current(&self) -> bool
+    pub(crate) fn is_form_current(&self) -> bool
         ensures { result ≡ form_is_current (form_of self.now.stack.open_elems) self.now.stack.open_elems }
     {
         match self.context().form {
@@ -401,7 +413,7 @@ impl Spot {
     }
 
     /// Whether the rules of foreign content hold for a token.
-    pub fn is_foreign(&self, token: &NamedToken<'_>) -> bool
+    pub(crate) fn is_foreign(&self, token: &NamedToken<'_>) -> bool
         requires { IsNamed token.now }
         ensures { result ≡ is_foreign (hollow (spot_of self.now)) (token_of token.now.content) }
     {
@@ -409,7 +421,7 @@ impl Spot {
     }
 
     /// Whether a condition holds for a token.
-    pub fn holds(&self, condition: &Condition, token: &NamedToken<'_>) -> bool
+    pub(crate) fn holds(&self, condition: &Condition, token: &NamedToken<'_>) -> bool
         requires { IsNamed token.now }
         ensures { result ≡ holds (condition_of condition.now) (token_of token.now.content) (hollow (spot_of self.now)) }
     {

@@ -38,7 +38,7 @@ pub struct NamedToken<'a> {
 }
 
 /// Whether a character is white space.
-pub fn is_space(c: char) -> bool
+pub(crate) fn is_space(c: char) -> bool
     ensures { result ≡ is_space c }
 {
     matches!(c, '\t' | '\n' | '\x0C' | '\r' | ' ')
@@ -82,7 +82,7 @@ fn is_hidden(value: Option<&Text>) -> bool
 
 impl NamedToken<'_> {
     /// Whether its text is white space alone, as it is where it has none.
-    pub fn is_white(&self) -> bool
+    pub(crate) fn is_white(&self) -> bool
         ensures { result ≡ is_white (text_of (token_of self.now.content)) }
     {
         match self.content {
@@ -104,7 +104,7 @@ impl NamedToken<'_> {
     }
 
     /// Whether it is a tag of a kind.
-    pub fn is_tag(&self, kind: TagKind) -> bool
+    pub(crate) fn is_tag(&self, kind: TagKind) -> bool
         ensures { result ≡ is_tag kind (token_of self.now.content) }
     {
         match self.content {
@@ -114,7 +114,7 @@ impl NamedToken<'_> {
     }
 
     /// Whether it is in a class.
-    pub fn fits(&self, class: Class) -> bool
+    pub(crate) fn fits(&self, class: Class) -> bool
         requires { IsNamed self.now }
         ensures { result ≡ class_fits (class_of class) (token_of self.now.content) }
     {
@@ -136,7 +136,7 @@ impl NamedToken<'_> {
     }
 
     /// Whether the attribute `type` is `hidden`, in any case.
-    pub fn is_type_hidden(&self) -> bool
+    pub(crate) fn is_type_hidden(&self) -> bool
         ensures { result ≡ is_type_hidden (token_of self.now.content) }
     {
         match self.content {
@@ -146,7 +146,7 @@ impl NamedToken<'_> {
     }
 
     /// Whether there is an attribute that ends foreign content at `font`.
-    pub fn has_font_attributes(&self) -> bool
+    pub(crate) fn has_font_attributes(&self) -> bool
         ensures { result ≡ has_font_attributes (token_of self.now.content) }
     {
         match self.content {
