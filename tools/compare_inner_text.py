@@ -41,11 +41,10 @@ document.body.appendChild(result);
 </script>"""
 
 
-def browser_texts(chromium, pages):
-    """The texts that Chromium has of pages."""
-    data = json.dumps(pages).replace("<", "\\u003c")
+def run_in_browser(chromium, script):
+    """What a page with that script leaves in its result."""
     with tempfile.NamedTemporaryFile("w", suffix=".html") as page:
-        page.write(SCRIPT % data)
+        page.write(script)
         page.flush()
         options = ["--headless", "--no-sandbox", "--disable-gpu", "--virtual-time-budget=60000", "--dump-dom"]
         command = [chromium] + options + ["file://" + page.name]
@@ -54,6 +53,11 @@ def browser_texts(chromium, pages):
     if not found:
         sys.exit("no answer from " + chromium + ": " + done.stderr[-400:])
     return json.loads(base64.b64decode(found.group(1)).decode())
+
+
+def browser_texts(chromium, pages):
+    """The texts that Chromium has of pages."""
+    return run_in_browser(chromium, SCRIPT % json.dumps(pages).replace("<", "\\u003c"))
 
 
 def first_difference(ours, theirs):

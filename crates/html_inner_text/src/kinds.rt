@@ -9,9 +9,9 @@ use html_forest::{Forest, NodeId};
 use html_nodes::{attribute_of, element_name};
 use markup::{KnownNamespace, QualName, QuirksMode};
 
-/// How an element takes part in the layout.
+/// How an element takes part in the layout, by the `display` of the Standard's style sheet (section 15.3).
 #[derive(Clone, Copy, Debug)]
-pub(crate) enum Kind {
+pub enum Kind {
     /// In the line.
     Inline,
     /// Not at all: `display: none`.
@@ -218,8 +218,8 @@ fn foreign_kind(local: &str) -> Kind
     }
 }
 
-/// The kind of a node; a node that is no element is as an element that is inline.
-pub(crate) fn kind_of(forest: &Forest, id: NodeId) -> Kind
+/// How a node takes part in the layout, apart from what is around it. A node that is no element is as an element that is inline.
+pub fn kind_of(forest: &Forest, id: NodeId) -> Kind
     ensures { result ≡ styles.kind_of forest.now id }
 {
     match element_name(forest, id) {

@@ -7,4 +7,5 @@ mod styles;
 mod walk;
 mod writer;
 
+pub use kinds::{Kind, kind_of};
 pub use walk::inner_text;

@@ -1,0 +1,3 @@
+mod Fitting
+mod Stepping
+mod Entering
