@@ -1,4 +1,4 @@
-mod Contexts
+pub mod Contexts
 mod Doing
 mod Emitted
 mod FewRows

@@ -1,0 +1,6 @@
+mod Checked
+mod Inside
+mod Left
+mod Options
+mod Stands
+mod Taken

@@ -1,0 +1,9 @@
+use Rattle.html_faithful_judge.specs.Mades.{made_as}
+use Rattle.html_faithful_judge.specs.Spots.{spot_of}
+use Rattle.html_faithful_walk.proofs.Taken.{character-made}
+use Rattle.html_faithful_walk.proofs.texts.put_character.Goals as goal
+
+pub returns-clause-ok : goal.returns-clause-ok
+returns-clause-ok c =
+    character-made c.args.c (spot_of c.args.made.now.spot) _ _ (made_as c.take.new.self) c.in_ok-take.ensures.ok c.if-not-branch.false
+    (c.is_character_put.ensures (spot_of c.args.made.now.spot))

@@ -1,0 +1,4 @@
+pub mod Checks
+pub mod Left
+pub mod Steps
+pub mod Walking
