@@ -53,7 +53,7 @@ def seconds(program, page, selectors, rounds):
         for _ in range(rounds):
             done = subprocess.run([program, str(path), *selectors], capture_output=True, text=True, check=True)
             assert "refused" not in done.stdout
-            times = [float(t) for t in re.findall(r" found, ([0-9.e-]+) s$", done.stderr, re.M)]
+            times = [float(t) for t in re.findall(r" found, ([0-9.e-]+) s, ", done.stderr)]
             assert len(times) == len(selectors)
             best = [min(a, b) for a, b in zip(best, times)]
     return best

@@ -1,7 +1,8 @@
 //! What selectors select in a page, and how long that takes: `bench_selectors FILE SELECTOR..`.
 //!
 //! Standard output gets a line for each selector: the numbers of the elements that are selected, counted from 0 in tree order, or
-//! `refused` where the text is no selector. Standard error gets how long the search took.
+//! `refused` where the text is no selector. Standard error gets how long the search took, by an index that is there, and with the making of
+//! one.
 #![tactic(auto)]
 
 use anyhow::{Context, Result, bail};
@@ -9,7 +10,7 @@ use html_forest::{Forest, NodeId};
 use html_nodes::{element_name, nodes_below};
 use html_pages::document_lossy;
 use html_selector_text::{SelectorError, parse};
-use html_selectors::Index;
+use html_selectors::{Index, select_all};
 use html_standard_references::standard;
 use selectors::Selectors;
 use std::alloc::Global;
@@ -65,9 +66,17 @@ fn measure<R: Clock + Print + Eprint>(
         bail!("no memory for the search");
     };
     let seconds = start.elapsed(rt)?.as_secs_f64();
+    let start = Instant::now(rt)?;
+    let Ok(again) = select_all(alloc, forest, forest.document(), selectors) else {
+        bail!("no memory for the search");
+    };
+    let once = start.elapsed(rt)?.as_secs_f64();
     let numbers = numbers_of(alloc, forest, found.as_slice())?;
     println!(rt; "{numbers}")?;
-    eprintln!(rt; "{text}: {} found, {seconds} s", found.len())?;
+    eprintln!(rt;
+        "{text}: {} found, {seconds} s, {once} s with an index",
+        again.len()
+    )?;
     Ok(())
 }
 

@@ -15,5 +15,5 @@ pub use above::{Above, nodes_above};
 pub use around::{element_after, element_before, is_element};
 pub use places::{children_are_few, is_nth};
 pub use scope::scope_of;
-pub use simples::is_simple;
+pub use simples::{is_named_by, is_simple};
 pub use substrings::{has_attribute_by, lower};

@@ -1,12 +1,12 @@
 //! How names and values of a page are compared with those of a selector.
 ghost use Rattle.std.specs.Prelude.{◌≡◌, encode_utf8_all, false};
-ghost use Rattle.std.specs.Str.{chars};
+ghost use Rattle.std.specs.Str.{bytes_eq, chars};
 ghost use Rattle.html_selector_matching.specs.Simples as simples;
 ghost use Rattle.html_selector_matching.specs.Simples.{asked_of};
 ghost use Rattle.selectors.specs.Compare as compare;
 ghost use Rattle.selectors.specs.declared.selector.Operator.TheVariants.{Substring};
 
-use markup::{KnownNamespace, QualName, Text};
+use markup::{KnownNamespace, LocalName, QualName, Text};
 use memchr::memmem;
 use selectors::compare::{has_word, holds, is_same};
 use selectors::{CaseSensitivity, Name, Operator};
@@ -22,6 +22,15 @@ pub(crate) fn local_of(name: &QualName) -> &str
     ensures { result.now ≡ encode_utf8_all name.now.local }
 {
     name.local.as_str()
+}
+
+// Whether two names are the same. Known ones are compared by their places in the table.
+pub(crate) fn is_local(one: &LocalName, other: &LocalName) -> bool
+    ensures { result ≡ bytes_eq (encode_utf8_all one.now) (encode_utf8_all other.now) }
+{
+    let _one = one.as_str();
+    let _other = other.as_str();
+    one == other
 }
 
 pub(crate) fn is_html(name: &QualName) -> bool

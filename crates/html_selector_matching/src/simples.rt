@@ -1,5 +1,6 @@
 //! What is asked of one element alone.
-ghost use Rattle.std.specs.Prelude.{◌≡◌, ◌==◌, codes, encode_utf8_all, length};
+ghost use Rattle.std.specs.Prelude.{◌≡◌, ◌==◌, ℕ, List, codes, encode_utf8_all, length, map};
+ghost use Rattle.std.specs.Char.{to_ascii_lowercase};
 ghost use Rattle.std.specs.List.{list_all, list_any};
 ghost use Rattle.std.specs.Str.{chars};
 ghost use Rattle.markup.specs.Forest.{children_of, data_of, element_name, parent_of};
@@ -10,12 +11,12 @@ ghost use Rattle.html_selector_matching.specs.Simples.{counts, has_attribute, is
 ghost use Rattle.selectors.specs.Compare.{has_word, same};
 
 use crate::names::{
-    asked_of, has_value_word, is_html, is_insensitive, is_value, local_of, value_holds,
+    asked_of, has_value_word, is_html, is_insensitive, is_local, is_value, local_of, value_holds,
 };
 use crate::places::{is_nth, place_of};
 use html_forest::{Forest, NodeData, NodeId};
 use html_nodes::{attribute_of, attributes_of, element_name};
-use markup::{Attribute, KnownNamespace, Namespace, QualName, QuirksMode, Text};
+use markup::{Attribute, KnownNamespace, LocalName, Namespace, QualName, QuirksMode, Text};
 use selectors::{AttributeTest, Name, NamespaceTest, Nth, Simple};
 
 fn is_named(forest: &Forest, id: NodeId, wanted: &Name) -> bool
@@ -23,6 +24,23 @@ fn is_named(forest: &Forest, id: NodeId, wanted: &Name) -> bool
 {
     match element_name(forest, id) {
         Some(name) => local_of(name) == asked_of(is_html(name), wanted),
+        None => false,
+    }
+}
+
+/// Whether an element has one of two names: the one that HTML's elements are asked for, or the one that others are.
+pub fn is_named_by(forest: &Forest, id: NodeId, written: &LocalName, lowered: &LocalName) -> bool
+    ensures { (wanted : List ℕ) → written.now ≡ wanted → lowered.now ≡ map to_ascii_lowercase wanted
+        → result ≡ simples.is_named (element_name (data_of forest.now id)) wanted }
+{
+    match element_name(forest, id) {
+        Some(name) => {
+            if is_html(name) {
+                is_local(&name.local, lowered)
+            } else {
+                is_local(&name.local, written)
+            }
+        }
         None => false,
     }
 }

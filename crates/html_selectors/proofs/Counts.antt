@@ -10,8 +10,9 @@ use Rattle.markup.specs.Forest.{Forest, IsDistinct, IsForest, children_of, is_am
 use Rattle.markup.proofs.Forests.{IsParent-from_child}
 use Rattle.markup.proofs.Parents.{is_among-parent}
 use Rattle.html_selector_matching.specs.Around.{children_under, those_after}
-use Rattle.html_selector_matching.specs.Simples.{place_of}
-use Rattle.html_selectors.specs.Columns.{place_at}
+use Rattle.html_selector_matching.specs.Simples.{nodes_beside, place_of}
+use Rattle.html_selectors.specs.Columns.{place_among, place_at}
+use Rattle.html_selectors.proofs.Lists.{filter-same}
 
 -- how many pass, of a list with one more
 pub count-next : (t : ℕ → Bool) (n : ℕ) (ns : List ℕ) → length (filter t (n ∷ ns)) ≡ cond (t n) 1 0 + length (filter t ns)
@@ -122,25 +123,49 @@ entered-none value n (Some p) = rw (le-ltb p 0 (omega arith)) refl
 pub written-none : (t : ℕ → Bool) (from_end : Bool) (f : Forest) (n : ℕ) (o : Option ℕ) → written t from_end f 0 n o ≡ 1
 written-none t from_end f n o = entered-none (place_of t from_end f) n o
 
-pub last-more : (f : Forest) → IsForest f → (t : ℕ → Bool) (from_end : Bool) → from_end ≡ true → (count n old : ℕ)
-    → old ≡ written t from_end f count n (parent_of f n)
-    → cond (is_among n (children_of f count)) (suc (length (filter t (those_after n (children_of f count))))) old
-    ≡ written t from_end f (count + 1) n (parent_of f n)
-last-more f is t from_end last count n old is_old =
-    let place = suc (length (filter t (those_after n (children_of f count)))) in
-    ap (λ k. cond (is_among n (children_of f count)) place k) is_old
-    ∙ written-more f is t from_end count n place
-    (λ e. sym (ap (λ b. place_of t b f n) last ∙ ap (λ (o : Option ℕ). suc (length (filter t (those_after n (children_under f o))))) e))
+-- those nodes whose parents are wanted
+abbrev pub owned : (ℕ → Bool) → Option ℕ → Bool
+owned wanted None = true
+owned wanted (Some p) = wanted p
 
-pub first-more : (f : Forest) → IsForest f → (t : ℕ → Bool) (from_end : Bool) → from_end ≡ false → (count n old : ℕ)
+pub beside-more : (f : Forest) → IsForest f → (t : ℕ → Bool) (from_end : Bool) (count n old : ℕ)
     → old ≡ written t from_end f count n (parent_of f n)
-    → cond (is_among n (children_of f count)) (suc (length (filter t (those_before n (children_of f count))))) old
+    → cond (is_among n (children_of f count)) (place_among t from_end n (children_of f count)) old
     ≡ written t from_end f (count + 1) n (parent_of f n)
-first-more f is t from_end first count n old is_old =
-    let place = suc (length (filter t (those_before n (children_of f count)))) in
-    ap (λ k. cond (is_among n (children_of f count)) place k) is_old
-    ∙ written-more f is t from_end count n place
-    (λ e. sym (ap (λ b. place_of t b f n) first ∙ ap (λ (o : Option ℕ). suc (length (filter t (those_before n (children_under f o))))) e))
+beside-more f is t from_end count n old is_old =
+    ap (λ k. cond (is_among n (children_of f count)) (place_among t from_end n (children_of f count)) k) is_old
+    ∙ written-more f is t from_end count n (place_among t from_end n (children_of f count))
+    (λ e. sym (ap (λ (o : Option ℕ). place_among t from_end n (children_under f o)) e))
+
+-- or those of a parent that is not wanted
+pub unwanted-more : (f : Forest) (t wanted : ℕ → Bool) (from_end : Bool) (count n : ℕ) → wanted count ≡ false
+    → owned wanted (parent_of f n) ≡ true
+    → written t from_end f count n (parent_of f n) ≡ written t from_end f (count + 1) n (parent_of f n)
+unwanted-more f t wanted from_end count n unwanted = by (parent_of f n)
+  where
+    by : (o : Option ℕ) → owned wanted o ≡ true → written t from_end f count n o ≡ written t from_end f (count + 1) n o
+    by None own = refl
+    by (Some p) own =
+        elim (cases_order p count) [
+          | inl same ↦ absurd (let wanted-too : wanted count ≡ true = ap wanted (sym same) ∙ own in cc)
+          | inr apart ↦ elim apart [
+            | inl less ↦ rw (lt-ltb p count less, lt-ltb p (count + 1) (omega (arith, less))) refl
+            | inr more ↦ rw (le-ltb p count (omega (arith, more)), le-ltb p (count + 1) (omega (arith, more))) refl
+          ]
+        ]
+
+pub owned-by : (f : Forest) (t wanted : ℕ → Bool) (n : ℕ) → t n ≡ true
+    → ((n p : ℕ) → t n ≡ true → parent_of f n ≡ Some p → wanted p ≡ true) → owned wanted (parent_of f n) ≡ true
+owned-by f t wanted n h all = by (parent_of f n) refl
+  where
+    by : (o : Option ℕ) → parent_of f n ≡ o → owned wanted o ≡ true
+    by None e = refl
+    by (Some p) e = all n p h e
+
+-- tests that agree give the same places
+pub place-same : (t u : ℕ → Bool) → ((n : ℕ) → t n ≡ u n) → (from_end : Bool) (f : Forest) (n : ℕ)
+    → place_of t from_end f n ≡ place_of u from_end f n
+place-same t u same from_end f n = ap (λ (l : List ℕ). suc (length l)) (filter-same t u same (nodes_beside from_end f n))
 
 -- one of a list passes where the place after it is not the first
 pub any-place : (t : ℕ → Bool) (ns : List ℕ) → list_any t ns ≡ nat_lt 1 (suc (length (filter t ns)))

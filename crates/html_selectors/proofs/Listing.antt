@@ -4,7 +4,8 @@ use Rattle.std.proofs.Common.{Option, Some, None, inl, inr, refl, ap, arith, sub
 use Rattle.std.proofs.Math.ListN.{get_or}
 use Rattle.std.specs.Prelude.{cond, filter, is_none, is_some, not}
 use Rattle.std.specs.List.{range_with_len}
-use Rattle.std.proofs.lemmas.List.{append-nil, append_assoc, drop_more, nil_from_length, take_more}
+use Rattle.std.proofs.lemmas.Bool.{cases_Bool, lt-ltb}
+use Rattle.std.proofs.lemmas.List.{append-nil, append_assoc, drop_more, nil_from_length, take_all, take_more}
 use Rattle.markup.specs.Forest.{Forest, IsForest, children_of, is_among, node_count, parent_of}
 use Rattle.markup.proofs.Children.{is_among-append_right}
 use Rattle.markup.proofs.Forests.{IsParent-from_child}
@@ -15,7 +16,7 @@ use Rattle.html_nodes.proofs.Distinct.{among-below, listed}
 use Rattle.html_nodes.proofs.Levels.{below-children}
 use Rattle.html_selector_matching.specs.Around.{above, line}
 use Rattle.html_selector_matching.proofs.Lines.{below-more, below-node, line-some}
-use Rattle.html_selectors.specs.Order.{in_tree_order, is_root, roots}
+use Rattle.html_selectors.specs.Order.{BeginsWith, in_tree_order, is_root, roots}
 use Rattle.html_selectors.proofs.Lists.{among-filter, among-left, among-range, each-all, each-among, filter-among, range-among}
 
 -- PARENTS COME FIRST
@@ -232,3 +233,56 @@ pub roots-all : (f : Forest) (n : ℕ) → n ≡ node_count f
 unfolding in_tree_order
 roots-all f n e =
     ap (λ k. each_with_below (below f) (filter (is_root f) (range_with_len 0 k))) (let s : n - 0 ≡ node_count f = omega (arith, e) in s)
+
+-- the document comes first, where it has no parent
+pub begins-first : (f : Forest) (order : List ℕ) → order ≡ cond (is_root f 0) (0 ∷ below f 0) [] → BeginsWith f (length order) order
+begins-first f order e =
+    elim (cases_Bool (is_root f 0)) [
+      | inl root ↦ first order (e ∙ ap (λ b. cond b (0 ∷ below f 0) []) root)
+      | inr other ↦ none order (e ∙ ap (λ b. cond b (0 ∷ below f 0) []) other)
+    ]
+  where
+    first : (order : List ℕ) → order ≡ 0 ∷ below f 0 → BeginsWith f (length order) order
+    first order e = rw e (take_all (length (0 ∷ below f 0)) (0 ∷ below f 0) (omega arith)
+        ∙ sym (ap (λ b. cond b (0 ∷ below f 0) []) (lt-ltb 0 (length (0 ∷ below f 0)) (omega arith))))
+
+    none : (order : List ℕ) → order ≡ [] → BeginsWith f (length order) order
+    none order e = rw e refl
+
+take-within : (k : ℕ) (xs ys : List ℕ) → k ≤ length xs → take k (xs ++ ys) ≡ take k xs
+take-within zero xs ys less = refl
+take-within (suc k) [] ys less = absurd (omega (arith, less))
+take-within (suc k) (x ∷ xs) ys less = ap (λ (l : List ℕ). x ∷ l) (take-within k xs ys (omega (arith, less)))
+
+pub begins-more : (f : Forest) (first : ℕ) (order more : List ℕ) → first ≤ length order → BeginsWith f first order
+    → BeginsWith f first (order ++ more)
+begins-more f first order more within h = take-within first order more within ∙ h
+
+pub all-roots : (f : Forest) → IsForest f → (order : List ℕ) (count : ℕ) → count ≡ node_count f
+    → order ≡ cond (is_root f 0) (0 ∷ below f 0) []
+    → order ++ each_with_below (below f) (filter (is_root f) (range_with_len 1 (count - 1))) ≡ in_tree_order f
+all-roots f is order count all e =
+    let some : 0 < count = let d = is.document in omega (arith, d, all) in
+    elim (cases_Bool (is_root f 0)) [
+      | inl root ↦ ap (λ (l : List ℕ). l ++ each_with_below (below f) (filter (is_root f) (range_with_len 1 (count - 1))))
+          (e ∙ ap (λ b. cond b (0 ∷ below f 0) []) root) ∙ (root-next f [] 0 count some root ∙ roots-all f count all)
+      | inr other ↦ ap (λ (l : List ℕ). l ++ each_with_below (below f) (filter (is_root f) (range_with_len 1 (count - 1))))
+          (e ∙ ap (λ b. cond b (0 ∷ below f 0) []) other) ∙ (other-next f [] 0 count some other ∙ roots-all f count all)
+    ]
+
+pub drop-all : (k : ℕ) (ns : List ℕ) → length ns ≤ k → drop k ns ≡ []
+drop-all zero [] all = refl
+drop-all zero (n ∷ ns) all = absurd (omega (arith, all))
+drop-all (suc k) [] all = refl
+drop-all (suc k) (n ∷ ns) all = drop-all k ns (omega (arith, all))
+
+-- what comes after the document
+pub behind-first : (f : Forest) (first : ℕ) (order nodes : List ℕ) → BeginsWith f first order → 1 ≤ first
+    → nodes ≡ take (first - 1) (drop 1 order) → nodes ≡ below f 0
+behind-first f zero order nodes begins some e = absurd (omega (arith, some))
+behind-first f (suc k) order nodes begins some e =
+    e ∙ by order (begins ∙ ap (λ b. cond b (0 ∷ below f 0) []) (lt-ltb 0 (suc k) (omega arith)))
+  where
+    by : (order : List ℕ) → take (suc k) order ≡ 0 ∷ below f 0 → take (suc k - 1) (drop 1 order) ≡ below f 0
+    by [] h = absurd (no-line (sym h))
+    by (x ∷ xs) h = ap (λ j. take j xs) (let less : suc k - 1 ≡ k = omega arith in less) ∙ tails h

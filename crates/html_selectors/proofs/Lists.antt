@@ -2,7 +2,7 @@
 use Rattle.std.proofs.Common.{◌≡◌, ◌∙◌, ◌⊎◌, ◌+◌, ◌<◌, ◌≤◌, ℕ, zero, suc, Bool, true, false, List, [], ◌∷◌, ◌++◌}
 use Rattle.std.proofs.Common.{inl, inr, refl, ap, arith, subst, sym}
 use Rattle.std.specs.Prelude.{◌||◌, filter}
-use Rattle.std.specs.List.{list_any, range_with_len}
+use Rattle.std.specs.List.{find, list_any, range_with_len}
 use Rattle.std.proofs.lemmas.Bool.{cases_Bool, cases_eq, eq-eqb, ne_eqb}
 use Rattle.std.proofs.lemmas.List.Folds.{list_any-append}
 use Rattle.markup.specs.Forest.{is_among}
@@ -101,6 +101,14 @@ any-alike p q (n ∷ ns) same =
 
 pub any-same : (p q : ℕ → Bool) → ((n : ℕ) → p n ≡ q n) → (ns : List ℕ) → list_any p ns ≡ list_any q ns
 any-same p q same ns = any-alike p q ns (λ n h. same n)
+
+pub filter-same : (p q : ℕ → Bool) → ((n : ℕ) → p n ≡ q n) → (ns : List ℕ) → filter p ns ≡ filter q ns
+filter-same p q same [] = refl
+filter-same p q same (n ∷ ns) = rw (same n, filter-same p q same ns) refl
+
+pub find-same : (p q : ℕ → Bool) → ((n : ℕ) → p n ≡ q n) → (ns : List ℕ) → find p ns ≡ find q ns
+find-same p q same [] = refl
+find-same p q same (n ∷ ns) = rw (same n, find-same p q same ns) refl
 
 or-regroup : (a b c : Bool) → ((a || b) || c) ≡ (a || (b || c))
 or-regroup true b c = refl

@@ -22,21 +22,29 @@ mark-push t done m c v there is e n =
       | inr other ↦ get_or-set_other c m n v false other ∙ (is n ∙ ap (λ b. b && t n) (sym (is_among-push_other n m done other)))
     ]
 
--- or before them
-pub mark-front : (t : ℕ → Bool) (done : List ℕ) (m : ℕ) (c : List Bool) (v : Bool) → m < length c
-    → ((n : ℕ) → at c n ≡ (is_among n done && t n)) → v ≡ t m
-    → (n : ℕ) → at (set c m v) n ≡ (is_among n (m ∷ done) && t n)
-mark-front t done m c v there is e n =
+-- or one that fails
+pub mark-pass : (t : ℕ → Bool) (done : List ℕ) (m : ℕ) (c : List Bool) → ((n : ℕ) → at c n ≡ (is_among n done && t n)) → t m ≡ false
+    → (n : ℕ) → at c n ≡ (is_among n (done ++ m ∷ []) && t n)
+mark-pass t done m c is fails n =
     elim (cases_eq n m) [
-      | inl same ↦ rw (same, eq-eqb m m refl) (get_or-set_same c m v false there ∙ e)
-      | inr other ↦ get_or-set_other c m n v false other
-          ∙ (is n ∙ ap (λ b. b && t n) (sym (ap (λ b. cond b true (is_among n done)) (ne_eqb n m other))))
+      | inl same ↦ let no : t n ≡ false = ap t same ∙ fails in
+          is n ∙ (ap (λ b. is_among n done && b) no ∙ (and-false (is_among n done)
+          ∙ sym (ap (λ b. is_among n (done ++ m ∷ []) && b) no ∙ and-false (is_among n (done ++ m ∷ [])))))
+      | inr other ↦ is n ∙ ap (λ b. b && t n) (sym (is_among-push_other n m done other))
     ]
+
+pub none-from : (b : Bool) → (b ≡ true → ⊥) → b ≡ false
+none-from true h = absurd (h refl)
+none-from false h = refl
 
 -- a place of a column that was refined by a test that answers v
 pub refined : (P : Bool → Type 0) (old new v : Bool) → Refines P old new → ((r : Bool) → P r → r ≡ v) → new ≡ (old && v)
 refined P true new v h told = told new h
 refined P false new v h told = h
+
+pub refined-if : (P : Bool → Type 0) (old new v : Bool) → Refines P old new → (old ≡ true → (r : Bool) → P r → r ≡ v) → new ≡ (old && v)
+refined-if P true new v h told = told refl new h
+refined-if P false new v h told = h
 
 pub and-regroup : (a b c : Bool) → ((a && b) && c) ≡ (a && (b && c))
 and-regroup true b c = refl

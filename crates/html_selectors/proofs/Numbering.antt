@@ -1,20 +1,25 @@
 -- Numbers tell names apart.
-use Rattle.std.proofs.Common.{◌≡◌, ◌∙◌, ◌+◌, ◌<◌, ◌≤◌, ℕ, suc, Bool, true, false, List, [], ◌∷◌, ◌++◌, length, Option, Some, None}
+use Rattle.std.proofs.Common.{◌≡◌, ◌∙◌, ◌+◌, ◌<◌, ◌≤◌, ℕ, zero, suc, Bool, true, false, List, [], ◌∷◌, ◌++◌, length, Option, Some, None}
 use Rattle.std.proofs.Common.{inl, inr, refl, ap, arith, subst, sym}
-use Rattle.std.specs.Prelude.{◌&&◌, ◌==◌, cond, is_some, nat_eq, unwrap_or}
+use Rattle.std.specs.Prelude.{◌&&◌, ◌==◌, cond, is_some, nat_eq, slice_index_or, unwrap_or}
+use Rattle.std.specs.Str.{bytes_eq}
+use Rattle.std.proofs.Math.ListN.{set}
 use Rattle.std.specs.BTreeMap.{is_at}
 use Rattle.std.specs.Cmp.Lexicographic.{pointwise, slice_cmp, texts_ties}
 use Rattle.std.specs.Ordering.{is_eq, nat_cmp, ordering_then}
 use Rattle.std.specs.declared.cmp.Ordering.{Ordering}
 use Rattle.std.specs.declared.cmp.Ordering.TheVariants.{Less, Equal, Greater}
-use Rattle.std.proofs.lemmas.Bool.{and_parts, cases_Bool, cases_lt, eq-eqb, ne_eqb}
-use Rattle.std.proofs.lemmas.List.{get_or_append_left, get_or_past, get_or_push, length_push}
+use Rattle.std.proofs.lemmas.Bool.{and_parts, cases_Bool, cases_eq, cases_lt, eq-eqb, ne_eqb}
+use Rattle.std.proofs.lemmas.List.{get_or-set_other, get_or-set_same, get_or_append_left, get_or_past, get_or_push, length_push}
 use Rattle.markup.specs.Equality.{texts_by_value}
 use Rattle.markup.specs.Forest.{Forest, node_count}
+use Rattle.markup.specs.KnownNames.{IsNameAt, names}
+use Rattle.markup.specs.Namespaces.{name_of}
 use Rattle.markup.specs.declared.names.QualName.{QualName}
+use Rattle.markup.specs.declared.namespaces.KnownNamespace.TheVariants.{Html}
 use Rattle.html_selector_matching.specs.Around.{is_element}
 use Rattle.html_selector_matching.specs.Simples.{have_same_name}
-use Rattle.html_selectors.specs.Kinds.{AreKinds, IsNumbered, Key, key_cmp, key_of, kind_at, name_at, same_key}
+use Rattle.html_selectors.specs.Kinds.{AreKinds, AreNotes, IsNoted, IsNumbered, Key, key_cmp, key_of, kind_at, name_at, same_key}
 use Rattle.html_selectors.proofs.Steps.{no-element}
 
 -- KEYS
@@ -96,7 +101,7 @@ kind-before kinds kind n low = get_or_append_left kinds (kind ∷ []) 0 n low
 -- a node that is no element is numbered 0
 push-other : (f : Forest) (count kind : ℕ) (kinds : List ℕ) (look look' : Key → Option ℕ) → AreTold f count kinds look
     → name_at f count ≡ None → kind ≡ 0 → ((q : Key) → look' q ≡ look q) → AreTold f (count + 1) (kinds ++ kind ∷ []) look'
-push-other f count kind kinds look look' t none zero same = record {
+push-other f count kind kinds look look' t none nil same = record {
   len = length_push kinds kind ∙ ap (λ k. k + 1) t.len;
   told = λ n low name named.
       elim (cases_lt n count) [
@@ -104,7 +109,7 @@ push-other f count kind kinds look look' t none zero same = record {
             ∙ ap (λ k. Some k) (sym (kind-before kinds kind n (omega (arith, less, t.len)))))
         | inr past ↦ absurd (let e : n ≡ count = omega (arith, low, past) in no-name (sym none ∙ (ap (name_at f) (sym e) ∙ named)))
       ];
-  other = λ n named. push-none kinds kind n count t.len (t.other n named) (λ e. zero);
+  other = λ n named. push-none kinds kind n count t.len (t.other n named) (λ e. nil);
   from = λ q k h. later f count q k (t.from q k (sym (same q) ∙ h));
 }
   where
@@ -201,6 +206,75 @@ push-told f count kind kinds look look' t n = by (name_at f count) refl n
     by None e n = push-other f count kind kinds look look' t e n.0 n.1
     by (Some name) e n = push-element f count kind kinds look look' name t e n.0 n.1
 
+-- NOTES
+
+-- what was noted stays when one more is numbered
+pub notes-kept : (notes : List ℕ) (look look' : Key → Option ℕ) (key : Key) (number next : ℕ) → AreNotes notes look
+    → number ≡ unwrap_or (look key) next → ((q : Key) → look' q ≡ cond (same_key key q) (Some number) (look q)) → AreNotes notes look'
+notes-kept notes look look' key number next are is more place name there = by (slice_index_or notes place 0) (are place name there)
+  where
+    by : (k : ℕ) → IsNoted k (look (name, name_of Html)) → IsNoted k (look' (name, name_of Html))
+    by zero h = tt
+    by (suc k) h =
+        elim (cases_Bool (same_key key (name, name_of Html))) [
+          | inl same ↦ more (name, name_of Html)
+              ∙ (ap (λ b. cond b (Some number) (look (name, name_of Html))) same
+              ∙ ap (λ j. Some j) (kind-new (look key) number next (suc k) is (ap look (key-is key (name, name_of Html) same) ∙ h)))
+          | inr differ ↦ more (name, name_of Html) ∙ (ap (λ b. cond b (Some number) (look (name, name_of Html))) differ ∙ h)
+        ]
+
+noted-is : (k : ℕ) (o : Option ℕ) → o ≡ Some k → IsNoted k o
+noted-is zero o h = tt
+noted-is (suc k) o h = h
+
+-- one more is noted
+pub notes-more : (notes : List ℕ) (look : Key → Option ℕ) (name : QualName) (place number : ℕ) → AreNotes notes look
+    → IsNameAt place name.local → bytes_eq name.ns (name_of Html) ≡ true → place < length notes → look (key_of name) ≡ Some number
+    → AreNotes (set notes place number) look
+notes-more notes look name place number are there html low is other local at-other =
+    elim (cases_eq other place) [
+      | inl same ↦
+          let locals : local ≡ name.local = sym at-other.there ∙ (ap (λ k. slice_index_or names k []) same ∙ there.there) in
+          subst (λ k. IsNoted k (look (local, name_of Html)))
+          (sym (ap (λ k. slice_index_or (set notes place number) k 0) same ∙ get_or-set_same notes place number 0 low))
+          (noted-is number (look (local, name_of Html))
+          (ap look (λ i. (locals i, sym ((texts_by_value name.ns (name_of Html)).0 html) i)) ∙ is))
+      | inr apart ↦ subst (λ k. IsNoted k (look (local, name_of Html))) (sym (get_or-set_other notes place other number 0 apart))
+          (are other local at-other)
+    ]
+
+-- a number that was noted is that of the name
+pub noted-told : (notes : List ℕ) (look : Key → Option ℕ) (name : QualName) (place number : ℕ) → AreNotes notes look
+    → IsNameAt place name.local → bytes_eq name.ns (name_of Html) ≡ true → number ≡ slice_index_or notes place 0
+    → IsNoted number (look (key_of name))
+noted-told notes look name place number are there html is =
+    subst (λ k. IsNoted k (look (key_of name))) (sym is)
+    (subst (λ (q : Key). IsNoted (slice_index_or notes place 0) (look q))
+    (λ i. (name.local, sym ((texts_by_value name.ns (name_of Html)).0 html) i)) (are place name.local there))
+
+noted-some : (number : ℕ) (o : Option ℕ) → IsNoted number o → 0 < number → o ≡ Some number
+noted-some zero o h some = absurd (omega (arith, some))
+noted-some (suc k) o h some = h
+
+-- so it is not written down again
+pub noted-number : (look : Key → Option ℕ) (key : Key) (number next : ℕ) → IsNoted number (look key) → 0 < number
+    → number ≡ unwrap_or (look key) next
+noted-number look key number next h some = sym (ap (λ (o : Option ℕ). unwrap_or o next) (noted-some number (look key) h some))
+
+pub noted-table : (look : Key → Option ℕ) (key : Key) (number : ℕ) → IsNoted number (look key) → 0 < number
+    → (q : Key) → look q ≡ cond (same_key key q) (Some number) (look q)
+noted-table look key number h some q =
+    elim (cases_Bool (same_key key q)) [
+      | inl same ↦ ap look (sym (key-is key q same)) ∙ (noted-some number (look key) h some
+          ∙ sym (ap (λ b. cond b (Some number) (look q)) same))
+      | inr differ ↦ sym (ap (λ b. cond b (Some number) (look q)) differ)
+    ]
+
+-- the number that was just written down is found
+pub table-self : (look' : Key → Option ℕ) (key : Key) (number : ℕ) (old : Option ℕ)
+    → look' key ≡ cond (same_key key key) (Some number) old → look' key ≡ Some number
+table-self look' key number old h = h ∙ ap (λ b. cond b (Some number) old) (key-self key)
+
 -- WHAT NUMBERS TELL
 
 some-name : (o : Option QualName) → is_some o ≡ true → (name : QualName) × (o ≡ Some name)
@@ -238,8 +312,8 @@ kinds-told f kinds look t m n element = by (some-name (name_at f m) element)
     other-none : (one : QualName) → name_at f m ≡ Some one → name_at f n ≡ None → (kind_at kinds m == kind_at kinds n) ≡ false
     other-none one e none =
         let a = t.from (key_of one) (kind_at kinds m) (t.told m (node-low f m one e) one e) in
-        let zero = t.other n none in
-        ne_eqb (kind_at kinds m) (kind_at kinds n) (λ same. absurd (omega (arith, a.is, zero, same)))
+        let nil = t.other n none in
+        ne_eqb (kind_at kinds m) (kind_at kinds n) (λ same. absurd (omega (arith, a.is, nil, same)))
 
     sides : (one : QualName) → name_at f m ≡ Some one → (o : Option QualName) → name_at f n ≡ o
         → (kind_at kinds m == kind_at kinds n) ≡ have_same_name (name_at f m) o
@@ -254,7 +328,7 @@ pub kinds-small : (f : Forest) (kinds : List ℕ) (look : Key → Option ℕ) �
 kinds-small f kinds look t n = by (name_at f n) refl
   where
     by : (o : Option QualName) → name_at f n ≡ o → kind_at kinds n ≤ node_count f
-    by None none = let zero = t.other n none in omega (arith, zero)
+    by None none = let nil = t.other n none in omega (arith, nil)
     by (Some name) named =
         let a = t.from (key_of name) (kind_at kinds n) (t.told n (node-low f n name named) name named) in
         let low = a.low in

@@ -42,24 +42,18 @@ pub(crate) fn refine<F: Fn(NodeId) -> bool>(column: &mut Vec<bool>, test: F)
 pub(crate) fn keep_those(column: &mut Vec<bool>, those: &[bool])
     ensures { (n : ℕ) → at column.new.items n ≡ (at column.old.items n && at those.now n) }
 {
-    refine(
-        column,
-        |id: NodeId| -> bool
-            ensures { result ≡ at those.entry.now id }
-        { is_in(those, id) },
-    );
+    for number in 0..column.len() {
+        column[number] &= is_in(those, NodeId::new(number));
+    }
 }
 
 /// Leaves in a column those nodes that are not in another one.
 pub(crate) fn drop_those(column: &mut Vec<bool>, those: &[bool])
     ensures { (n : ℕ) → at column.new.items n ≡ (at column.old.items n && not (at those.now n)) }
 {
-    refine(
-        column,
-        |id: NodeId| -> bool
-            ensures { result ≡ not (at those.entry.now id) }
-        { !is_in(those, id) },
-    );
+    for number in 0..column.len() {
+        column[number] &= !is_in(those, NodeId::new(number));
+    }
 }
 
 // Adds to a column the nodes of one that is no longer.
@@ -67,9 +61,9 @@ fn add_those(column: &mut Vec<bool>, those: &[bool])
     requires { length those.now ≤ vec_len column.old }
     ensures { (n : ℕ) → at column.new.items n ≡ (at column.old.items n || at those.now n) }
 {
-    for number in 0..column.len() {
-        if !column[number] {
-            column[number] = is_in(those, NodeId::new(number));
+    for number in 0..those.len() {
+        if those[number] {
+            column[number] = true;
         }
     }
 }

@@ -1,13 +1,17 @@
 //! Leaves in a column what stands, or is placed, as a selector asks.
-ghost use Rattle.std.specs.Prelude.{◌≡◌, ◌&&◌, ℕ, IfErr, IfOk, OnOk, nat_lt, true};
+ghost use Rattle.std.specs.Prelude.{◌≡◌, ◌<◌, ◌&&◌, ◌||◌, ℕ, List, IfErr, IfOk, OnOk, cond, map, nat_lt, true};
+ghost use Rattle.std.specs.Char.{to_ascii_lowercase};
 ghost use Rattle.std.specs.List.{list_all, list_any};
+ghost use Rattle.markup.specs.Forest.{data_of, element_name, node_count, parent_of};
 ghost use Rattle.markup.specs.declared.fault.ParseFault.TheVariants.{Memory};
 ghost use Rattle.html_selector_matching.specs.Around as around;
-ghost use Rattle.html_selector_matching.specs.Around.{one_of};
+ghost use Rattle.html_nodes.specs.Below.{below};
+ghost use Rattle.html_selector_matching.specs.Around.{above, one_of};
 ghost use Rattle.html_selector_matching.specs.Selects.{is_nth_of, left_of, right_of};
 ghost use Rattle.html_selector_matching.specs.Simples as asks;
 ghost use Rattle.html_selector_matching.specs.Simples.{nodes_beside};
-ghost use Rattle.selectors.specs.declared.selector.Simple.TheVariants.{Attribute as WithAttribute, NthChild, NthOfType};
+ghost use Rattle.selectors.specs.declared.selector.Combinator.TheVariants.{Child, Descendant};
+ghost use Rattle.selectors.specs.declared.selector.Simple.TheVariants.{«Type», Attribute as WithAttribute, NthChild, NthOfType};
 ghost use Rattle.html_selectors.specs.Columns as columns;
 ghost use Rattle.html_selectors.specs.Columns.{at};
 
@@ -18,10 +22,10 @@ use crate::places::{place_at, places};
 use crate::types::places_of_type;
 use html_forest::{Forest, NodeId};
 use html_selector_matching::{
-    element_after, element_before, has_attribute_by, is_nth, is_simple, lower,
+    element_after, element_before, has_attribute_by, is_named_by, is_nth, is_simple, lower,
 };
-use markup::ParseFault;
-use selectors::{AttributeTest, Combinator, Nth, Simple};
+use markup::{LocalName, ParseFault};
+use selectors::{AttributeTest, Combinator, Name, Nth, Simple};
 
 /// The elements of a page.
 pub(crate) fn elements(index: &Index<'_>) -> Result<Vec<bool>, ParseFault>
@@ -69,7 +73,7 @@ fn keep_beside(
         ≡ (at column.old.items n && list_any (at those.now) (nodes_beside from_end index.now.forest.now n))) }
     ensures fault { IfErr result (λ fault. fault ≡ Memory) }
 {
-    let written = places(index, from_end, those)?;
+    let written = places(index, from_end, those, column.as_slice())?;
     keep_later(written.as_slice(), column);
     Ok(())
 }
@@ -81,6 +85,59 @@ fn keep_placed(nth: &Nth, places: &[u64], column: &mut Vec<bool>)
     refine(column, |id: NodeId| -> bool {
         is_nth(nth, place_at(places, id))
     });
+}
+
+// All nodes of a page.
+fn all_nodes(index: &Index<'_>) -> Result<Vec<bool>, ParseFault>
+    ensures ok { IfOk result (λ column. (n : ℕ) → n < node_count index.now.forest.now → at column.items n ≡ true) }
+    ensures fault { IfErr result (λ fault. fault ≡ Memory) }
+{
+    Ok(vec![in index.alloc; true; index.count]?)
+}
+
+// Leaves in a column those nodes above which stands one of another column.
+fn keep_under(index: &Index<'_>, left: &[bool], column: &mut Vec<bool>) -> Result<(), ParseFault>
+    ensures ok { OnOk result ((n : ℕ) → at column.new.items n
+        ≡ (at column.old.items n && list_any (at left.now) (above index.now.forest.now n))) }
+    ensures fault { IfErr result (λ fault. fault ≡ Memory) }
+{
+    index.forest.keeps();
+    let all = all_nodes(index)?;
+    let those = under(index, all.as_slice(), left)?;
+    keep_those(column, those.as_slice());
+    Ok(())
+}
+
+/// Leaves in a column those nodes of which the parent, or where it is asked one of all above, is in another column. `wanted` has the nodes
+/// over those of the column.
+pub(crate) fn keep_inside(
+    index: &Index<'_>,
+    deep: bool,
+    wanted: &[bool],
+    left: &[bool],
+    column: &mut Vec<bool>,
+) -> Result<(), ParseFault>
+    requires { (n : ℕ) → at wanted.now n ≡ list_any (at column.old.items) (below index.now.forest.now n) }
+    ensures ok { OnOk result ((n : ℕ) → at column.new.items n
+        ≡ (at column.old.items n && list_any (at left.now) (left_of (cond deep Descendant Child) index.now.forest.now n))) }
+    ensures fault { IfErr result (λ fault. fault ≡ Memory) }
+{
+    let forest = index.forest;
+    forest.keeps();
+    if !deep {
+        refine(column, |id: NodeId| -> bool {
+            has_parent(forest, id, left, &[])
+        });
+        return Ok(());
+    }
+    let those = under(index, wanted, left)?;
+    refine(
+        column,
+        |id: NodeId| -> bool
+            ensures { result ≡ list_any (λ n. at left.entry.now n || at those.items n) (one_of (parent_of forest.entry.now id)) }
+        { has_parent(forest, id, left, those.as_slice()) },
+    );
+    Ok(())
 }
 
 /// Leaves in a column those nodes to which one on the left stands as a combinator says.
@@ -102,11 +159,7 @@ pub(crate) fn keep_right(
             });
             Ok(())
         }
-        Combinator::Descendant => {
-            let those = under(index, left)?;
-            keep_those(column, those.as_slice());
-            Ok(())
-        }
+        Combinator::Descendant => keep_under(index, left, column),
         Combinator::NextSibling => {
             refine(
                 column,
@@ -168,7 +221,7 @@ pub(crate) fn keep_nth_of(
         ≡ (at column.old.items n && is_nth_of (at those.now) nth.now index.now.forest.now n)) }
     ensures fault { IfErr result (λ fault. fault ≡ Memory) }
 {
-    let written = places(index, nth.from_end, those)?;
+    let written = places(index, nth.from_end, those, column.as_slice())?;
     keep_those(column, those);
     keep_placed(nth, written.as_slice(), column);
     Ok(())
@@ -185,7 +238,12 @@ fn keep_nth_child(
         ≡ (at column.old.items n && asks.is_simple index.now.forest.now scope n (NthChild nth.now))) }
     ensures fault { IfErr result (λ fault. fault ≡ Memory) }
 {
-    let written = places(index, nth.from_end, index.elements.as_slice())?;
+    let written = places(
+        index,
+        nth.from_end,
+        index.elements.as_slice(),
+        column.as_slice(),
+    )?;
     keep_placed(nth, written.as_slice(), column);
     Ok(())
 }
@@ -231,6 +289,30 @@ fn keep_attribute(
     Ok(())
 }
 
+// Leaves in a column those elements that have a name.
+fn keep_named(
+    index: &Index<'_>,
+    scope: NodeId,
+    wanted: &Name,
+    column: &mut Vec<bool>,
+) -> Result<(), ParseFault>
+    ensures ok { OnOk result ((n : ℕ) → at column.new.items n
+        ≡ (at column.old.items n && asks.is_simple index.now.forest.now scope n («Type» wanted.now))) }
+    ensures fault { IfErr result (λ fault. fault ≡ Memory) }
+{
+    let forest = index.forest;
+    let written = LocalName::from_str(index.alloc, wanted.written().as_str())?;
+    let lowered = LocalName::from_str(index.alloc, wanted.lowered().as_str())?;
+    refine(
+        column,
+        |id: NodeId| -> bool
+            ensures { (name : List ℕ) → written ≡ name → lowered ≡ map to_ascii_lowercase name
+                → result ≡ asks.is_named (element_name (data_of forest.entry.now id)) name }
+        { is_named_by(forest, id, &written, &lowered) },
+    );
+    Ok(())
+}
+
 // Leaves in a column those elements that are as one simple selector asks, each asked by itself.
 fn keep_each(index: &Index<'_>, scope: NodeId, simple: &Simple, column: &mut Vec<bool>)
     ensures { (n : ℕ) → at column.new.items n
@@ -261,6 +343,7 @@ fn keep_simple(
         Simple::NthChild(nth) => keep_nth_child(index, scope, nth, column),
         Simple::NthOfType(nth) => keep_nth_of_type(index, scope, nth, column),
         Simple::Attribute(test) => keep_attribute(index, scope, test, column),
+        Simple::Type(wanted) => keep_named(index, scope, wanted, column),
         _ => {
             keep_each(index, scope, simple, column);
             Ok(())

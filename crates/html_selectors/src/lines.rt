@@ -1,7 +1,7 @@
 //! What stands above and below each node, in one way through the forest.
-ghost use Rattle.std.specs.Prelude.{◌≡◌, ◌||◌, ℕ, IfErr, IfOk};
+ghost use Rattle.std.specs.Prelude.{◌≡◌, ◌≤◌, ◌&&◌, ◌||◌, ℕ, IfErr, IfOk, Some, length, true};
 ghost use Rattle.std.specs.List.{list_any};
-ghost use Rattle.markup.specs.Forest.{children_of, parent_of};
+ghost use Rattle.markup.specs.Forest.{children_of, is_among, node_count, parent_of};
 ghost use Rattle.markup.specs.declared.fault.ParseFault.TheVariants.{Memory};
 ghost use Rattle.html_nodes.specs.Below.{below};
 ghost use Rattle.html_selector_matching.specs.Around.{above, one_of};
@@ -22,16 +22,24 @@ pub(crate) fn has_parent(forest: &Forest, id: NodeId, one: &[bool], other: &[boo
     }
 }
 
-/// The nodes above which stands one of a column.
-pub(crate) fn under(index: &Index<'_>, column: &[bool]) -> Result<Vec<bool>, ParseFault>
-    ensures ok { IfOk result (λ under. (n : ℕ) → at under.items n ≡ list_any (at column.now) (above index.now.forest.now n)) }
+/// Those of the wanted nodes above which stands one of a column. Whoever is above a wanted node is wanted too.
+pub(crate) fn under(
+    index: &Index<'_>,
+    wanted: &[bool],
+    column: &[bool],
+) -> Result<Vec<bool>, ParseFault>
+    requires { (n p : ℕ) → at wanted.now n ≡ true → parent_of index.now.forest.now n ≡ Some p → at wanted.now p ≡ true }
+    ensures ok { IfOk result (λ under. (n : ℕ) → at under.items n
+        ≡ (at wanted.now n && list_any (at column.now) (above index.now.forest.now n))) }
     ensures fault { IfErr result (λ fault. fault ≡ Memory) }
 {
     index.forest.keeps();
     let mut under = none_of(index.alloc, index.count)?;
     for id in &index.order {
-        let is_under = has_parent(index.forest, *id, column, under.as_slice());
-        under[id.number()] = is_under;
+        if is_in(wanted, *id) {
+            let is_under = has_parent(index.forest, *id, column, under.as_slice());
+            under[id.number()] = is_under;
+        }
     }
     Ok(under)
 }
@@ -48,6 +56,35 @@ pub(crate) fn has_child(forest: &Forest, id: NodeId, one: &[bool], other: &[bool
     false
 }
 
+// Puts the parent of a node into a column.
+fn mark_parent(forest: &Forest, id: NodeId, column: &mut Vec<bool>)
+    requires { node_count forest.now ≤ length column.old.items }
+    ensures len { length column.new.items ≡ length column.old.items }
+    ensures marked { (n : ℕ) → at column.new.items n ≡ (is_among id (children_of forest.now n) || at column.old.items n) }
+{
+    forest.keeps();
+    if let Some(parent) = forest.parent(id) {
+        column[parent.number()] = true;
+    }
+}
+
+/// Nodes among which are the parents of those in a column.
+pub(crate) fn parents(index: &Index<'_>, column: &[bool]) -> Result<Vec<bool>, ParseFault>
+    ensures ok { IfOk result (λ parents. (n p : ℕ) → at column.now n ≡ true → parent_of index.now.forest.now n ≡ Some p
+        → at parents.items p ≡ true) }
+    ensures fault { IfErr result (λ fault. fault ≡ Memory) }
+{
+    index.forest.keeps();
+    let mut parents = none_of(index.alloc, index.count)?;
+    for number in 0..column.len() {
+        let id = NodeId::new(number);
+        if is_in(column, id) {
+            mark_parent(index.forest, id, &mut parents);
+        }
+    }
+    Ok(parents)
+}
+
 /// The nodes below which stands one of a column.
 pub(crate) fn over(index: &Index<'_>, column: &[bool]) -> Result<Vec<bool>, ParseFault>
     ensures ok { IfOk result (λ over. (n : ℕ) → at over.items n ≡ list_any (at column.now) (below index.now.forest.now n)) }
@@ -59,8 +96,9 @@ pub(crate) fn over(index: &Index<'_>, column: &[bool]) -> Result<Vec<bool>, Pars
     while left > 0 {
         left -= 1;
         let id = index.order[left];
-        let is_over = has_child(index.forest, id, column, over.as_slice());
-        over[id.number()] = is_over;
+        if is_in(column, id) || is_in(over.as_slice(), id) {
+            mark_parent(index.forest, id, &mut over);
+        }
     }
     Ok(over)
 }

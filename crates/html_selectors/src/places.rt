@@ -1,13 +1,14 @@
 //! The places of nodes among those under the same parent.
-ghost use Rattle.std.specs.Prelude.{◌≡◌, ◌≤◌, ℕ, IfErr, IfOk, cond, filter, length, suc, vec_len};
+ghost use Rattle.std.specs.Prelude.{◌≡◌, ◌≤◌, ℕ, IfErr, IfOk, cond, filter, length, suc, true, vec_len};
 ghost use Rattle.markup.specs.Forest.{children_of, is_among, node_count, those_before};
 ghost use Rattle.markup.specs.declared.fault.ParseFault.TheVariants.{Memory};
 ghost use Rattle.html_selector_matching.specs.Around.{those_after};
 ghost use Rattle.html_selector_matching.specs.Simples.{place_of};
 ghost use Rattle.html_selectors.specs.Columns as columns;
-ghost use Rattle.html_selectors.specs.Columns.{at};
+ghost use Rattle.html_selectors.specs.Columns.{at, place_among};
 
 use crate::column::is_in;
+use crate::lines::parents;
 use crate::page_index::Index;
 use html_forest::{Forest, NodeId};
 use html_selector_matching::children_are_few;
@@ -84,24 +85,44 @@ fn place_from_last(forest: &Forest, parent: NodeId, column: &[bool], places: &mu
     }
 }
 
-/// The place of each node among those under its parent that are in a column.
+// Writes down the places of the children of a node.
+fn place_children(
+    forest: &Forest,
+    parent: NodeId,
+    from_end: bool,
+    column: &[bool],
+    places: &mut Vec<u64>,
+)
+    requires { node_count forest.now ≤ length places.old.items }
+    ensures len { length places.new.items ≡ length places.old.items }
+    ensures places { (n : ℕ) → columns.place_at places.new.items n ≡ cond (is_among n (children_of forest.now parent))
+        (place_among (at column.now) from_end n (children_of forest.now parent)) (columns.place_at places.old.items n) }
+{
+    if from_end {
+        place_from_last(forest, parent, column, places);
+    } else {
+        place_from_first(forest, parent, column, places);
+    }
+}
+
+/// The places of wanted nodes among those under their parents that are in a column.
 pub(crate) fn places(
     index: &Index<'_>,
     from_end: bool,
     column: &[bool],
+    wanted: &[bool],
 ) -> Result<Vec<u64>, ParseFault>
-    ensures ok { IfOk result (λ places. (n : ℕ) → columns.place_at places.items n
+    ensures ok { IfOk result (λ places. (n : ℕ) → at wanted.now n ≡ true → columns.place_at places.items n
         ≡ place_of (at column.now) from_end index.now.forest.now n) }
     ensures fault { IfErr result (λ fault. fault ≡ Memory) }
 {
     index.forest.keeps();
+    let parents = parents(index, wanted)?;
     let mut places = first_places(index.alloc, index.count)?;
     for number in 0..index.count {
         let parent = NodeId::new(number);
-        if from_end {
-            place_from_last(index.forest, parent, column, &mut places);
-        } else {
-            place_from_first(index.forest, parent, column, &mut places);
+        if is_in(parents.as_slice(), parent) {
+            place_children(index.forest, parent, from_end, column, &mut places);
         }
     }
     Ok(places)

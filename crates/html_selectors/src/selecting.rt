@@ -1,15 +1,18 @@
 //! Which elements of a page selectors select: one column for each part of the selectors.
-ghost use Rattle.std.specs.Prelude.{◌≡◌, ◌&&◌, ◌∷◌, ℕ, IfErr, IfOk, OnOk, filter, find};
+ghost use Rattle.std.specs.Prelude.{◌≡◌, ◌&&◌, ◌∷◌, ℕ, IfErr, IfOk, OnOk, cond, filter, find, true};
+ghost use Rattle.std.specs.List.{list_any};
 ghost use Rattle.markup.specs.declared.fault.ParseFault.TheVariants.{Memory};
 ghost use Rattle.html_nodes.specs.Below.{below};
-ghost use Rattle.html_selector_matching.specs.Around.{above};
+ghost use Rattle.html_selector_matching.specs.Around.{above, is_element};
 ghost use Rattle.html_selector_matching.specs.Selects as selects;
-ghost use Rattle.html_selector_matching.specs.Selects.{goes_on, scope_of};
+ghost use Rattle.html_selector_matching.specs.Selects.{goes_on, left_of, right_of, scope_of};
+ghost use Rattle.selectors.specs.declared.selector.Combinator.TheVariants.{Child, Descendant};
 ghost use Rattle.html_selectors.specs.Columns.{at};
 ghost use Rattle.html_selectors.specs.Relatives.{first_of};
 
 use crate::column::{drop_those, either, is_in, keep_those};
-use crate::keeping::{elements, keep_left, keep_nth_of, keep_right, keep_simples};
+use crate::keeping::{elements, keep_inside, keep_left, keep_nth_of, keep_right, keep_simples};
+use crate::lines::over;
 use crate::page_index::Index;
 use html_forest::{Forest, NodeId};
 use html_nodes::nodes_below;
@@ -18,9 +21,161 @@ use markup::ParseFault;
 use selectors::{Combinator, Complex, Compound, Relative, Selectors, Tests};
 use std::alloc::Global;
 
-// The elements that one of the selectors selects.
+// So many combinators of a selector are read from the right.
+const NARROW: u8 = 4;
+
+// Those of some elements that one of the selectors selects.
 #[cycle(columns)]
 fn column_of(
+    index: &Index<'_>,
+    scope: NodeId,
+    selectors: &Selectors,
+    within: &[bool],
+) -> Result<Vec<bool>, ParseFault>
+    requires { (n : ℕ) → at within.now n ≡ true → is_element index.now.forest.now n ≡ true }
+    ensures ok { IfOk result (λ column. (n : ℕ) → at column.items n
+        ≡ (at within.now n && selects.is_any selectors.now index.now.forest.now scope n)) }
+    ensures fault { IfErr result (λ fault. fault ≡ Memory) }
+{
+    match selectors {
+        Selectors::Nothing => Ok(Vec::new(index.alloc)),
+        Selectors::Or(one, others) => {
+            let others = column_of(index, scope, others, within)?;
+            let one = column_of_complex(index, scope, one, within, NARROW)?;
+            Ok(either(one, others))
+        }
+    }
+}
+
+// Those of some elements that a selector selects. As many combinators as `narrow` says are read from the right, where a search that goes
+// up needs to look for the left side only above what the right side selects; each of them keeps its columns meanwhile.
+#[cycle(columns)]
+fn column_of_complex(
+    index: &Index<'_>,
+    scope: NodeId,
+    complex: &Complex,
+    within: &[bool],
+    narrow: u8,
+) -> Result<Vec<bool>, ParseFault>
+    requires { (n : ℕ) → at within.now n ≡ true → is_element index.now.forest.now n ≡ true }
+    ensures ok { IfOk result (λ column. (n : ℕ) → at column.items n
+        ≡ (at within.now n && selects.is_complex complex.now index.now.forest.now scope n)) }
+    ensures fault { IfErr result (λ fault. fault ≡ Memory) }
+{
+    match complex {
+        Complex::Alone(compound) => column_of_compound(index, scope, compound, within),
+        Complex::Beside(left, combinator, compound) => {
+            let less = narrow.saturating_sub(1);
+            if narrow > 0 && *combinator == Combinator::Descendant {
+                let column = column_of_compound(index, scope, compound, within)?;
+                return column_inside(index, scope, left, true, column, less);
+            }
+            if narrow > 0 && *combinator == Combinator::Child {
+                let column = column_of_compound(index, scope, compound, within)?;
+                return column_inside(index, scope, left, false, column, less);
+            }
+            let those = selected_by_complex(index, scope, left, narrow)?;
+            let column = column_right(
+                index,
+                scope,
+                compound,
+                *combinator,
+                those.as_slice(),
+                within,
+            )?;
+            Ok(column)
+        }
+    }
+}
+
+// The elements that a selector selects.
+#[cycle(columns)]
+fn selected_by_complex(
+    index: &Index<'_>,
+    scope: NodeId,
+    complex: &Complex,
+    narrow: u8,
+) -> Result<Vec<bool>, ParseFault>
+    ensures ok { IfOk result (λ column. (n : ℕ) → at column.items n ≡ selects.is_complex complex.now index.now.forest.now scope n) }
+    ensures fault { IfErr result (λ fault. fault ≡ Memory) }
+{
+    let column = column_of_complex(index, scope, complex, index.elements.as_slice(), narrow)?;
+    Ok(column)
+}
+
+// Those of a column above which stands an element that a selector selects: as the parent, or where it is asked anywhere.
+#[cycle(columns)]
+fn column_inside(
+    index: &Index<'_>,
+    scope: NodeId,
+    left: &Complex,
+    deep: bool,
+    mut column: Vec<bool>,
+    narrow: u8,
+) -> Result<Vec<bool>, ParseFault>
+    ensures ok { IfOk result (λ inside. (n : ℕ) → at inside.items n
+        ≡ (at column.items n && list_any (λ m. selects.is_complex left.now index.now.forest.now scope m)
+        (left_of (cond deep Descendant Child) index.now.forest.now n))) }
+    ensures fault { IfErr result (λ fault. fault ≡ Memory) }
+{
+    index.forest.keeps();
+    let wanted = over(index, column.as_slice())?;
+    let mut there = elements(index)?;
+    keep_those(&mut there, wanted.as_slice());
+    let those = column_of_complex(index, scope, left, there.as_slice(), narrow)?;
+    keep_inside(
+        index,
+        deep,
+        wanted.as_slice(),
+        those.as_slice(),
+        &mut column,
+    )?;
+    Ok(column)
+}
+
+// Those of some elements that a compound selector selects, and on whose left stands one of a column, as a combinator says.
+#[cycle(columns)]
+fn column_right(
+    index: &Index<'_>,
+    scope: NodeId,
+    compound: &Compound,
+    combinator: Combinator,
+    left: &[bool],
+    within: &[bool],
+) -> Result<Vec<bool>, ParseFault>
+    requires { (n : ℕ) → at within.now n ≡ true → is_element index.now.forest.now n ≡ true }
+    ensures ok { IfOk result (λ column. (n : ℕ) → at column.items n
+        ≡ ((at within.now n && selects.is_compound compound.now index.now.forest.now scope n)
+        && list_any (at left.now) (left_of combinator index.now.forest.now n))) }
+    ensures fault { IfErr result (λ fault. fault ≡ Memory) }
+{
+    let mut column = column_of_compound(index, scope, compound, within)?;
+    keep_right(index, combinator, left, &mut column)?;
+    Ok(column)
+}
+
+// Those of some elements that a compound selector selects.
+#[cycle(columns)]
+fn column_of_compound(
+    index: &Index<'_>,
+    scope: NodeId,
+    compound: &Compound,
+    within: &[bool],
+) -> Result<Vec<bool>, ParseFault>
+    requires { (n : ℕ) → at within.now n ≡ true → is_element index.now.forest.now n ≡ true }
+    ensures ok { IfOk result (λ column. (n : ℕ) → at column.items n
+        ≡ (at within.now n && selects.is_compound compound.now index.now.forest.now scope n)) }
+    ensures fault { IfErr result (λ fault. fault ≡ Memory) }
+{
+    let mut column = Vec::from_slice(index.alloc, within)?;
+    keep_simples(index, scope, compound.simples.as_slice(), &mut column)?;
+    keep_passing(index, scope, &compound.tests, &mut column)?;
+    Ok(column)
+}
+
+// The elements that one of the selectors selects.
+#[cycle(columns)]
+fn selected(
     index: &Index<'_>,
     scope: NodeId,
     selectors: &Selectors,
@@ -28,50 +183,7 @@ fn column_of(
     ensures ok { IfOk result (λ column. (n : ℕ) → at column.items n ≡ selects.is_any selectors.now index.now.forest.now scope n) }
     ensures fault { IfErr result (λ fault. fault ≡ Memory) }
 {
-    match selectors {
-        Selectors::Nothing => Ok(Vec::new(index.alloc)),
-        Selectors::Or(one, others) => {
-            let others = column_of(index, scope, others)?;
-            let one = column_of_complex(index, scope, one)?;
-            Ok(either(one, others))
-        }
-    }
-}
-
-// The elements that a selector selects.
-#[cycle(columns)]
-fn column_of_complex(
-    index: &Index<'_>,
-    scope: NodeId,
-    complex: &Complex,
-) -> Result<Vec<bool>, ParseFault>
-    ensures ok { IfOk result (λ column. (n : ℕ) → at column.items n ≡ selects.is_complex complex.now index.now.forest.now scope n) }
-    ensures fault { IfErr result (λ fault. fault ≡ Memory) }
-{
-    match complex {
-        Complex::Alone(compound) => column_of_compound(index, scope, compound),
-        Complex::Beside(left, combinator, compound) => {
-            let left = column_of_complex(index, scope, left)?;
-            let mut column = column_of_compound(index, scope, compound)?;
-            keep_right(index, *combinator, left.as_slice(), &mut column)?;
-            Ok(column)
-        }
-    }
-}
-
-// The elements that a compound selector selects.
-#[cycle(columns)]
-fn column_of_compound(
-    index: &Index<'_>,
-    scope: NodeId,
-    compound: &Compound,
-) -> Result<Vec<bool>, ParseFault>
-    ensures ok { IfOk result (λ column. (n : ℕ) → at column.items n ≡ selects.is_compound compound.now index.now.forest.now scope n) }
-    ensures fault { IfErr result (λ fault. fault ≡ Memory) }
-{
-    let mut column = elements(index)?;
-    keep_simples(index, scope, compound.simples.as_slice(), &mut column)?;
-    keep_passing(index, scope, &compound.tests, &mut column)?;
+    let column = column_of(index, scope, selectors, index.elements.as_slice())?;
     Ok(column)
 }
 
@@ -86,14 +198,35 @@ fn column_of_relative(
     ensures fault { IfErr result (λ fault. fault ≡ Memory) }
 {
     match relative {
-        Relative::To(_, compound) => column_of_compound(index, scope, compound),
+        Relative::To(_, compound) => {
+            column_of_compound(index, scope, compound, index.elements.as_slice())
+        }
         Relative::Then(_, compound, rest) => {
             let right = column_of_relative(index, scope, rest)?;
-            let mut column = column_of_compound(index, scope, compound)?;
-            keep_left(index, first_of(rest), right.as_slice(), &mut column)?;
+            let column = column_left(index, scope, compound, first_of(rest), right.as_slice())?;
             Ok(column)
         }
     }
+}
+
+// The elements that a compound selector selects, and on whose right stands one of a column, as a combinator says.
+#[cycle(columns)]
+fn column_left(
+    index: &Index<'_>,
+    scope: NodeId,
+    compound: &Compound,
+    combinator: Combinator,
+    right: &[bool],
+) -> Result<Vec<bool>, ParseFault>
+    ensures ok { IfOk result (λ column. (n : ℕ) → at column.items n
+        ≡ (selects.is_compound compound.now index.now.forest.now scope n
+        && list_any (at right.now) (right_of combinator index.now.forest.now n))) }
+    ensures fault { IfErr result (λ fault. fault ≡ Memory) }
+{
+    let mut within = elements(index)?;
+    keep_left(index, combinator, right, &mut within)?;
+    let column = column_of_compound(index, scope, compound, within.as_slice())?;
+    Ok(column)
 }
 
 // The combinator that a relative selector begins with.
@@ -106,7 +239,7 @@ fn first_of(relative: &Relative) -> Combinator
     }
 }
 
-// Leaves in a column those elements that pass tests.
+// Leaves in a column of elements those that pass tests.
 #[cycle(columns)]
 fn keep_passing(
     index: &Index<'_>,
@@ -114,6 +247,7 @@ fn keep_passing(
     tests: &Tests,
     column: &mut Vec<bool>,
 ) -> Result<(), ParseFault>
+    requires { (n : ℕ) → at column.old.items n ≡ true → is_element index.now.forest.now n ≡ true }
     ensures ok { OnOk result ((n : ℕ) → at column.new.items n
         ≡ (at column.old.items n && selects.passes tests.now index.now.forest.now scope n)) }
     ensures fault { IfErr result (λ fault. fault ≡ Memory) }
@@ -121,13 +255,12 @@ fn keep_passing(
     match tests {
         Tests::Nothing => Ok(()),
         Tests::Is(selectors, others) => {
-            let those = column_of(index, scope, selectors)?;
-            keep_those(column, those.as_slice());
-            drop(those);
+            let those = column_of(index, scope, selectors, column.as_slice())?;
+            *column = those;
             keep_passing(index, scope, others, column)
         }
         Tests::Not(selectors, others) => {
-            let those = column_of(index, scope, selectors)?;
+            let those = column_of(index, scope, selectors, column.as_slice())?;
             drop_those(column, those.as_slice());
             drop(those);
             keep_passing(index, scope, others, column)
@@ -139,12 +272,64 @@ fn keep_passing(
             keep_passing(index, scope, others, column)
         }
         Tests::NthOf(nth, selectors, others) => {
-            let those = column_of(index, scope, selectors)?;
+            let those = selected(index, scope, selectors)?;
             keep_nth_of(index, nth, those.as_slice(), column)?;
             drop(those);
             keep_passing(index, scope, others, column)
         }
     }
+}
+
+// Those of some nodes that are in a column.
+fn those_of(alloc: Global, nodes: &[NodeId], column: &[bool]) -> Result<Vec<NodeId>, ParseFault>
+    ensures ok { IfOk result (λ found. found.items ≡ filter (at column.now) nodes.now) }
+    ensures fault { IfErr result (λ fault. fault ≡ Memory) }
+{
+    let mut found = Vec::new(alloc);
+    for id in nodes {
+        if is_in(column, *id) {
+            found.push(*id)?;
+        }
+    }
+    Ok(found)
+}
+
+// Those of the nodes below a node that are in a column.
+fn those_below(index: &Index<'_>, top: NodeId, column: &[bool]) -> Result<Vec<NodeId>, ParseFault>
+    ensures ok { IfOk result (λ found. found.items ≡ filter (at column.now) (below index.now.forest.now top)) }
+    ensures fault { IfErr result (λ fault. fault ≡ Memory) }
+{
+    let mut found = Vec::new(index.alloc);
+    for id in nodes_below(index.forest, top) {
+        if is_in(column, id) {
+            found.push(id)?;
+        }
+    }
+    Ok(found)
+}
+
+// The first of some nodes that is in a column.
+fn first_in(nodes: &[NodeId], column: &[bool]) -> Option<NodeId>
+    ensures { result ≡ find (at column.now) nodes.now }
+{
+    for id in nodes {
+        if is_in(column, *id) {
+            return Some(*id);
+        }
+    }
+    None
+}
+
+// The first of the nodes below a node that is in a column.
+fn first_below(forest: &Forest, top: NodeId, column: &[bool]) -> Option<NodeId>
+    ensures { result ≡ find (at column.now) (below forest.now top) }
+{
+    for id in nodes_below(forest, top) {
+        if is_in(column, id) {
+            return Some(id);
+        }
+    }
+    None
 }
 
 impl<'f> Index<'f> {
@@ -161,14 +346,11 @@ impl<'f> Index<'f> {
             (below self.now.forest.now top)) }
         ensures fault { IfErr result (λ fault. fault ≡ Memory) }
     {
-        let column = column_of(self, scope_of(self.forest, top), selectors)?;
-        let mut found = Vec::new(self.alloc);
-        for id in nodes_below(self.forest, top) {
-            if is_in(column.as_slice(), id) {
-                found.push(id)?;
-            }
+        let column = selected(self, scope_of(self.forest, top), selectors)?;
+        match self.listed_below(top) {
+            Some(nodes) => those_of(self.alloc, nodes, column.as_slice()),
+            None => those_below(self, top, column.as_slice()),
         }
-        Ok(found)
     }
 
     /// The first of the elements below a node that are selected. `:scope`, time, memory and errors are as for
@@ -182,13 +364,11 @@ impl<'f> Index<'f> {
             ≡ find (selects.is_any selectors.now self.now.forest.now (scope_of self.now.forest.now top)) (below self.now.forest.now top)) }
         ensures fault { IfErr result (λ fault. fault ≡ Memory) }
     {
-        let column = column_of(self, scope_of(self.forest, top), selectors)?;
-        for id in nodes_below(self.forest, top) {
-            if is_in(column.as_slice(), id) {
-                return Ok(Some(id));
-            }
+        let column = selected(self, scope_of(self.forest, top), selectors)?;
+        match self.listed_below(top) {
+            Some(nodes) => Ok(first_in(nodes, column.as_slice())),
+            None => Ok(first_below(self.forest, top, column.as_slice())),
         }
-        Ok(None)
     }
 
     /// Whether an element is selected. `:scope` is the element itself. Time, memory and errors are as for
@@ -197,7 +377,7 @@ impl<'f> Index<'f> {
         ensures ok { IfOk result (λ is. is ≡ selects.is_any selectors.now self.now.forest.now id id) }
         ensures fault { IfErr result (λ fault. fault ≡ Memory) }
     {
-        let column = column_of(self, id, selectors)?;
+        let column = selected(self, id, selectors)?;
         Ok(is_in(column.as_slice(), id))
     }
 
@@ -208,7 +388,7 @@ impl<'f> Index<'f> {
             ≡ find (selects.is_any selectors.now self.now.forest.now id) (id ∷ above self.now.forest.now id)) }
         ensures fault { IfErr result (λ fault. fault ≡ Memory) }
     {
-        let column = column_of(self, id, selectors)?;
+        let column = selected(self, id, selectors)?;
         if is_in(column.as_slice(), id) {
             return Ok(Some(id));
         }

@@ -9,6 +9,6 @@ use Rattle.html_selectors.proofs.lines.under.Given as goal
 abbrev pub invariant-loop-id : goal.invariant-loop-id
 invariant-loop-id l = record {
   count : length l.under.items ≡ node_count l.index.forest.now;
-  done : (n : ℕ) → at l.under.items n
-      ≡ (is_among n (take l.id-index l.index.order.items) && list_any (at l.column) (above l.index.forest.now n));
+  done : (n : ℕ) → at l.under.items n ≡ (is_among n (take l.id-index l.index.order.items)
+      && (at l.wanted n && list_any (at l.column) (above l.index.forest.now n)));
 }

@@ -1,16 +1,16 @@
-use Rattle.std.proofs.Common.{◌≡◌, ◌∙◌, ap, arith, sym}
+use Rattle.std.proofs.Common.{◌≡◌, ◌∙◌, ℕ, List, Bool, ap, arith, sym}
 use Rattle.markup.specs.Forest.{node_count, parent_of}
 use Rattle.html_selectors.specs.Columns.{at}
-use Rattle.html_selectors.proofs.Counts.{first-more, last-more, written, written-all, written-none}
+use Rattle.html_selectors.proofs.Counts.{beside-more, owned-by, unwanted-more, written, written-all, written-none}
 use Rattle.html_selectors.proofs.places.places.Goals as goal
-use Rattle.html_selectors.proofs.places.places.Goals.{then-from_end, else-from_end}
+use Rattle.html_selectors.proofs.places.places.Goals.{then-is_in, else-is_in}
 
 pub loop-number-init : goal.loop-number-init
 loop-number-init c =
     let f = c.args.index.now.forest.now in
     record {
       len = omega (arith, c.in_ok-places.ensures.len, c.args.index.now.counted);
-      done = λ n. c.in_ok-places.ensures.first n ∙ sym (written-none (at c.args.column.now) c.args.from_end f n (parent_of f n));
+      done = λ n own. c.in_ok-places.ensures.first n ∙ sym (written-none (at c.args.column.now) c.args.from_end f n (parent_of f n));
     }
 
 pub loop-number-preserved : goal.loop-number-preserved
@@ -18,16 +18,19 @@ loop-number-preserved c =
     let f = c.args.index.now.forest.now in
     let is = c.keeps.ensures.is_forest in
     let t = at c.args.column.now in
-    elim c.if-from_end.branch [
-      | then-from_end w ↦ rw w.places-is (record {
-        len = w.place_from_last.ensures.len ∙ c.loop-number.invariant.len;
-        done = λ n. w.place_from_last.ensures.places n ∙ rw c.new-parent.ensures
-            (last-more f is t c.args.from_end w.if-from_end.true c.loop-number.number n _ (c.loop-number.invariant.done n));
+    let wanted = at c.in_ok-parents.parents.items in
+    let told : c.is_in.result ≡ wanted c.loop-number.number =
+    c.is_in.ensures ∙ (ap (λ (l : List Bool). at l c.new-parent.result) c.as_slice.ensures.value ∙ ap wanted c.new-parent.ensures) in
+    elim c.if-is_in.branch [
+      | then-is_in w ↦ rw w.places-is (record {
+        len = w.place_children.ensures.len ∙ c.loop-number.invariant.len;
+        done = λ n own. w.place_children.ensures.places n ∙ rw c.new-parent.ensures
+            (beside-more f is t c.args.from_end c.loop-number.number n _ (c.loop-number.invariant.done n own));
       })
-      | else-from_end w ↦ rw w.places-is (record {
-        len = w.place_from_first.ensures.len ∙ c.loop-number.invariant.len;
-        done = λ n. w.place_from_first.ensures.places n ∙ rw c.new-parent.ensures
-            (first-more f is t c.args.from_end w.if-from_end.false c.loop-number.number n _ (c.loop-number.invariant.done n));
+      | else-is_in w ↦ rw w.places-is (record {
+        len = c.loop-number.invariant.len;
+        done = λ n own. c.loop-number.invariant.done n own
+            ∙ unwanted-more f t wanted c.args.from_end c.loop-number.number n (sym told ∙ w.if-is_in.false) own;
       })
     ]
 
@@ -37,5 +40,6 @@ returns-clause-ok c =
     let t = at c.args.column.now in
     let all : c.loop-number.number ≡ node_count f =
     omega (arith, c.loop-number-test.false, c.loop-number.auto.number-end, c.args.index.now.counted) in
-    λ n. c.loop-number.invariant.done n
+    λ n inside.
+    c.loop-number.invariant.done n (owned-by f (at c.args.wanted.now) (at c.in_ok-parents.parents.items) n inside c.in_ok-parents.ensures.ok)
     ∙ (ap (λ k. written t c.args.from_end f k n (parent_of f n)) all ∙ written-all f c.keeps.ensures.is_forest t c.args.from_end n)
