@@ -10,7 +10,7 @@ import collections
 import glob
 import re
 
-STANDARD = r"(HTML Standard|DOM Standard|URL Standard|Infra Standard|Encoding Standard|CSS Syntax Level 3|Selectors Level 4)"
+STANDARD = r"(HTML Standard|DOM Standard|URL Standard|Infra Standard|Encoding Standard|CSS Syntax Level 3|Selectors Level 4|CommonMark)"
 LIST = re.compile(STANDARD + r"?,? ?\(?sections? (\d+(?:\.\d+)+(?:(?:, | and | to )\d+(?:\.\d+)+)*)")
 HEAD = """# From the standards' sections to files
 
