@@ -1,0 +1,185 @@
+-- What a parser makes of a text that was decoded.
+use Rattle.std.proofs.Common.{◌≡◌, ◌∙◌, ℕ, Bool, false, List, [], ◌++◌, Option, Some, None, Result, Ok, Err, IsUtf8, refl, sym, ap, subst}
+use Rattle.std.specs.Prelude.{IfOk}
+use Rattle.std.proofs.lemmas.List.{append-nil}
+use Rattle.std.specs.Str.{chars}
+use Rattle.markup.specs.Forest.{Forest, empty_forest}
+use Rattle.markup.specs.declared.fault.ParseFault.{ParseFault}
+use Rattle.markup.specs.declared.fault.ParseFault.TheVariants as parse
+use Rattle.markup.specs.declared.tree_sink.TreeSink.{Ghosts as TreeGhosts}
+use Rattle.html_normal.specs.Document.{default_setting, forest_answers}
+use Rattle.html_normal.specs.Faults.{fault_of}
+use Rattle.html_normal.specs.Normal.{IsInputFault}
+use Rattle.html_normal.specs.declared.fault.NormalFault.TheVariants.{Memory}
+use Rattle.html_normal.proofs.Meanings.{document-made, finish-fault, opts_with}
+use Rattle.html_parser.specs.Documents.{IsBuilt, builder, of_document}
+use Rattle.html_parser.specs.Read.{Beginning, FailsAfter, IsLeft, RisesTo, owed_by}
+use Rattle.html_rules.specs.Documents.{Setting}
+use Rattle.html_rules.specs.State.{Answers, State}
+use Rattle.html_tokens.specs.Table.{Row}
+use Rattle.html_tokens.specs.declared.options.TokenizerOpts.{TokenizerOpts}
+use Rattle.html_tokenizer.specs.declared.tokenizer.Tokenizer.{Tokenizer}
+use Rattle.html_tree_builder.specs.States.{answers_of, setting_of}
+use Rattle.html_tree_builder.specs.declared.options.TreeBuilderOpts.{TreeBuilderOpts}
+use Rattle.html_tree_builder.specs.declared.builder.TreeBuilder.{TreeBuilder}
+use Rattle.html_pages.specs.Pages.{IsPage}
+use Rattle.html_encodings.specs.declared.names.Encoding.{Encoding}
+use Rattle.html_decoded_pages.specs.Changing.{named_in, settled}
+use Rattle.html_decoded_pages.specs.DecodedPages.{IsParsedPage}
+use Rattle.html_decoded_pages.specs.Parsing.{IsOutcome, IsParsed, beginning_of, setting_with}
+use Rattle.html_decoded_pages.specs.Pauses.{IsBefore, ReadsIn, settled_by}
+use Rattle.html_decoded_pages.specs.declared.parsing.Parsed.{Parsed}
+use Rattle.html_decoded_pages.specs.declared.parsing.Parsed.TheVariants.{Other, Whole}
+
+pub on-ok : {A E : Type 0} {P Q : A → Type 0} (r : Result A E) → IfOk r P → ((x : A) → P x → Q x) → IfOk r Q
+on-ok (Ok x) h f = f x h
+on-ok (Err e) h f = tt
+
+-- of parsers only want of memory is told
+memory-alone : (fault : ParseFault) → IsInputFault ⊥ None None (fault_of fault) → fault_of fault ≡ Memory
+memory-alone parse.Memory h = refl
+memory-alone parse.Failed h = refl
+memory-alone parse.TokenInText h = absurd h
+memory-alone parse.Ended h = absurd h
+memory-alone parse.Shape h = absurd h
+
+module _ {K H O : Type 0} (Sink : TreeGhosts K H O) where
+  pub reading-fault : (begin : Beginning State) (k : Tokenizer (TreeBuilder K H O)) (fault : ParseFault)
+      → IsBefore (builder Sink) begin k → FailsAfter (builder Sink) k fault → fault_of fault ≡ Memory
+  reading-fault begin k fault before fails =
+      memory-alone fault (finish-fault (builder Sink) fault None None begin [] k before.read before.taken fails)
+
+  -- what a sink gives whose builder was left so
+  pub built-of : (begin : Beginning State) (text : List ℕ) (b : TreeBuilder K H O) (out : O)
+      → IsLeft (builder Sink) begin text b → Sink.finish_gives b.sink out → IsBuilt Sink begin text out
+  built-of begin text b out left gives = record {
+    sink = b.sink;
+    gives = gives;
+    state = (builder Sink).view b;
+    is = left.is;
+    same = refl;
+    rises = subst (λ n. RisesTo (owed_by (builder Sink) begin text) begin.errors n) (sym left.counts) left.rises;
+  }
+
+-- how a document begins does not depend on how the parts of its beginning are named
+begins-same : (table : List Row) (exact : Bool) (opts : TokenizerOpts) (tree_opts : TreeBuilderOpts) (answers : Answers) (f : Forest)
+    → opts ≡ opts_with exact → setting_of forest_answers tree_opts ≡ default_setting
+    → of_document table opts (setting_of answers tree_opts) f ≡ of_document table (opts_with exact) (setting_with answers) f
+begins-same table exact opts tree_opts answers f opts_is setting_is =
+    ap (λ o. of_document table o (setting_of answers tree_opts) f) opts_is
+    ∙ ap (λ (s : Setting). of_document table (opts_with exact) (record s { answers = answers }) f) setting_is
+
+-- what was read to its end, or is to be read in another encoding
+module _ {K H O : Type 0} (Sink : TreeGhosts K H O) (table : List Row) (exact : Bool) (f : Forest) (text : List ℕ)
+    (encoding : Encoding) where
+  parsed-whole : (b : TreeBuilder K H O) (out : O)
+      → ReadsIn (builder Sink) (beginning_of Sink table exact f) text encoding b None → Sink.finish_gives b.sink out
+      → IsParsed Sink table exact f text encoding (Whole out)
+  unfolding IsParsed
+  parsed-whole b out reads gives = (built-of Sink (beginning_of Sink table exact f) text b out reads.0 gives, reads.1)
+
+  parsed-other : (b : TreeBuilder K H O) (other : Encoding)
+      → ReadsIn (builder Sink) (beginning_of Sink table exact f) text encoding b (Some other)
+      → IsParsed Sink table exact f text encoding (Other other)
+  unfolding IsParsed
+  parsed-other b other reads = reads
+
+  parsed-outcome : (b : TreeBuilder K H O) (other : Option Encoding) (parsed : Parsed O)
+      → ReadsIn (builder Sink) (beginning_of Sink table exact f) text encoding b other → IsOutcome Sink b other parsed
+      → IsParsed Sink table exact f text encoding parsed
+  parsed-outcome b None (Whole out) reads outcome = parsed-whole b out reads outcome
+  parsed-outcome b None (Other named) reads outcome = absurd outcome
+  parsed-outcome b (Some other) (Whole out) reads outcome = absurd outcome
+  parsed-outcome b (Some other) (Other named) reads outcome =
+      subst (λ (e : Encoding). IsParsed Sink table exact f text encoding (Other e)) (sym outcome) (parsed-other b other reads)
+
+  abbrev answers : Answers
+  answers = answers_of Sink.integration_point Sink.allows_shadow_roots Sink.attaches_shadow
+
+  -- what a tokenizer has read that had read nothing
+  pub parsed-read : (opts : TokenizerOpts) (tree_opts : TreeBuilderOpts) (k new : Tokenizer (TreeBuilder K H O)) (queue : List ℕ)
+      (answer : Result (Option Encoding) ParseFault) (other : Option Encoding) (left : TreeBuilder K H O) (parsed : Parsed O)
+      → opts ≡ opts_with exact → setting_of forest_answers tree_opts ≡ default_setting
+      → IsBefore (builder Sink) (of_document table opts (setting_of answers tree_opts) f) k → queue ≡ text
+      → IfOk answer (λ named. (begin : Beginning State) → IsBefore (builder Sink) begin k
+      → ReadsIn (builder Sink) begin queue encoding new.sink named)
+      → answer ≡ Ok other → left ≡ new.sink → IsOutcome Sink left other parsed
+      → IsParsed Sink table exact f text encoding parsed
+  parsed-read opts tree_opts k new queue answer other left parsed opts_is setting_is before queue_is reads answer_is left_is outcome =
+      let read = rw answer_is at reads in
+      let first = read (of_document table opts (setting_of answers tree_opts) f) before in
+      let begun = subst (λ (b : Beginning State). ReadsIn (builder Sink) b queue encoding new.sink other)
+      (begins-same table exact opts tree_opts answers f opts_is setting_is) first in
+      let whole = subst (λ (t : List ℕ). ReadsIn (builder Sink) (beginning_of Sink table exact f) t encoding new.sink other)
+      queue_is begun in
+      let there = subst (λ (b : TreeBuilder K H O). ReadsIn (builder Sink) (beginning_of Sink table exact f) text encoding b other)
+      (sym left_is) whole in
+      parsed-outcome left other parsed there outcome
+
+-- what was built of a text is its page
+page-made : {K H : Type 0} (Sink : TreeGhosts K H Forest)
+    → ((sink : K) (out : Forest) → Sink.finish_gives sink out → out ≡ Sink.forest sink) → (table : List Row) (exact : Bool)
+    (bytes : List ℕ) (out : Forest) → IsUtf8 bytes
+    → IsBuilt Sink (of_document table (opts_with exact) default_setting empty_forest) (chars bytes) out → IsPage table exact bytes out
+page-made Sink gives table exact bytes out text built =
+    let all = subst (λ (cs : List ℕ). IsBuilt Sink (of_document table (opts_with exact) default_setting empty_forest) cs out)
+    (sym (append-nil (chars bytes))) built in
+    let read = document-made Sink table exact (opts_with exact) default_setting empty_forest (Some bytes) (Some []) bytes []
+    out (λ sink is. gives sink out is) refl refl refl refl text
+    (ap (λ (bs : List ℕ). Some bs) (sym (append-nil bytes))) refl all bytes refl in
+    record { document = read.input; counts = read.counts }
+
+-- before a document of a forest
+abbrev first_of : List Row → Beginning State
+first_of table = of_document table (opts_with false) default_setting empty_forest
+
+-- the encoding in which a text is to be read does not depend on the sink
+settled-same : {K H : Type 0} (Sink : TreeGhosts K H Forest) (table : List Row) (bytes : List ℕ) (encoding : Encoding)
+    → settled_by (builder Sink) (first_of table) (chars bytes) encoding
+    ≡ settled encoding (named_in table bytes)
+unfolding settled_by named_in
+settled-same Sink table bytes encoding = refl
+
+-- what was parsed of a text is its page, or it is to be read in another encoding
+module _ {K H : Type 0} (Sink : TreeGhosts K H Forest)
+    (gives : (sink : K) (out : Forest) → Sink.finish_gives sink out → out ≡ Sink.forest sink)
+    (answers : answers_of Sink.integration_point Sink.allows_shadow_roots Sink.attaches_shadow ≡ forest_answers) where
+  begins-first : (table : List Row) (f : Forest) → f ≡ empty_forest → beginning_of Sink table false f ≡ first_of table
+  begins-first table f f_is = ap (λ (a : Answers). of_document table (opts_with false) (setting_with a) f) answers
+      ∙ ap (of_document table (opts_with false) default_setting) f_is
+
+  page-parsed : (table : List Row) (bytes : List ℕ) (encoding : Encoding) (f : Forest) (parsed : Parsed Forest) → f ≡ empty_forest
+      → IsUtf8 bytes → IsParsed Sink table false f (chars bytes) encoding parsed → IsParsedPage table bytes encoding parsed
+  unfolding IsParsed IsParsedPage
+  page-parsed table bytes encoding f (Whole out) f_is text is =
+      let built = subst (λ (b : Beginning State). IsBuilt Sink b (chars bytes) out) (begins-first table f f_is) is.0 in
+      let same = subst (λ (b : Beginning State). settled_by (builder Sink) b (chars bytes) encoding ≡ encoding)
+      (begins-first table f f_is) is.1 in
+      (page-made Sink gives table false bytes out text built, sym (settled-same Sink table bytes encoding) ∙ same)
+  page-parsed table bytes encoding f (Other other) f_is text is =
+      sym (settled-same Sink table bytes encoding)
+      ∙ subst (λ (b : Beginning State). settled_by (builder Sink) b (chars bytes) encoding ≡ other) (begins-first table f f_is) is
+
+  -- the same with a copy of the table
+  pub page-copied : (table copied : List Row) (bytes : List ℕ) (encoding : Encoding) (f : Forest) (parsed : Parsed Forest) → copied ≡ table
+      → f ≡ empty_forest → IsUtf8 bytes → IsParsed Sink copied false f (chars bytes) encoding parsed
+      → IsParsedPage table bytes encoding parsed
+  page-copied table copied bytes encoding f parsed table_is f_is text is =
+      page-parsed table bytes encoding f parsed f_is text
+      (subst (λ (t : List Row). IsParsed Sink t false f (chars bytes) encoding parsed) table_is is)
+
+-- what a parsed page says
+pub page-of : (table : List Row) (text : List ℕ) (encoding : Encoding) (forest : Forest)
+    → IsParsedPage table text encoding (Whole forest) → IsPage table false text forest
+unfolding IsParsedPage
+page-of table text encoding forest is = is.0
+
+pub stays : (table : List Row) (text : List ℕ) (encoding : Encoding) (forest : Forest)
+    → IsParsedPage table text encoding (Whole forest) → settled encoding (named_in table text) ≡ encoding
+unfolding IsParsedPage
+stays table text encoding forest is = is.1
+
+pub changes : (table : List Row) (text : List ℕ) (encoding other : Encoding)
+    → IsParsedPage table text encoding (Other other) → settled encoding (named_in table text) ≡ other
+unfolding IsParsedPage
+changes table text encoding other is = is

@@ -1,0 +1,4 @@
+pub mod Changing
+pub mod Pauses
+pub mod Parsing
+pub mod DecodedPages

@@ -1,0 +1,13 @@
+//! Pages in any encoding to trees: the encoding is found out as the HTML Standard has it (section 13.2.3), and where a `meta` that the
+//! parser meets says otherwise, the page is read once more.
+//!
+//! Tests: `html_decoded_pages_tests`.
+#![tactic(auto)]
+
+mod changing;
+mod page;
+mod parsing;
+mod pauses;
+
+pub use html_encodings::{Encoding, Sniffed, Why};
+pub use page::{DecodedPage, decoded_document, decoded_text};
