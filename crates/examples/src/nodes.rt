@@ -1,6 +1,6 @@
 //! A walk of nodes that ends by itself, and one that is counted.
 
-use figpliers::{Forest, NodeId, ParseFault, is_html, nodes_below, text_content};
+use figpliers::{Forest, NodeId, ParseFault, Step, is_html, nodes_below, text_content, walk};
 use std::alloc::Global;
 
 /// The title of a page, if it has one.
@@ -28,4 +28,21 @@ pub fn count_children(forest: &Forest, parent: NodeId, name: &str) -> u64 {
         }
     }
     count
+}
+
+/// How many levels of lists there are at most.
+pub fn list_levels(forest: &Forest) -> u64 {
+    let mut levels = 0u64;
+    let mut most = 0u64;
+    for step in walk(forest, forest.document()) {
+        match step {
+            Step::Enter(id) if is_html(forest, id, "ul") => {
+                levels = levels.saturating_add(1);
+                most = most.max(levels);
+            }
+            Step::Leave(id) if is_html(forest, id, "ul") => levels = levels.saturating_sub(1),
+            _ => {}
+        }
+    }
+    most
 }

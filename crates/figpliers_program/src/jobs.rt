@@ -2,15 +2,16 @@
 
 use crate::command::{Asked, Job};
 use crate::faults::{PageFault, Verdict, report};
+use crate::files::Files;
+use crate::linking::list_links;
 use crate::pages::read_page;
 use crate::selecting::select_in;
 use crate::writing::put;
 use figpliers::{
     DeviceFault, Exact, Forest, MemReader, NodeId, References, SelectorError, Selectors, Source,
-    SyntaxFault, Target, document, fragment, inner_text, links_below, normalise, noted_document,
+    SyntaxFault, Target, document, fragment, inner_text, markdown, normalise, noted_document,
     parse_selectors, standard, write_tree, write_whole,
 };
-use html_normal_program::Opener;
 use std::alloc::Global;
 
 /// Lists the parse errors of a page.
@@ -60,19 +61,16 @@ fn tree<W: Target>(
     Ok(Verdict::Fine)
 }
 
-/// Lists the links of a page.
-fn links<W: Target>(
+/// Writes a page as Markdown.
+fn write_markdown<W: Target>(
     alloc: Global,
     table: References,
     page: String,
     writer: &mut W,
 ) -> Result<Verdict, PageFault> {
     let forest = document(alloc, table, page)?;
-    let found = links_below(alloc, &forest, forest.document())?;
-    for link in &found {
-        put(writer, link.as_str())?;
-        put(writer, "\n")?;
-    }
+    let text = markdown(alloc, &forest, forest.document())?;
+    put(writer, text.as_str())?;
     Ok(Verdict::Fine)
 }
 
@@ -130,7 +128,11 @@ fn run_job<W: Target>(
         Job::Tree {
             fragment: Some(name),
         } => tree(alloc, table, Some(name.as_str()), page, writer),
-        Job::Links => links(alloc, table, page, writer),
+        Job::Links { listing } => {
+            let has_several = work.asked.files.len() > 1;
+            list_links(alloc, table, listing, name, has_several, page, writer)
+        }
+        Job::Markdown => write_markdown(alloc, table, page, writer),
         Job::Text => text(alloc, table, page, writer),
         Job::Normal => normal(alloc, table, page, writer),
         Job::Select { show, .. } => {
@@ -150,13 +152,7 @@ fn run_job<W: Target>(
 }
 
 /// Does with the page of that name what is asked for.
-fn run_page<
-    File: Source + Drop,
-    Opens: Opener<File>,
-    Input: Source,
-    Output: Target,
-    Errors: Target,
->(
+fn run_page<File: Source + Drop, Opens: Files<File>, Input: Source, Output: Target, Errors: Target>(
     alloc: Global,
     work: &Work<'_>,
     name: &str,
@@ -175,8 +171,9 @@ fn run_page<
     }
 }
 
-/// Does with each page what is asked for; a page that is not read does not keep the others from it.
-fn run_all<File: Source + Drop, Opens: Opener<File>, Input: Source, Output: Target, Errors: Target>(
+/// Does with each page what is asked for; a page that is not read does not keep the others from it, and a failed
+/// write does.
+fn run_all<File: Source + Drop, Opens: Files<File>, Input: Source, Output: Target, Errors: Target>(
     alloc: Global,
     work: &Work<'_>,
     opener: &Opens,
@@ -190,6 +187,9 @@ fn run_all<File: Source + Drop, Opens: Opener<File>, Input: Source, Output: Targ
     let mut verdict = Verdict::Nothing;
     for name in &work.asked.files {
         verdict = verdict.and(run_page(alloc, work, name, opener, input, output, errors));
+        if verdict == Verdict::Unwritten {
+            break;
+        }
     }
     verdict
 }
@@ -235,7 +235,7 @@ fn selectors_of(alloc: Global, job: &Job) -> Result<Selectors, SelectorError> {
 }
 
 /// Does what is asked for.
-pub fn run<File: Source + Drop, Opens: Opener<File>, Input: Source, Output: Target, Errors: Target>(
+pub fn run<File: Source + Drop, Opens: Files<File>, Input: Source, Output: Target, Errors: Target>(
     alloc: Global,
     asked: &Asked,
     opener: &Opens,

@@ -19,9 +19,40 @@ markup-any c d rest h = elim (cases_Bool (c == d)) [ inl same ↦ inl (eqb-true 
 at : (c d : ℕ) → c ≡ d → is_ascii_punctuation d ≡ true → is_ascii_punctuation c ≡ true
 at c d same h = subst (λ (k : ℕ). is_ascii_punctuation k ≡ true) (sym same) h
 
+few-punctuation : (c : ℕ) → (c == 60 || (c == 38 || (c == 126 || c == 124))) ≡ true → is_ascii_punctuation c ≡ true
+few-punctuation c h =
+    elim (markup-any c 60 _ h) [
+      | inl e ↦ at c 60 e refl
+      | inr h1 ↦
+          elim (markup-any c 38 _ h1) [
+            | inl e ↦ at c 38 e refl
+            | inr h2 ↦
+                elim (markup-any c 126 _ h2) [
+                  | inl e ↦ at c 126 e refl
+                  | inr h3 ↦ at c 124 (eqb-true c 124 h3) refl
+                ]
+          ]
+    ]
+
+some-punctuation : (c : ℕ) → (c == 95 || (c == 91 || (c == 93 || (c == 60 || (c == 38 || (c == 126 || c == 124)))))) ≡ true
+    → is_ascii_punctuation c ≡ true
+some-punctuation c h =
+    elim (markup-any c 95 _ h) [
+      | inl e ↦ at c 95 e refl
+      | inr h1 ↦
+          elim (markup-any c 91 _ h1) [
+            | inl e ↦ at c 91 e refl
+            | inr h2 ↦
+                elim (markup-any c 93 _ h2) [
+                  | inl e ↦ at c 93 e refl
+                  | inr h3 ↦ few-punctuation c h3
+                ]
+          ]
+    ]
+
 punctuation : (c : ℕ) → is_markup c ≡ true → is_ascii_punctuation c ≡ true
-punctuation c h0 =
-    elim (markup-any c 92 _ h0) [
+punctuation c h =
+    elim (markup-any c 92 _ h) [
       | inl e ↦ at c 92 e refl
       | inr h1 ↦
           elim (markup-any c 96 _ h1) [
@@ -29,28 +60,7 @@ punctuation c h0 =
             | inr h2 ↦
                 elim (markup-any c 42 _ h2) [
                   | inl e ↦ at c 42 e refl
-                  | inr h3 ↦
-                      elim (markup-any c 95 _ h3) [
-                        | inl e ↦ at c 95 e refl
-                        | inr h4 ↦
-                            elim (markup-any c 91 _ h4) [
-                              | inl e ↦ at c 91 e refl
-                              | inr h5 ↦
-                                  elim (markup-any c 93 _ h5) [
-                                    | inl e ↦ at c 93 e refl
-                                    | inr h6 ↦
-                                        elim (markup-any c 60 _ h6) [
-                                          | inl e ↦ at c 60 e refl
-                                          | inr h7 ↦
-                                              elim (markup-any c 38 _ h7) [
-                                                | inl e ↦ at c 38 e refl
-                                                | inr h8 ↦
-                                                    elim (markup-any c 126 _ h8) [ inl e ↦ at c 126 e refl | inr h9 ↦ at c 124 (eqb-true c 124 h9) refl ]
-                                              ]
-                                        ]
-                                  ]
-                            ]
-                      ]
+                  | inr h3 ↦ some-punctuation c h3
                 ]
           ]
     ]

@@ -48,7 +48,10 @@ const BLOCKS: &[(&str, &str)] = &[
         "<title>a</title><script>b</script><style>c</style><p hidden>d</p><template>e</template>f",
         "f\n",
     ),
-    ("<noscript>a</noscript><dialog>b</dialog><video>c</video>", ""),
+    (
+        "<noscript>a</noscript><dialog>b</dialog><video>c</video>",
+        "",
+    ),
 ];
 
 /// Lists.
@@ -68,14 +71,20 @@ const LISTS: &[(&str, &str)] = &[
     ("<ol><li value=3>a<li>b</ol>", "3. a\n4. b\n"),
     ("<ol start=-1><li>a</ol>", "1. a\n"),
     ("<ol><li>a</ol><ol><li>b</ol>", "1. a\n\n1) b\n"),
-    (
-        "<ul><li>a<ol start=2><li>b</ol></ul>",
-        "- a\n\n  2. b\n",
-    ),
+    ("<ul><li>a<ol start=2><li>b</ol></ul>", "- a\n\n  2. b\n"),
     ("<ul><li>a<ol><li>b</ol></ul>", "- a\n  1. b\n"),
-    ("<ul><li><pre>a</pre><li><hr></ul>", "- ```\n  a\n  ```\n- ***\n"),
-    ("<ul><li><h1>a</h1><li><blockquote>b</blockquote></ul>", "- # a\n- > b\n"),
-    ("<blockquote><ul><li>a<p>b</ul></blockquote>", "> - a\n>\n>   b\n"),
+    (
+        "<ul><li><pre>a</pre><li><hr></ul>",
+        "- ```\n  a\n  ```\n- ***\n",
+    ),
+    (
+        "<ul><li><h1>a</h1><li><blockquote>b</blockquote></ul>",
+        "- # a\n- > b\n",
+    ),
+    (
+        "<blockquote><ul><li>a<p>b</ul></blockquote>",
+        "> - a\n>\n>   b\n",
+    ),
     ("<li>a", "a\n"),
 ];
 
@@ -95,7 +104,10 @@ const LINES: &[(&str, &str)] = &[
     ("<code>`</code><code>a``b</code>", "``` `a``b ```\n"),
     ("<code>a <b>b</b></code>", "`a` **`b`**\n"),
     ("<a href=u>a</a>", "[a](u)\n"),
-    ("<a href='a b(c)'>x <b>y</b></a>", "[x **y**](a%20b\\(c\\))\n"),
+    (
+        "<a href='a b(c)'>x <b>y</b></a>",
+        "[x **y**](a%20b\\(c\\))\n",
+    ),
     ("<a href='?a=1&amp;amp;b'>x</a>", "[x](?a=1&amp;amp;b)\n"),
     ("<a href=''>x</a><a>y</a>", "[x]()y\n"),
     ("<a href=u><p>a</p>b</a>", "[a](u)\n\n[b](u)\n"),
@@ -110,7 +122,10 @@ const LINES: &[(&str, &str)] = &[
 
 /// Texts that would be read as markup.
 const ESCAPES: &[(&str, &str)] = &[
-    ("*a* _b_ `c` [d](e) &lt;f> &amp;amp; g\\ ~h~ i|j", "\\*a\\* \\_b\\_ \\`c\\` \\[d\\](e) \\<f> \\&amp; g\\\\ \\~h\\~ i\\|j\n"),
+    (
+        "*a* _b_ `c` [d](e) &lt;f> &amp;amp; g\\ ~h~ i|j",
+        "\\*a\\* \\_b\\_ \\`c\\` \\[d\\](e) \\<f> \\&amp; g\\\\ \\~h\\~ i\\|j\n",
+    ),
     ("# a", "\\# a\n"),
     ("a # b", "a # b\n"),
     ("> a", "\\> a\n"),

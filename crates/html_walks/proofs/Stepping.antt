@@ -1,5 +1,6 @@
 -- How a walk goes on.
-use Rattle.std.proofs.Common.{◌≡◌, ◌∙◌, ◌-◌, ◌<◌, ◌≤◌, ℕ, zero, suc, true, List, [], ◌∷◌, ◌++◌, Option, Some, None, length, arith, refl, sym, ap, inl, inr, subst, append_assoc}
+use Rattle.std.proofs.Common.{◌≡◌, ◌∙◌, ◌-◌, ◌<◌, ◌≤◌, ℕ, zero, suc, true, List, [], ◌∷◌}
+use Rattle.std.proofs.Common.{◌++◌, Option, Some, None, length, arith, refl, sym, ap, inl, inr, subst, append_assoc}
 use Rattle.std.proofs.lemmas.Bool.{cases_eq, eq-eqb, ne_eqb}
 use Rattle.markup.specs.Forest.{Forest, IsDistinct, IsForest, children_of, is_among, node_count, parent_of}
 use Rattle.markup.proofs.WholeTrees.{among-first, among-later}

@@ -1,5 +1,5 @@
--- Where the nodes of a tree begin and end, in tree order (DOM Standard, section 1.1). What stands in the contents of a template stands below
--- those, not below the template (HTML Standard, section 4.12.3).
+-- Where the nodes of a tree begin and end, in tree order (DOM Standard, section 1.1). What stands in the contents of a template stands
+-- below those, not below the template (HTML Standard, section 4.12.3).
 use Rattle.std.specs.Prelude.{ℕ, zero, suc, ◌==◌, Bool, true, false, List, [], ◌∷◌, ◌++◌, Option, Some, None}
 use Rattle.markup.specs.Forest.{Forest, children_of, node_count, parent_of}
 use Rattle.html_forest.specs.Walk.{behind}
