@@ -196,18 +196,6 @@ done-more r n done (c ∷ cs) =
     fold true a d y = refl
     fold false a d y = ap (λ b. b || y) (and-false a ∙ sym (and-false d))
 
--- a node that has children is listed
-pub below-listed : (f : Forest) → IsForest f → (t : ℕ → Bool) (n : ℕ)
-    → (is_among n (in_tree_order f) && list_any t (below f n)) ≡ list_any t (below f n)
-below-listed f is t n =
-    elim (cases_lt n (node_count f)) [
-      | inl there ↦ rw (all-listed f is n there) refl
-      | inr past ↦
-          let none : list_any t (below f n) ≡ false =
-          ap (list_any t) (below-children f is n ∙ ap (each_with_below (below f)) (no-children f n past)) in
-          rw none (and-false (is_among n (in_tree_order f)))
-    ]
-
 -- what is told of a node whose children are done
 over-value : (f : Forest) → IsForest f → (t : ℕ → Bool) (c : List Bool) (done : List ℕ) (n : ℕ)
     → ((m : ℕ) → at c m ≡ over_done t f done m)

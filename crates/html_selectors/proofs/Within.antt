@@ -71,10 +71,6 @@ pub left-out : (o x y : Bool) → ((o && not (o && x)) && y) ≡ (o && (not x &&
 left-out true x y = refl
 left-out false x y = refl
 
-pub kept-in : (o x : Bool) → (o ≡ true → x ≡ true) → (o && x) ≡ o
-kept-in true x h = h refl
-kept-in false x h = refl
-
 pub agree : (c x y : Bool) → (c ≡ true → x ≡ y) → (c && x) ≡ (c && y)
 agree true x y h = h refl
 agree false x y h = refl
