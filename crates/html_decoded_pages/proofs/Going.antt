@@ -1,5 +1,5 @@
 -- How far a tokenizer has gone, and with which pauses.
-use Rattle.std.proofs.Common.{◌≡◌, ◌∙◌, ℕ, ◌<◌, List, [], ◌∷◌, ◌++◌, length, Option, Some, None, Result, Ok, Err}
+use Rattle.std.proofs.Common.{◌≡◌, ◌∙◌, ℕ, ◌<◌, List, [], ◌∷◌, ◌++◌, length, Some, None, Ok, Err}
 use Rattle.std.proofs.Common.{append_assoc, append-nil, length-append, arith, refl, sym, ap, subst, encode_utf8_all}
 use Rattle.markup.specs.declared.fault.ParseFault.{ParseFault}
 use Rattle.markup.specs.declared.tokenizer_result.TokenizerResult.{TokenizerResult}

@@ -1,11 +1,11 @@
 -- What a tokenizer that has gone so far leaves at the end.
-use Rattle.std.proofs.Common.{◌≡◌, ◌∙◌, ℕ, List, [], ◌++◌, Option, Some, None, Result, Ok, Err, append_assoc, append-nil, refl, sym}
+use Rattle.std.proofs.Common.{◌≡◌, ◌∙◌, ℕ, List, [], ◌++◌, Some, None, Result, Ok, Err, append_assoc, append-nil, refl, sym}
 use Rattle.std.proofs.Common.{ap, subst}
 use Rattle.std.specs.Prelude.{IsOk, IfOk}
 use Rattle.markup.specs.declared.fault.ParseFault.{ParseFault}
 use Rattle.html_queue.specs.Queue.{Queue}
 use Rattle.html_tokens.specs.Notes.{Notes, pauses_of, without_notes}
-use Rattle.html_tokens.specs.Sink.{Refusal, Reply}
+use Rattle.html_tokens.specs.Sink.{Reply}
 use Rattle.html_tokens.specs.declared.sink.TokenSink.{Ghosts}
 use Rattle.html_tokenizer.specs.Calls.{EndGives, refusal_of, to_come}
 use Rattle.html_tokenizer.specs.declared.tokenizer.Tokenizer.{Tokenizer}

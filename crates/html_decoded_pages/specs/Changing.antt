@@ -4,7 +4,7 @@ use Rattle.std.specs.Str.{chars}
 use Rattle.markup.specs.Forest.{empty_forest}
 use Rattle.html_tokens.specs.NormalText.{normal_text}
 use Rattle.html_tokens.specs.Notes.{pauses}
-use Rattle.html_tokens.specs.Sink.{Refusal, Reply}
+use Rattle.html_tokens.specs.Sink.{Reply}
 use Rattle.html_tokens.specs.Table.{Row}
 use Rattle.html_tokens.specs.declared.replies.TokenSinkResult.TheVariants.{EncodingIndicator}
 use Rattle.html_rules.specs.Documents.{before_document, stand_of}
