@@ -1,7 +1,5 @@
 //! Whether the document of a forest is faithful: whether what is written of it (HTML Standard, section 13.3) is read as just it (section
 //! 13.2). One walk over its nodes, in the order in which they stand.
-//!
-//! Tests: `html_faithful_walk_tests`.
 #![tactic(auto)]
 
 mod checks;
