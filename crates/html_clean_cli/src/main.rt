@@ -58,5 +58,5 @@ fn run<Errors: Target>(rt: &HostRuntime, errors: &mut Errors) -> Result<(), Prog
 fn main(rt: HostRuntime) -> ExitCode {
     let mut errors = StdTarget::new(rt.stderr());
     let outcome = run(&rt, &mut errors);
-    ExitCode::from(tell(rt.alloc(), &mut errors, &outcome))
+    ExitCode::from(tell(&mut errors, &outcome))
 }

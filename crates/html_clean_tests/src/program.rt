@@ -251,7 +251,7 @@ fn is_seen(alloc: Global, run: &Run, seen: &Seen) -> Result<bool, AllocError> {
         &mut output,
         &mut errors,
     );
-    let status = tell(alloc, &mut errors, &outcome);
+    let status = tell(&mut errors, &outcome);
     Ok(
         output.written() == seen.0.as_bytes()
             && errors.written() == seen.1.as_bytes()

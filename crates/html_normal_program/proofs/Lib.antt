@@ -1,1 +1,1 @@
-pub mod Put
+pub mod Written

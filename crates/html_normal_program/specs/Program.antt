@@ -12,6 +12,7 @@ use Rattle.html_normal.specs.declared.fault.NormalFault.TheVariants.{Memory}
 use Rattle.html_normal.specs.declared.program.ProgramFault.{ProgramFault}
 use Rattle.html_normal.specs.declared.program.ProgramFault.TheVariants.{Usage, Table, Normal}
 use Rattle.html_normal.specs.declared.report.Report.{Report}
+use Rattle.std.specs.Borrow.{Bor}
 use Rattle.std.specs.Prelude.{false}
 
 -- By a file's name: nothing where its bytes are not stated; else the bytes, if there is such a file.
@@ -31,6 +32,11 @@ abbrev pub IsTable : Files → List (List ℕ) → List Row → Type 0
 IsTable files [] table = table ≡ five_rows
 IsTable files (name ∷ []) table = IsTableIn (files name) table
 IsTable files (name ∷ other ∷ names) table = ⊥
+
+-- the words that name a file, if one is named
+abbrev pub named : Option (Bor (List ℕ)) → List (List ℕ)
+named None = []
+named (Some name) = name.now ∷ []
 
 -- why a file has no table: there is none, or what reading it tells
 abbrev pub IsNoTableIn : Option (Option (List ℕ)) → TableFileFault → Type 0

@@ -8,5 +8,5 @@ mod running;
 mod telling;
 
 pub use opener::{HostFiles, Opener};
-pub use running::normalised;
-pub use telling::tell;
+pub use running::{normalised, table_named};
+pub use telling::{put, put_normal_fault, put_numbered, put_table_fault, tell};

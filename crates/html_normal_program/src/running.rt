@@ -4,7 +4,7 @@ ghost use Rattle.html_normal.specs.declared.fault.NormalFault.TheVariants.{Memor
 ghost use Rattle.html_normal.specs.declared.program.ProgramFault.TheVariants.{Normal};
 ghost use Rattle.html_references.specs.References.{five_rows};
 ghost use Rattle.std.specs.String.{string_bytes};
-ghost use Rattle.html_normal_program.specs.Program.{HasNoTable, IsNoTableIn, IsOutcome, IsTable, IsTableIn};
+ghost use Rattle.html_normal_program.specs.Program.{HasNoTable, IsNoTableIn, IsOutcome, IsTable, IsTableIn, named};
 
 use crate::opener::Opener;
 use devices::{Source, Target};
@@ -39,6 +39,23 @@ fn five(alloc: Global) -> Result<References, ProgramFault>
     }
 }
 
+/// The table of references in the file of that name, or where no file is named the five names that a written text needs.
+///
+/// Errors: [`ProgramFault::Table`] where the file has no table; out of memory.
+pub fn table_named<File: Source + Drop, Opens: Opener<File>>(
+    alloc: Global,
+    opener: &Opens,
+    name: Option<&str>,
+) -> Result<References, ProgramFault>
+    ensures ok { IfOk result (IsTable (Opens.files opener.now) (named name.entry)) }
+    ensures err { IfErr result (HasNoTable (Opens.files opener.now) (named name.entry)) }
+{
+    match name {
+        Some(name) => Ok(table_in(alloc, opener, name)?),
+        None => five(alloc),
+    }
+}
+
 /// The table of references that the words after the program's name ask for.
 fn table<File: Source + Drop, Opens: Opener<File>>(
     alloc: Global,
@@ -49,8 +66,8 @@ fn table<File: Source + Drop, Opens: Opener<File>>(
     ensures err { IfErr result (HasNoTable (Opens.files opener.now) (map string_bytes words.now)) }
 {
     match words {
-        [] => five(alloc),
-        [name] => Ok(table_in(alloc, opener, name.as_str())?),
+        [] => table_named(alloc, opener, None),
+        [name] => table_named(alloc, opener, Some(name.as_str())),
         _ => Err(ProgramFault::Usage),
     }
 }

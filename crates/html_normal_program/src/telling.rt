@@ -12,7 +12,7 @@ use itoa::Buffer;
 use markup::QuirksMode;
 
 /// Writes words.
-fn put<Errors: Target>(errors: &mut Errors, words: &str) -> Result<(), DeviceFault>
+pub fn put<Errors: Target>(errors: &mut Errors, words: &str) -> Result<(), DeviceFault>
     ensures put { IsPut words.now (Errors.written errors.old) (Errors.written errors.new) (is_err result) }
     ensures counted { Errors.failures errors.new ≡ count_after (is_err result) (Errors.failures errors.old) }
 {
@@ -20,7 +20,7 @@ fn put<Errors: Target>(errors: &mut Errors, words: &str) -> Result<(), DeviceFau
 }
 
 /// Writes words, and a number after them.
-fn put_numbered<Errors: Target>(
+pub fn put_numbered<Errors: Target>(
     errors: &mut Errors,
     words: &str,
     number: u64,
@@ -70,7 +70,7 @@ fn put_report<Errors: Target>(errors: &mut Errors, report: &Report) -> Result<()
 }
 
 /// Writes what is wrong with the table of references.
-fn put_table_fault<Errors: Target>(
+pub fn put_table_fault<Errors: Target>(
     errors: &mut Errors,
     fault: TableFileFault,
 ) -> Result<(), DeviceFault>
@@ -98,8 +98,8 @@ fn put_table_fault<Errors: Target>(
     }
 }
 
-/// Writes why a document was not normalised.
-fn put_normal_fault<Errors: Target>(
+/// Writes why a page was not read or not written.
+pub fn put_normal_fault<Errors: Target>(
     errors: &mut Errors,
     fault: NormalFault,
 ) -> Result<(), DeviceFault>

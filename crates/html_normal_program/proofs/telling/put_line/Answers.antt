@@ -1,7 +1,7 @@
 use Rattle.std.proofs.Common.{[], ◌∷◌}
 use Rattle.std.specs.Prelude.{is_err}
 use Rattle.html_normal_program.specs.Program.{words_of}
-use Rattle.html_normal_program.proofs.Put.{err-is, put-ended, put-then}
+use Rattle.html_normal_program.proofs.Written.{err-is, put-ended, put-then}
 use Rattle.html_normal_program.proofs.telling.put_line.Goals as goal
 
 pub returns-in_err-put_words-clause-put : goal.returns-in_err-put_words-clause-put

@@ -1,5 +1,5 @@
 use Rattle.std.specs.Prelude.{is_err}
-use Rattle.html_normal_program.proofs.Put.{err-is, put-ended, put-then}
+use Rattle.html_normal_program.proofs.Written.{err-is, put-ended, put-then}
 use Rattle.html_normal_program.proofs.telling.put_numbered.Goals as goal
 
 pub returns-in_err-put-clause-put : goal.returns-in_err-put-clause-put

@@ -3,7 +3,7 @@ use Rattle.std.specs.Fmt.{decimal}
 use Rattle.std.specs.Prelude.{is_err}
 use Rattle.html_normal.specs.Lines.{plain_word, quirks_word}
 use Rattle.html_normal_program.specs.Streams.{IsPut}
-use Rattle.html_normal_program.proofs.Put.{err-is, put-ended, put-then}
+use Rattle.html_normal_program.proofs.Written.{err-is, put-ended, put-then}
 use Rattle.html_normal_program.proofs.telling.put_report.Goals as goal
 
 -- a line of six words, which are written two and two

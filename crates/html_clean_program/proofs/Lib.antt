@@ -1,0 +1,4 @@
+mod Pages
+mod Putting
+mod Requests
+mod Rules
