@@ -1,4 +1,4 @@
--- The sets of each family of names, as bits: written by `tools/first_rows.py`.
+-- The sets of each family of names, as bits: written by `tools/names.py`.
 use Rattle.std.specs.Prelude.{ℕ, List, [], ◌∷◌}
 
 abbrev pub family_sets : List ℕ

@@ -1,4 +1,4 @@
-//! Which row of a mode is the first that is for a tag, by the family of its name: written by `tools/first_rows.py`.
+//! Which row of a mode is the first that is for a tag, by the family of its name: written by `tools/names.py`.
 
 /// The family of each known name: names that are in the same sets are of one. The first family is that of the names that are in none.
 #[rattlefmt::skip]

@@ -1,4 +1,4 @@
-//! How known names are written, by their places: written by `tools/known_tags.py`.
+//! How known names are written, by their places: written by `tools/names.py`.
 use crate::names::Manner;
 use crate::names::Manner::{Raw, RawWithScripts, Usual, Void};
 

@@ -16,7 +16,7 @@ use Rattle.std.proofs.lemmas.Option.{slice_get-get_or}
 use Rattle.std.proofs.lemmas.List.Folds.{list_any-append}
 use Rattle.markup.specs.declared.attribute_index.AttributeIndex.{AttributeIndex}
 use Rattle.markup.specs.declared.attributes.Attribute.{Attribute}
-use Rattle.markup.specs.AttributeIndex.{AddsPlace, AddsPlaceIf, FitsIndex, IsIndex, first_place, place_in}
+use Rattle.markup.specs.AttributeIndex.{AddsPlace, FitsIndex, IsIndex, first_place, place_in}
 use Rattle.markup.specs.Attributes.{are_distinct, has_local_name, place_of}
 use Rattle.markup.specs.Equality.{texts_by_value}
 
@@ -144,12 +144,12 @@ IsIndex-more old new attributes attribute h more = record {
       ∙ sym (distinct-more attributes attribute))));
 }
 
-pub FitsIndex-more : (old new : Option (Box AttributeIndex)) (attributes : List Attribute) (attribute : Attribute)
-    → FitsIndex old attributes → AddsPlaceIf attribute.name.local (length attributes) old new → FitsIndex new (attributes ++ attribute ∷ [])
-FitsIndex-more None None attributes attribute h more = tt
-FitsIndex-more None (Some new) attributes attribute h more = absurd more
-FitsIndex-more (Some old) None attributes attribute h more = tt
-FitsIndex-more (Some old) (Some new) attributes attribute h more = IsIndex-more old.value new.value attributes attribute h more
+-- the same, of an attribute with that local name
+pub IsIndex-named : (old new : AttributeIndex) (attributes : List Attribute) (attribute : Attribute) (name : List ℕ)
+    → attribute.name.local ≡ name → IsIndex old attributes → AddsPlace name (length attributes) old new
+    → IsIndex new (attributes ++ attribute ∷ [])
+IsIndex-named old new attributes attribute name is h more =
+    IsIndex-more old new attributes attribute h (subst (λ n. AddsPlace n (length attributes) old new) (sym is) more)
 
 -- the index says which local names there are
 pub IsIndex-names : (index : AttributeIndex) (attributes : List Attribute) → IsIndex index attributes
@@ -165,11 +165,6 @@ put_by false old place e = sym (first_place-none old)
 no_place : (o : Option ℕ) → is_some o ≡ false → o ≡ None
 no_place None e = refl
 no_place (Some n) e = absurd (true≢false e)
-
--- what holds where a call went well, of one that did
-pub went_well : {T E P : Type 0} (r : Result T E) → OnOk r P → is_ok r ≡ true → P
-went_well (Ok x) h e = h
-went_well (Err fault) h e = absurd cc
 
 -- a key that was put into the map has a place more
 pub AddsPlace-put : (old new : AttributeIndex) (key name : List ℕ) (place : ℕ) → key ≡ name

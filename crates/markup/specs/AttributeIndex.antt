@@ -33,9 +33,3 @@ pub record AddsPlace (name : List ℕ) (place : ℕ) (old new : AttributeIndex) 
 abbrev pub FitsIndex : Option (Box AttributeIndex) → List Attribute → Type 0
 FitsIndex None attributes = ⊤
 FitsIndex (Some index) attributes = IsIndex index.value attributes
-
--- an index has an attribute more, or there is none any more
-abbrev pub AddsPlaceIf : List ℕ → ℕ → Option (Box AttributeIndex) → Option (Box AttributeIndex) → Type 0
-AddsPlaceIf name place old None = ⊤
-AddsPlaceIf name place None (Some new) = ⊥
-AddsPlaceIf name place (Some old) (Some new) = AddsPlace name place old.value new.value

@@ -1,20 +1,22 @@
 //! Where many attributes are by their local names, so that one is found without a walk over all.
-ghost use Rattle.std.specs.Prelude.{◌≡◌, IfSome, IsTrue, true};
+ghost use Rattle.std.specs.Prelude.{◌≡◌, ◌++◌, ◌∷◌, [], IfErr, IfOk, OnOk};
 ghost use Rattle.std.specs.List.{find, list_any};
 ghost use Rattle.std.specs.Option.{option_copied};
 ghost use Rattle.std.specs.Str.{bytes_eq};
-ghost use Rattle.markup.specs.AttributeIndex.{AddsPlace, AddsPlaceIf, FitsIndex, IsIndex};
+ghost use Rattle.markup.specs.AttributeIndex.{AddsPlace, FitsIndex, IsIndex};
 ghost use Rattle.markup.specs.Attributes.{has_local_name};
 ghost use Rattle.markup.specs.Equality.{attribute_eq};
 ghost use Rattle.markup.specs.Names.{has_attribute};
+ghost use Rattle.markup.specs.declared.fault.ParseFault.TheVariants.{Memory};
 
 use crate::attributes::Attribute;
+use crate::fault::ParseFault;
 use crate::names::{LocalName, QualName};
 use std::alloc::Global;
 use std::collections::BTreeMap;
 
-/// So many attributes are looked through one by one.
-pub(crate) const MANY: usize = 16;
+/// So many attributes are looked through one by one; more have an index.
+pub(crate) const MANY: usize = 32;
 
 /// The places of attributes by their local names.
 #[derive(Drop)]
@@ -25,87 +27,116 @@ pub(crate) struct AttributeIndex {
     pub(crate) are_distinct: bool,
 }
 
-/// Puts one more into an index; false where memory is short.
-fn add(index: &mut AttributeIndex, alloc: Global, name: &LocalName, place: usize) -> bool
-    ensures { IsTrue result → AddsPlace name.now place index.old index.new }
-{
-    if index.places.contains_key(name) {
-        index.are_distinct = false;
-        return true;
-    }
-    let Ok(copied) = name.copy(alloc) else {
-        return false;
-    };
-    index.places.insert(copied, place).is_ok()
-}
-
-/// The index of all of these; none where memory is short.
-fn all(alloc: Global, attributes: &[Attribute]) -> Option<Box<AttributeIndex>>
-    ensures { IfSome result (λ index. IsIndex index.value attributes.now) }
-{
-    let empty = AttributeIndex {
-        places: BTreeMap::new(alloc),
-        are_distinct: true,
-    };
-    let Ok(mut index) = Box::new(alloc, empty) else {
-        return None;
-    };
-    for place in 0..attributes.len() {
-        let name = &attributes[place].name.local;
-        if !add(&mut index, alloc, name, place) {
-            return None;
-        }
-    }
-    Some(index)
-}
-
-/// The index with one more, where there is one; none where memory is short.
-pub(crate) fn with(
-    index: Option<Box<AttributeIndex>>,
+/// Puts one more into an index.
+///
+/// Errors: out of memory; what the index says then is not known.
+fn add(
+    index: &mut AttributeIndex,
     alloc: Global,
     name: &LocalName,
     place: usize,
-) -> Option<Box<AttributeIndex>>
-    ensures { AddsPlaceIf name.now place index result }
+) -> Result<(), ParseFault>
+    ensures ok { OnOk result (AddsPlace name.now place index.old index.new) }
+    ensures fault { IfErr result (λ fault. fault ≡ Memory) }
+{
+    if index.places.contains_key(name) {
+        index.are_distinct = false;
+        return Ok(());
+    }
+    drop(index.places.insert(name.copy(alloc)?, place)?);
+    Ok(())
+}
+
+/// The index of all of these.
+///
+/// Errors: out of memory.
+fn all(alloc: Global, attributes: &[Attribute]) -> Result<Box<AttributeIndex>, ParseFault>
+    ensures ok { IfOk result (λ index. IsIndex index.value attributes.now) }
+    ensures fault { IfErr result (λ fault. fault ≡ Memory) }
+{
+    let mut index = Box::new(
+        alloc,
+        AttributeIndex {
+            places: BTreeMap::new(alloc),
+            are_distinct: true,
+        },
+    )?;
+    for place in 0..attributes.len() {
+        add(&mut index, alloc, &attributes[place].name.local, place)?;
+    }
+    Ok(index)
+}
+
+/// The index of attributes, made anew if there was none.
+///
+/// Errors: out of memory.
+fn held(
+    index: Option<Box<AttributeIndex>>,
+    alloc: Global,
+    attributes: &[Attribute],
+) -> Result<Box<AttributeIndex>, ParseFault>
+    requires { FitsIndex index attributes.now }
+    ensures ok { IfOk result (λ index. IsIndex index.value attributes.now) }
+    ensures fault { IfErr result (λ fault. fault ≡ Memory) }
 {
     match index {
-        Some(mut index) => {
-            if add(&mut index, alloc, name, place) {
-                Some(index)
-            } else {
-                None
-            }
-        }
-        None => None,
+        Some(index) => Ok(index),
+        None => all(alloc, attributes),
     }
 }
 
-/// The index of attributes, where there are many; none where memory is short.
-pub(crate) fn of(alloc: Global, attributes: &[Attribute]) -> Option<Box<AttributeIndex>>
-    ensures { FitsIndex result attributes.now }
+/// The index of attributes and of one more with that local name.
+///
+/// Errors: out of memory.
+fn with_one_more(
+    index: Option<Box<AttributeIndex>>,
+    alloc: Global,
+    attributes: &[Attribute],
+    name: &LocalName,
+) -> Result<Box<AttributeIndex>, ParseFault>
+    requires { FitsIndex index attributes.now }
+    ensures ok { IfOk result (λ index. (more : Attribute) → more.name.local ≡ name.now → IsIndex index.value (attributes.now ++ more ∷ [])) }
+    ensures fault { IfErr result (λ fault. fault ≡ Memory) }
 {
-    if attributes.len() > MANY {
-        all(alloc, attributes)
-    } else {
-        None
-    }
+    let mut index = held(index, alloc, attributes)?;
+    add(&mut index, alloc, name, attributes.len())?;
+    Ok(index)
 }
 
-/// The index of attributes of which one was added last. Where there is none it is tried for at each doubling of their number, so that
-/// what was refused for want of memory is not tried for at each attribute.
+/// The index of attributes and of one more with that local name, if they are many. Many attributes without an index would be looked
+/// through one by one for each that comes, so where memory is short that is an error.
+///
+/// Errors: out of memory.
 pub(crate) fn grown(
     index: Option<Box<AttributeIndex>>,
     alloc: Global,
     attributes: &[Attribute],
-) -> Option<Box<AttributeIndex>>
+    name: &LocalName,
+) -> Result<Option<Box<AttributeIndex>>, ParseFault>
     requires { FitsIndex index attributes.now }
-    ensures { FitsIndex result attributes.now }
+    ensures ok { IfOk result (λ index. (more : Attribute) → more.name.local ≡ name.now → FitsIndex index (attributes.now ++ more ∷ [])) }
+    ensures fault { IfErr result (λ fault. fault ≡ Memory) }
 {
-    match index {
-        Some(index) => Some(index),
-        None if attributes.len().is_power_of_two() => of(alloc, attributes),
-        None => None,
+    if index.is_none() && attributes.len() < MANY {
+        return Ok(None);
     }
+    Ok(Some(with_one_more(index, alloc, attributes, name)?))
+}
+
+/// The index of attributes, if they are many.
+///
+/// Errors: out of memory.
+pub(crate) fn of(
+    alloc: Global,
+    attributes: &[Attribute],
+) -> Result<Option<Box<AttributeIndex>>, ParseFault>
+    ensures ok { IfOk result (λ index. FitsIndex index attributes.now) }
+    ensures fault { IfErr result (λ fault. fault ≡ Memory) }
+{
+    if attributes.len() <= MANY {
+        return Ok(None);
+    }
+    Ok(Some(all(alloc, attributes)?))
 }
 
 /// Whether one of the attributes has that local name.

@@ -1,5 +1,5 @@
 //! The attributes of elements and tags.
-ghost use Rattle.std.specs.Prelude.{◌≡◌, ◌==◌, ◌++◌, ◌∷◌, ◌+◌, ◌≤◌, [], length, vec_len, IfOk, IfErr, OnOk, OnErr, true};
+ghost use Rattle.std.specs.Prelude.{◌≡◌, ◌==◌, ◌++◌, ◌∷◌, ◌+◌, ◌≤◌, [], length, take, vec_len, IfOk, IfErr, OnOk, OnErr, true};
 ghost use Rattle.std.specs.List.{list_all, list_any};
 ghost use Rattle.std.specs.Vec.{vec_capacity};
 ghost use Rattle.markup.specs.AttributeIndex.{FitsIndex};
@@ -131,7 +131,7 @@ impl Attributes {
         if self.index.is_none() && self.list.len() < MANY {
             self.list.push_reserved(attribute);
         } else {
-            self.index = put_last(&mut self.list, self.index.take(), attribute);
+            self.index = put_last(&mut self.list, self.index.take(), attribute)?;
         }
         Ok(())
     }
@@ -158,8 +158,17 @@ impl Attributes {
     {
         let others = others.into_vec();
         self.list.reserve(others.len())?;
-        self.index = put_missing(&mut self.list, self.index.take(), others);
-        Ok(())
+        let length = self.list.len();
+        match put_missing(&mut self.list, self.index.take(), others) {
+            Ok(index) => {
+                self.index = index;
+                Ok(())
+            }
+            Err(fault) => {
+                self.list.truncate(length);
+                Err(fault)
+            }
+        }
     }
 
     /// Whether two lists are the same in some order.
@@ -206,7 +215,7 @@ impl Attributes {
         for attribute in self.as_slice() {
             list.push_reserved(attribute.copy(alloc)?);
         }
-        let index = attribute_index::of(alloc, list.as_slice());
+        let index = attribute_index::of(alloc, list.as_slice())?;
         Ok(Attributes { list, index })
     }
 }
@@ -216,38 +225,42 @@ fn put_last(
     list: &mut Vec<Attribute>,
     index: Option<Box<AttributeIndex>>,
     attribute: Attribute,
-) -> Option<Box<AttributeIndex>>
+) -> Result<Option<Box<AttributeIndex>>, ParseFault>
     requires room { vec_len list.old + 1 ≤ vec_capacity list.old }
     requires fits { FitsIndex index list.old.items }
-    ensures last { list.new.items ≡ list.old.items ++ attribute ∷ [] }
+    ensures last { OnOk result (list.new.items ≡ list.old.items ++ attribute ∷ []) }
+    ensures err { OnErr result (list.new.items ≡ list.old.items) }
     ensures room { vec_capacity list.new ≡ vec_capacity list.old }
-    ensures fits { FitsIndex result list.new.items }
+    ensures fits { IfOk result (λ index. FitsIndex index list.new.items) }
+    ensures fault { IfErr result (λ fault. fault ≡ Memory) }
 {
     let alloc = *list.allocator();
-    let index = attribute_index::with(index, alloc, &attribute.name.local, list.as_slice().len());
+    let index = attribute_index::grown(index, alloc, list.as_slice(), &attribute.name.local)?;
     list.push_reserved(attribute);
-    attribute_index::grown(index, alloc, list.as_slice())
+    Ok(index)
 }
 
-// Puts after attributes, in order, those of others whose name they lack. There is room for all of them.
+// Puts after attributes, in order, those of others whose name they lack. There is room for all of them. After an error some may be there.
 fn put_missing(
     list: &mut Vec<Attribute>,
     mut index: Option<Box<AttributeIndex>>,
     others: Vec<Attribute>,
-) -> Option<Box<AttributeIndex>>
+) -> Result<Option<Box<AttributeIndex>>, ParseFault>
     requires room { vec_len list.old + vec_len others ≤ vec_capacity list.old }
     requires fits { FitsIndex index list.old.items }
-    ensures missing { list.new.items ≡ with_missing list.old.items others.items }
-    ensures fits { FitsIndex result list.new.items }
+    ensures missing { OnOk result (list.new.items ≡ with_missing list.old.items others.items) }
+    ensures err { OnErr result (take (vec_len list.old) list.new.items ≡ list.old.items) }
+    ensures fits { IfOk result (λ index. FitsIndex index list.new.items) }
+    ensures fault { IfErr result (λ fault. fault ≡ Memory) }
 {
     for attribute in others {
         if attribute_index::has(&index, list.as_slice(), &attribute.name) {
             drop(attribute);
         } else {
-            index = put_last(list, index, attribute);
+            index = put_last(list, index, attribute)?;
         }
     }
-    index
+    Ok(index)
 }
 
 // Whether each attribute is in the other list.

@@ -1,4 +1,4 @@
-//! Where the known names are, by their hashes: written by `tools/known_names.py`.
+//! Where the known names are, by their hashes: written by `tools/names.py`.
 
 /// How far the slots of names are shifted, by the low part of their hash.
 #[rattlefmt::skip]

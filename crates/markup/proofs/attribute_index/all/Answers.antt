@@ -5,7 +5,7 @@ use Rattle.markup.proofs.attribute_index.all.Goals as goal
 
 pub loop-place-preserved : goal.loop-place-preserved
 loop-place-preserved c =
-    let added = rw c.deref_mut.ensures.value at (c.add.ensures c.if-not-add.false) in
+    let added = rw c.deref_mut.ensures.value at c.in_ok-add.ensures.ok in
     IsIndex-next c.loop-place.index.value c.add.new.index c.args.attributes.now c.loop-place.place
     c.index-attributes-place.result c.loop-place-test.true c.index-attributes-place.is c.loop-place.invariant
     (subst (λ n. AddsPlace n c.loop-place.place c.loop-place.index.value c.add.new.index)

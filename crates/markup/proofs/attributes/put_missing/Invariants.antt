@@ -1,4 +1,4 @@
-use Rattle.std.proofs.Common.{◌≡◌, ◌+◌, ◌≤◌, length, vec_len}
+use Rattle.std.proofs.Common.{◌≡◌, ◌+◌, ◌≤◌, length, take, vec_len}
 use Rattle.std.specs.Vec.{vec_capacity}
 use Rattle.std.specs.Vec.Iter.{into_iter_items}
 use Rattle.markup.specs.AttributeIndex.{FitsIndex}
@@ -12,3 +12,5 @@ invariant-loop-attribute l =
     × (with_missing l.list.items (into_iter_items l.attribute-iterator) ≡ with_missing l.fn.list.items l.fn.others.items)
     × FitsIndex l.index l.list.items
     × (vec_len l.list + length (into_iter_items l.attribute-iterator) ≤ vec_capacity l.list)
+    × (take (vec_len l.fn.list) l.list.items ≡ l.fn.list.items)
+    × (vec_len l.fn.list ≤ vec_len l.list)
