@@ -1,13 +1,10 @@
-//! The program `figpliers`: parse errors, trees, links, texts, Markdown, elements and normal texts of HTML pages.
+//! The program `figpliers`: parse errors, trees, links, texts, elements and normal texts of HTML pages.
 //!
 //! What it does is `figpliers_program`; here it gets its words, its files and its streams.
 #![tactic(auto)]
 
-mod output;
-
 use figpliers::{StdSource, StdTarget, Target};
-use figpliers_program::{Disk, PageFault, Verdict, obey, report, report_unwritten};
-use output::Output;
+use figpliers_program::{HostFiles, PageFault, Verdict, obey, report};
 use std::env;
 use std::io::{BufWriter, ErrorKind};
 use std::process::ExitCode;
@@ -26,17 +23,16 @@ fn words(rt: &HostRuntime) -> Result<Vec<String>, PageFault> {
     }
 }
 
-/// Does what the program was started for, and hands on what the writer still holds. Where what reads standard output has closed it, the
-/// program is done.
+/// Does what the program was started for, and hands on what the writer still holds.
 fn serve<Errors: Target>(rt: &HostRuntime, errors: &mut Errors) -> Result<Verdict, PageFault> {
     let words = words(rt)?;
     let Ok(buffer) = BufWriter::new(rt.alloc(), rt.stdout()) else {
         return Err(PageFault::Memory);
     };
-    let mut output = Output::new(buffer);
+    let mut output = StdTarget::new(buffer);
     let mut input = StdSource::new(rt.stdin());
-    let files = Disk::new(rt);
-    let mut verdict = obey(
+    let files = HostFiles::new(rt);
+    let verdict = obey(
         rt.alloc(),
         words.as_slice(),
         &files,
@@ -44,16 +40,10 @@ fn serve<Errors: Target>(rt: &HostRuntime, errors: &mut Errors) -> Result<Verdic
         &mut output,
         errors,
     );
-    if output.flush().is_err() {
-        verdict = Verdict::Unwritten;
+    match output.flush() {
+        Ok(()) => Ok(verdict),
+        Err(_) => Err(PageFault::Write),
     }
-    if verdict == Verdict::Unwritten {
-        if output.is_closed() {
-            return Ok(Verdict::Fine);
-        }
-        report_unwritten(errors);
-    }
-    Ok(verdict)
 }
 
 fn main(rt: HostRuntime) -> ExitCode {

@@ -15,10 +15,8 @@ pub enum Verdict {
     Fine,
     /// A page has parse errors, which were asked for.
     Errors,
-    /// A page was not read.
+    /// A page was not read, or not all was written.
     Fault,
-    /// Not all was written to standard output. Nothing more was read then, and nothing was said of it.
-    Unwritten,
 }
 
 impl Verdict {
@@ -27,14 +25,13 @@ impl Verdict {
         match self {
             Verdict::Fine => 0,
             Verdict::Nothing | Verdict::Errors => 1,
-            Verdict::Fault | Verdict::Unwritten => 2,
+            Verdict::Fault => 2,
         }
     }
 
-    /// Of two the one that matters more: that not all was written, a fault, errors, or that something was done.
+    /// Of two the one that matters more: a fault, errors, or that something was done.
     pub fn and(self, other: Verdict) -> Verdict {
         match (self, other) {
-            (Verdict::Unwritten, _) | (_, Verdict::Unwritten) => Verdict::Unwritten,
             (Verdict::Fault, _) | (_, Verdict::Fault) => Verdict::Fault,
             (Verdict::Errors, _) | (_, Verdict::Errors) => Verdict::Errors,
             (Verdict::Fine, _) | (_, Verdict::Fine) => Verdict::Fine,
@@ -43,24 +40,13 @@ impl Verdict {
     }
 }
 
-/// Why a file can't be opened.
-#[derive(Clone, Copy, Debug, PartialEq, Eq)]
-pub enum Why {
-    /// There is none of that name.
-    Missing,
-    /// It may not be read.
-    Forbidden,
-    /// For another reason.
-    Other,
-}
-
 /// Why nothing, or not all, was made of a page, or of all.
 #[derive(Clone, Copy, Debug, PartialEq, Eq)]
 pub enum PageFault {
     /// Its longest front that is UTF-8 has `at` bytes.
     NotUtf8 { at: u64 },
-    /// It can't be opened.
-    Open { why: Why },
+    /// There is no such file, or it is not to be read.
+    Open,
     /// A read failed.
     Read,
     /// A write to standard output failed.
@@ -126,14 +112,7 @@ fn put_fault<Errors: Target>(errors: &mut Errors, fault: PageFault) -> Result<()
             put(errors, "not UTF-8 at byte ")?;
             put(errors, Buffer::new().format(at))
         }
-        PageFault::Open { why } => {
-            put(errors, "cannot be opened")?;
-            match why {
-                Why::Missing => put(errors, ": no such file"),
-                Why::Forbidden => put(errors, ": permission denied"),
-                Why::Other => Ok(()),
-            }
-        }
+        PageFault::Open => put(errors, "cannot be opened"),
         PageFault::Read => put(errors, "cannot be read"),
         PageFault::Write => put(errors, "standard output cannot be written"),
         PageFault::Words => put(errors, "an argument is not UTF-8"),
@@ -153,17 +132,8 @@ fn put_line<Errors: Target>(
     put(errors, "\n")
 }
 
-/// Writes to standard error what went wrong with a page, or with the program itself. Of a failed write to standard output nothing is said,
-/// since what reads it may have had enough: who called the program tells that by its verdict.
+/// Writes to standard error what went wrong with a page, or with the program itself.
 pub fn report<Errors: Target>(errors: &mut Errors, name: &str, fault: PageFault) -> Verdict {
-    if fault == PageFault::Write {
-        return Verdict::Unwritten;
-    }
     let _ = put_line(errors, name, fault);
     Verdict::Fault
-}
-
-/// Writes to standard error that not all was written to standard output.
-pub fn report_unwritten<Errors: Target>(errors: &mut Errors) {
-    let _ = put_line(errors, "figpliers", PageFault::Write);
 }

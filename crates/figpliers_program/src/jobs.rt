@@ -2,16 +2,15 @@
 
 use crate::command::{Asked, Job};
 use crate::faults::{PageFault, Verdict, report};
-use crate::files::Files;
-use crate::linking::list_links;
 use crate::pages::read_page;
 use crate::selecting::select_in;
 use crate::writing::put;
 use figpliers::{
     DeviceFault, Exact, Forest, MemReader, NodeId, References, SelectorError, Selectors, Source,
-    SyntaxFault, Target, document, fragment, inner_text, markdown, normalise, noted_document,
+    SyntaxFault, Target, document, fragment, inner_text, links_below, normalise, noted_document,
     parse_selectors, standard, write_tree, write_whole,
 };
+use html_normal_program::Opener;
 use std::alloc::Global;
 
 /// Lists the parse errors of a page.
@@ -61,16 +60,19 @@ fn tree<W: Target>(
     Ok(Verdict::Fine)
 }
 
-/// Writes a page as Markdown.
-fn write_markdown<W: Target>(
+/// Lists the links of a page.
+fn links<W: Target>(
     alloc: Global,
     table: References,
     page: String,
     writer: &mut W,
 ) -> Result<Verdict, PageFault> {
     let forest = document(alloc, table, page)?;
-    let text = markdown(alloc, &forest, forest.document())?;
-    put(writer, text.as_str())?;
+    let found = links_below(alloc, &forest, forest.document())?;
+    for link in &found {
+        put(writer, link.as_str())?;
+        put(writer, "\n")?;
+    }
     Ok(Verdict::Fine)
 }
 
@@ -128,11 +130,7 @@ fn run_job<W: Target>(
         Job::Tree {
             fragment: Some(name),
         } => tree(alloc, table, Some(name.as_str()), page, writer),
-        Job::Links { listing } => {
-            let has_several = work.asked.files.len() > 1;
-            list_links(alloc, table, listing, name, has_several, page, writer)
-        }
-        Job::Markdown => write_markdown(alloc, table, page, writer),
+        Job::Links => links(alloc, table, page, writer),
         Job::Text => text(alloc, table, page, writer),
         Job::Normal => normal(alloc, table, page, writer),
         Job::Select { show, .. } => {
@@ -152,7 +150,13 @@ fn run_job<W: Target>(
 }
 
 /// Does with the page of that name what is asked for.
-fn run_page<File: Source + Drop, Opens: Files<File>, Input: Source, Output: Target, Errors: Target>(
+fn run_page<
+    File: Source + Drop,
+    Opens: Opener<File>,
+    Input: Source,
+    Output: Target,
+    Errors: Target,
+>(
     alloc: Global,
     work: &Work<'_>,
     name: &str,
@@ -171,9 +175,8 @@ fn run_page<File: Source + Drop, Opens: Files<File>, Input: Source, Output: Targ
     }
 }
 
-/// Does with each page what is asked for; a page that is not read does not keep the others from it, and a failed
-/// write does.
-fn run_all<File: Source + Drop, Opens: Files<File>, Input: Source, Output: Target, Errors: Target>(
+/// Does with each page what is asked for; a page that is not read does not keep the others from it.
+fn run_all<File: Source + Drop, Opens: Opener<File>, Input: Source, Output: Target, Errors: Target>(
     alloc: Global,
     work: &Work<'_>,
     opener: &Opens,
@@ -187,9 +190,6 @@ fn run_all<File: Source + Drop, Opens: Files<File>, Input: Source, Output: Targe
     let mut verdict = Verdict::Nothing;
     for name in &work.asked.files {
         verdict = verdict.and(run_page(alloc, work, name, opener, input, output, errors));
-        if verdict == Verdict::Unwritten {
-            break;
-        }
     }
     verdict
 }
@@ -235,7 +235,7 @@ fn selectors_of(alloc: Global, job: &Job) -> Result<Selectors, SelectorError> {
 }
 
 /// Does what is asked for.
-pub fn run<File: Source + Drop, Opens: Files<File>, Input: Source, Output: Target, Errors: Target>(
+pub fn run<File: Source + Drop, Opens: Opener<File>, Input: Source, Output: Target, Errors: Target>(
     alloc: Global,
     asked: &Asked,
     opener: &Opens,

@@ -2,8 +2,8 @@
 
 use crate::command::Reading;
 use crate::faults::PageFault;
-use crate::files::Files;
 use figpliers::{Encoding, Source, Why, decode_page, read_text, sniff};
+use html_normal_program::Opener;
 use std::alloc::Global;
 
 /// How many bytes are asked for a read.
@@ -64,7 +64,7 @@ fn read<R: Source>(alloc: Global, reader: &mut R, reading: &Reading) -> Result<S
 }
 
 /// The text of the page in a file, or of the one on standard input by the name `-`.
-pub fn read_page<File: Source + Drop, Opens: Files<File>, Input: Source>(
+pub fn read_page<File: Source + Drop, Opens: Opener<File>, Input: Source>(
     alloc: Global,
     opener: &Opens,
     input: &mut Input,
@@ -76,8 +76,6 @@ pub fn read_page<File: Source + Drop, Opens: Files<File>, Input: Source>(
     }
     match opener.open(name) {
         Some(mut file) => read(alloc, &mut file, reading),
-        None => Err(PageFault::Open {
-            why: opener.why(name),
-        }),
+        None => Err(PageFault::Open),
     }
 }

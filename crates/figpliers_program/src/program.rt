@@ -2,10 +2,10 @@
 
 use crate::command::read_words;
 use crate::faults::{PageFault, Verdict, report};
-use crate::files::Files;
 use crate::jobs::run;
 use clap::Error;
 use figpliers::{Source, Target, write_whole};
+use html_normal_program::Opener;
 use std::alloc::Global;
 
 /// Writes what is wrong with the words to standard error, or the help that was asked for to standard output.
@@ -27,7 +27,13 @@ fn put_words<Output: Target, Errors: Target>(
 }
 
 /// Does what the words ask for with which the program was started, the first of which is its name. Files are those that `opener` opens.
-pub fn obey<File: Source + Drop, Opens: Files<File>, Input: Source, Output: Target, Errors: Target>(
+pub fn obey<
+    File: Source + Drop,
+    Opens: Opener<File>,
+    Input: Source,
+    Output: Target,
+    Errors: Target,
+>(
     alloc: Global,
     words: &[String],
     opener: &Opens,
