@@ -1,9 +1,9 @@
 //! Nodes of a page: which stand below one, and what they are named, have and say.
 
 use figpliers::{
-    Forest, NodeId, NormalFault, ParseFault, References, SelectorError, Step, are_told_alike,
+    Forest, NodeId, NormalFault, ParseFault, References, SelectorError, are_told_alike,
     attribute_of, attributes_of, document, element_name, has_class, is_html, nodes_below, select,
-    text_content, walk,
+    text_content,
 };
 use std::alloc::Global;
 use std::test::Fail;
@@ -171,37 +171,5 @@ fn trees_are_compared(rt: HostRuntime) -> Result<(), Fail> {
     let (top, same_top, other_top) = (first.document(), same.document(), other.document());
     assert!(rt; are_told_alike(alloc, &first, top, &same, same_top) == Ok(true));
     assert!(rt; are_told_alike(alloc, &first, top, &other, other_top) == Ok(false));
-    Ok(())
-}
-
-/// The steps of a node: a parenthesis before and after what stands in it, with the name of an element.
-fn steps_of(alloc: Global, forest: &Forest, top: NodeId) -> Result<String, ParseFault> {
-    let mut steps = String::new(alloc);
-    for step in walk(forest, top) {
-        match step {
-            Step::Enter(id) => {
-                steps.push('(')?;
-                if let Some(name) = element_name(forest, id) {
-                    steps.push_str(name.local.as_str())?;
-                }
-            }
-            Step::Leave(_) => steps.push(')')?,
-        }
-    }
-    Ok(steps)
-}
-
-#[test]
-fn nodes_begin_and_end(rt: HostRuntime) -> Result<(), Fail> {
-    let alloc = rt.alloc();
-    let forest = page_of(alloc, PAGE)?;
-    assert!(rt;
-        steps_of(alloc, &forest, forest.document())?.as_str()
-            == "(()(html(head(title()))(body(p()(b())())(svg(a()))(template)(p())(a())(script()))))"
-    );
-    let Some(one) = named(alloc, &forest, "one") else {
-        return Err(Fail::from(NormalFault::Refused));
-    };
-    assert!(rt; steps_of(alloc, &forest, one)?.as_str() == "(p()(b())())");
     Ok(())
 }
