@@ -35,7 +35,7 @@ pub on-ok : {A E : Type 0} {P Q : A → Type 0} (r : Result A E) → IfOk r P �
 on-ok (Ok x) h f = f x h
 on-ok (Err e) h f = tt
 
--- of parsers only want of memory is told
+-- the only fault of the parsers is out of memory
 memory-alone : (fault : ParseFault) → IsInputFault ⊥ None None (fault_of fault) → fault_of fault ≡ Memory
 memory-alone parse.Memory h = refl
 memory-alone parse.Failed h = refl

@@ -52,7 +52,7 @@ fn begin<Sink: TreeSink>(
     Tokenizer::new(alloc, builder, opts.tokenizer, references)
 }
 
-/// What takes the tokens. A tokenizer is let go of here alone, since each place that lets one go takes long to prove.
+/// What takes the tokens. Only this function drops a tokenizer, since each place that drops one takes long to prove.
 fn sink_of<S: TokenSink + Drop>(tokenizer: Tokenizer<S>) -> S
     ensures { result ≡ tokenizer.sink }
 {

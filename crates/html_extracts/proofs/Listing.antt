@@ -17,7 +17,7 @@ use Rattle.html_extracts.specs.Lines.{Lines, call_lines, indent_after, listed, r
 abbrev pub Written : List ℕ → WriterView → Result (Unit {0}) SerializeFault → WriterView → Type 0
 Written bytes old answer new = Writes bytes old answer new
 
--- nothing was written, for want of memory
+-- out of memory before anything was written
 pub begun-nothing : (old : WriterView) (bytes : List ℕ) → Began old bytes old
 begun-nothing old bytes = record { count = 0; within = omega arith; told = with_bytes-none old }
 

@@ -52,7 +52,7 @@ above-listed f is t n = by (parent_of f n) refl
     by None e = rw (above-none f t n e) (and-false (is_among n (in_tree_order f)))
     by (Some p) e = rw (all-listed f is n (is.in_range p n (is_among-parent f n p e))) refl
 
--- what is told of a wanted node whose parent is done
+-- what is known of a candidate whose parent is done
 under-value : (f : Forest) → IsForest f → (t w : ℕ → Bool) (c : List Bool) (done : List ℕ) (n : ℕ)
     → ((n p : ℕ) → w n ≡ true → parent_of f n ≡ Some p → w p ≡ true)
     → ((m : ℕ) → at c m ≡ (is_among m done && (w m && list_any t (above f m)))) → is_on (parent_of f n) done ≡ true → w n ≡ true
@@ -101,7 +101,7 @@ under-all f is order e t w c i all marked m =
     marked m ∙ (ap (λ (l : List ℕ). is_among m l && (w m && list_any t (above f m))) (take_all i order all ∙ e)
     ∙ and-past (is_among m (in_tree_order f)) (w m) (list_any t (above f m)) (above-listed f is t m))
 
--- what is told of a node above which all nodes are wanted
+-- what is known of a node whose ancestors are all candidates
 pub under-left : (f : Forest) → IsForest f → (t w u : ℕ → Bool) (n : ℕ) → ((m : ℕ) → u m ≡ (w m && list_any t (above f m)))
     → ((m : ℕ) → is_among m (above f n) ≡ true → w m ≡ true)
     → list_any (λ m. t m || u m) (one_of (parent_of f n)) ≡ list_any t (above f n)
