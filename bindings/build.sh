@@ -57,8 +57,8 @@ Depends: libc6
 Section: libdevel
 Priority: optional
 Description: verified HTML parser, as a C library
- The normal text of HTML pages, their trees as events, and what a sanitizer
- keeps of them. Each call is proved against the rules of the HTML Standard.
+ The normal text of HTML pages, their trees, and what a sanitizer keeps
+ of them. Each call is proved against the rules of the HTML Standard.
 END
 chmod -R u=rwX,go=rX "$root"
 dpkg-deb --root-owner-group -Zxz --build "$root" "$out/figpliers_${version}_amd64.deb" > /dev/null

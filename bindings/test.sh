@@ -47,6 +47,10 @@ layouts() {
     "$work/static" "$here/rows.tsv" | grep '^fig_' > "$work/layout.c"
     test "$(wc -l < "$work/layout.c")" = 13 && cmp "$work/layout.c" "$work/layout.rust" && cmp "$work/layout.c" "$work/layout.python"
 }
+links() {
+    $cc $flags -I"$here/c" "$here/c/links.c" "$out/libfigpliers.a" -o "$work/links" \
+        && test "$(echo '<p>See <a href=/a>this <b>one</b></a>,<a>no</a>' | "$work/links")" = "/a this one" && echo "C: 1 passed"
+}
 names() {
     nm -D --defined-only "$out/libfigpliers.so" | awk '{ print $3 }' | sort > "$work/names.shared"
     nm -g --defined-only "$out/libfigpliers.a" | awk 'NF == 3 { print $3 }' | sort > "$work/names.static"
@@ -56,6 +60,7 @@ names() {
 try "C, static library, sanitizers" c_static
 try "C, shared library, sanitizers" c_shared
 try "the header in C++" cpp_header
+try "C, the example of links" links
 try "C, Debian package" package
 try "Rust, static library" rust
 export LD_LIBRARY_PATH="$out"

@@ -14,8 +14,8 @@
  *
  * Room: the length of a text is in the report, also where the room was too short for it. So who has no guess makes a call
  * with no room (NULL, 0), and a second one with as much as the report says; each call reads the page anew. Of a page of 1 MB with
- * tables, lists, links and references the normal text had 1.02 times its bytes, the events had 1.78 times, and the cleaned text
- * 0.76 times; pages of short elements take more (some 40 bytes of events for each). No bound is promised. */
+ * tables, lists, links and references the normal text had 1.02 times its bytes, and the cleaned text 0.76 times; an image has 48
+ * bytes for each node, 24 for each attribute, and their texts. No bound is promised. */
 #ifndef FIGPLIERS_H
 #define FIGPLIERS_H
 
@@ -32,6 +32,7 @@ enum fig_answer {
     FIG_NOT_UTF8 = 1,         /* the page is not UTF-8: its longest front that is has `at` bytes */
     FIG_TOO_SHORT = 2,        /* the room is shorter than `length`; the report is the page's all the same */
     FIG_MEMORY = 3,           /* malloc had no memory */
+    FIG_TOO_LARGE = 4,        /* a part of the tree's image would have 2^32 bytes or more */
     FIG_TABLE_NOT_UTF8 = 16,  /* the table is not UTF-8: its longest front that is has `at` bytes */
     FIG_TABLE_LINE = 17,      /* line `at` of the table, counted from 1, is no row */
     FIG_TABLE_NAME = 18,      /* row `at` has a name that is not letters and digits of ASCII with `;` or nothing behind them */
@@ -70,27 +71,114 @@ uint32_t fig_normalise(const uint8_t *page, size_t page_length, uint8_t *output,
 uint32_t fig_normalise_with(const uint8_t *table, size_t table_length, const uint8_t *page, size_t page_length,
                             uint8_t *output, size_t room, fig_report *report);
 
-/* Writes the tree of a page as events, one behind the other, for who builds a tree of one's own. An event is a letter and what
- * it has; a text is its length in four bytes, the least first, and its bytes in UTF-8:
- *
- *   S  an element begins: its namespace (a URL), its local name, in four bytes the number of its attributes, and of each the
- *      namespace (empty for most), the local name and the value; what a template contains stands in the template
- *   E  it ends
- *   T  a text
- *   C  a comment
- *   D  a doctype: its name
- *   P  a processing instruction: what it is meant for, and its text
- *
- * A text of 4 GiB or more is answered as FIG_MEMORY. */
-uint32_t fig_events(const uint8_t *page, size_t page_length, uint8_t *output, size_t room, fig_report *report);
-uint32_t fig_events_with(const uint8_t *table, size_t table_length, const uint8_t *page, size_t page_length,
-                         uint8_t *output, size_t room, fig_report *report);
+/* Writes the image of a page's tree: its nodes with names, attributes, texts and neighbours, as one block of bytes without pointers,
+ * which docs/TREE_IMAGE.md describes and the functions below read. It may be kept in a file, or handed to another process. */
+uint32_t fig_tree(const uint8_t *page, size_t page_length, uint8_t *output, size_t room, fig_report *report);
+uint32_t fig_tree_with(const uint8_t *table, size_t table_length, const uint8_t *page, size_t page_length,
+                       uint8_t *output, size_t room, fig_report *report);
 
 /* Writes what the ready policy keeps of a page: text, links, tables and formatting, no script, no style, no event. Every reader
  * that follows the Standard is told by it just the tags and texts that were kept, wherever it is put among elements and texts.
  * fig_clean reads the page as what stands in a `div`, fig_clean_document as a document. */
 uint32_t fig_clean(const uint8_t *page, size_t page_length, uint8_t *output, size_t room, fig_cleaned *report);
 uint32_t fig_clean_document(const uint8_t *page, size_t page_length, uint8_t *output, size_t room, fig_cleaned *report);
+
+/* READING AN IMAGE
+ *
+ * These functions trust that the bytes are an image that a call above wrote. A node is a number below fig_nodes(image); node 0 is the
+ * document. A text isn't ended by a zero. */
+
+#define FIG_NO_NODE UINT32_MAX /* no node */
+
+/* What a node is, as `nodeType` of the DOM has it. */
+enum fig_kind {
+    FIG_ELEMENT = 1,
+    FIG_TEXT = 3,
+    FIG_PROCESSING_INSTRUCTION = 7,
+    FIG_COMMENT = 8,
+    FIG_DOCUMENT = 9,
+    FIG_DOCTYPE = 10,
+    FIG_CONTENTS = 11 /* what stands in a template */
+};
+
+enum fig_namespace { FIG_NO_NAMESPACE, FIG_HTML, FIG_MATHML, FIG_SVG, FIG_XLINK, FIG_XML, FIG_XMLNS, FIG_OTHER_NAMESPACE };
+
+typedef struct fig_text {
+    const char *at;
+    size_t length;
+} fig_text;
+
+typedef struct fig_attribute {
+    fig_text name, value;
+    uint32_t namespace_;
+} fig_attribute;
+
+static inline uint32_t fig_word(const uint8_t *at) {
+    return at[0] | (uint32_t)at[1] << 8 | (uint32_t)at[2] << 16 | (uint32_t)at[3] << 24;
+}
+
+/* A word of a node's record. */
+static inline uint32_t fig_of(const uint8_t *image, uint32_t node, int word) {
+    return fig_word(image + 32 + (size_t)node * 48 + (size_t)word * 4);
+}
+
+static inline uint32_t fig_nodes(const uint8_t *image) { return fig_word(image + 8) / 48; }
+static inline uint32_t fig_kind_of(const uint8_t *image, uint32_t node) { return fig_of(image, node, 0) & 255; }
+static inline uint32_t fig_namespace_of(const uint8_t *image, uint32_t node) { return fig_of(image, node, 0) >> 8 & 255; }
+static inline uint32_t fig_parent(const uint8_t *image, uint32_t node) { return fig_of(image, node, 1); }
+static inline uint32_t fig_first_child(const uint8_t *image, uint32_t node) { return fig_of(image, node, 2); }
+static inline uint32_t fig_last_child(const uint8_t *image, uint32_t node) { return fig_of(image, node, 3); }
+static inline uint32_t fig_previous(const uint8_t *image, uint32_t node) { return fig_of(image, node, 4); }
+static inline uint32_t fig_next(const uint8_t *image, uint32_t node) { return fig_of(image, node, 5); }
+
+/* The contents of a template; FIG_NO_NODE for every other node. */
+static inline uint32_t fig_contents(const uint8_t *image, uint32_t node) {
+    return fig_kind_of(image, node) == FIG_ELEMENT ? fig_of(image, node, 10) : FIG_NO_NODE;
+}
+
+/* A text by its place and its length. */
+static inline fig_text fig_text_at(const uint8_t *image, uint32_t place, uint32_t length) {
+    fig_text it;
+    it.at = (const char *)image + 32 + (size_t)fig_word(image + 8) + fig_word(image + 12) + place;
+    it.length = length;
+    return it;
+}
+
+/* An element's local name, the characters of a text or a comment, a doctype's name, the target of a processing instruction. */
+static inline fig_text fig_text_of(const uint8_t *image, uint32_t node) {
+    return fig_text_at(image, fig_of(image, node, 6), fig_of(image, node, 7));
+}
+
+/* How many attributes a node has. */
+static inline uint32_t fig_attributes(const uint8_t *image, uint32_t node) {
+    return fig_kind_of(image, node) == FIG_ELEMENT ? fig_of(image, node, 9) : 0;
+}
+
+/* An attribute of an element, by its number, which is less than fig_attributes(image, node). */
+static inline fig_attribute fig_attribute_of(const uint8_t *image, uint32_t node, uint32_t number) {
+    const uint8_t *at = image + 32 + (size_t)fig_word(image + 8) + fig_of(image, node, 8) + (size_t)number * 24;
+    fig_attribute it;
+    it.name = fig_text_at(image, fig_word(at), fig_word(at + 4));
+    it.value = fig_text_at(image, fig_word(at + 8), fig_word(at + 12));
+    it.namespace_ = fig_word(at + 16);
+    return it;
+}
+
+/* The node that follows one in tree order below `top`, or FIG_NO_NODE. Begin with `top` itself; what stands in a template comes as
+ * its children. */
+static inline uint32_t fig_following(const uint8_t *image, uint32_t top, uint32_t node) {
+    uint32_t inner = fig_contents(image, node);
+    uint32_t next = fig_first_child(image, inner == FIG_NO_NODE ? node : inner);
+    while (next == FIG_NO_NODE && node != top) {
+        next = fig_next(image, node);
+        if (next == FIG_NO_NODE) {
+            node = fig_parent(image, node);
+            if (node != top && fig_kind_of(image, node) == FIG_CONTENTS)
+                node -= 1; /* the template */
+        }
+    }
+    return next;
+}
 
 #ifdef __cplusplus
 }

@@ -75,8 +75,8 @@ static told call(const char *name, bytes table, bytes page, uint8_t *output, siz
     fig_report r;
     memset(&r, 0xA5, sizeof r);
     if (!strcmp(name, "normalise")) it.answer = fig_normalise(page.at, page.length, output, room, &r);
-    else if (!strcmp(name, "events")) it.answer = fig_events(page.at, page.length, output, room, &r);
-    else it.answer = (strcmp(name, "events_with") ? fig_normalise_with : fig_events_with)(
+    else if (!strcmp(name, "tree")) it.answer = fig_tree(page.at, page.length, output, room, &r);
+    else it.answer = (strcmp(name, "tree_with") ? fig_normalise_with : fig_tree_with)(
              table.at, table.length, page.at, page.length, output, room, &r);
     it.length = r.length;
     snprintf(it.numbers, sizeof it.numbers, "%s,%llu,%u,%u", r.errors ? "+" : "0", (unsigned long long)r.at, r.quirks, r.plain);
@@ -126,6 +126,43 @@ static void rows(const char *path) {
     fclose(file);
 }
 
+static int is_text(fig_text text, const char *word) { return text.length == strlen(word) && !memcmp(text.at, word, text.length); }
+
+/* An image, read by the functions of the header. */
+static void image(void) {
+    static const char page[] = "<!DOCTYPE html><p id=a>b<svg xlink:href=c></svg></p><template><i>d</i></template>e<!--f-->";
+    static const char *const names[] = {"html", "html", "head", "body", "p", "b", "svg", "template", "i", "d", "e", "f"};
+    fig_report report;
+    uint8_t *tree, *moved;
+    fig_tree((const uint8_t *)page, sizeof page - 1, NULL, 0, &report);
+    tree = memory(report.length);
+    check(fig_tree((const uint8_t *)page, sizeof page - 1, tree, report.length, &report) == FIG_DONE, "an image", 0);
+    moved = memory(report.length);
+    memcpy(moved, tree, report.length);
+    free(tree);
+    uint32_t node = 0, seen = 0, contents = 0;
+    while ((node = fig_following(moved, 0, node)) != FIG_NO_NODE) {
+        if (fig_kind_of(moved, node) == FIG_CONTENTS) {
+            contents++;
+            continue;
+        }
+        check(seen < 12 && is_text(fig_text_of(moved, node), names[seen]), "a node in tree order", (int)seen);
+        if (fig_attributes(moved, node)) {
+            fig_attribute it = fig_attribute_of(moved, node, 0);
+            int is_svg = fig_namespace_of(moved, node) == FIG_SVG;
+            check(is_text(it.name, is_svg ? "xlink:href" : "id") && is_text(it.value, is_svg ? "c" : "a"), "an attribute", (int)seen);
+            check(it.namespace_ == (is_svg ? FIG_XLINK : FIG_NO_NAMESPACE), "an attribute's namespace", (int)seen);
+        }
+        seen++;
+    }
+    check(seen == 12 && !contents, "all nodes", 0);
+    node = fig_first_child(moved, fig_last_child(moved, fig_last_child(moved, 0)));
+    check(is_text(fig_text_of(moved, node), "p") && fig_previous(moved, fig_next(moved, node)) == node, "siblings", 0);
+    check(fig_parent(moved, fig_parent(moved, fig_parent(moved, node))) == 0 && fig_parent(moved, 0) == FIG_NO_NODE, "parents", 0);
+    check(fig_nodes(moved) == 14, "the number of nodes", 0);
+    free(moved);
+}
+
 /* A page of many bytes, elements that are deeply nested, and its text in each direction of the border. */
 static void large(void) {
     size_t count = 100000, length = 0;
@@ -152,6 +189,7 @@ int main(int argc, char **argv) {
     ALL(fig_cleaned, attributes), ALL(fig_cleaned, comments);
     printf("fig_report %zu\nfig_cleaned %zu\n", sizeof(fig_report), sizeof(fig_cleaned));
     rows(argv[1]);
+    image();
     large();
     printf("C: %d passed, %d failed\n", passed, failed);
     return failed != 0;

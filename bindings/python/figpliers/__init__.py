@@ -1,10 +1,12 @@
-"""Figpliers, a verified HTML parser: the normal text of a page, its tree as events, and what a sanitizer keeps of it.
+"""Figpliers, a verified HTML parser: the normal text of a page, its tree, and what a sanitizer keeps of it.
 
 >>> text, report = normalise("<!DOCTYPE html><p>caf&eacute;")
 >>> text
 '<!DOCTYPE html><html><head></head><body><p>café</p></body></html>'
 >>> report
 Report(errors=0, quirks='no', plain=True)
+>>> [link.attrs["href"] for link in parse("<p><a href=/b>c</a>").elements("a")]
+['/b']
 >>> clean("<b onclick=x>a</b><script>b</script>")[0]
 '<b>a</b>'
 
@@ -13,17 +15,27 @@ threads run while one is made.
 """
 import ctypes
 import os
-import struct
-from typing import Callable, Iterator, List, NamedTuple, Optional, Tuple, Union
+from typing import Callable, List, NamedTuple, Optional, Tuple, Union
 from xml.etree.ElementTree import Element, TreeBuilder
 
-__all__ = ["Cleaned", "Event", "Fault", "Report", "clean", "clean_document", "element", "events", "normalise"]
+from .tree import NAMESPACES, Attributes, Document, Node
+
+__all__ = [
+    "Attributes",
+    "Cleaned",
+    "Document",
+    "Fault",
+    "Node",
+    "Report",
+    "clean",
+    "clean_document",
+    "element",
+    "normalise",
+    "parse",
+]
 __version__ = "0.1.0"
 
 Page = Union[str, bytes, bytearray]
-#: ("start", namespace, name, [(namespace, name, value), ..]), ("end",), ("text", text), ("comment", text), ("doctype", name) or
-#: ("processing instruction", target, text)
-Event = Tuple
 
 
 class Report(NamedTuple):
@@ -50,6 +62,7 @@ class Fault(ValueError):
 
     _WORDS = {
         1: "the page is not UTF-8 at byte {}",
+        4: "the tree is too large for an image",
         16: "the table is not UTF-8 at byte {}",
         17: "line {} of the table is no row",
         18: "row {} of the table has a bad name",
@@ -96,8 +109,8 @@ def _declared(name: str, texts: int, report: type) -> Callable[..., int]:
 
 _normalise = _declared("fig_normalise", 1, _Report)
 _normalise_with = _declared("fig_normalise_with", 2, _Report)
-_events = _declared("fig_events", 1, _Report)
-_events_with = _declared("fig_events_with", 2, _Report)
+_tree = _declared("fig_tree", 1, _Report)
+_tree_with = _declared("fig_tree_with", 2, _Report)
 _clean = _declared("fig_clean", 1, _Cleaned)
 _clean_document = _declared("fig_clean_document", 1, _Cleaned)
 
@@ -146,61 +159,37 @@ def normalise(page: Page, table: Optional[Page] = None) -> Tuple[str, Report]:
     return text.decode(), _told(report)
 
 
-def events(page: Page, table: Optional[Page] = None) -> Tuple[List[Event], Report]:
-    """The tree of a page as events, for who builds a tree of one's own. Raises Fault or MemoryError."""
-    data, report = _by(_events, _events_with, page, table, 16, 1024)
-    return list(_read_events(bytes(data))), _told(report)
-
-
-def _read_events(data: bytes) -> Iterator[Event]:
-    at = 0
-
-    def number() -> int:
-        nonlocal at
-        at += 4
-        return struct.unpack_from("<I", data, at - 4)[0]
-
-    def text() -> str:
-        nonlocal at
-        length = number()
-        at += length
-        return data[at - length : at].decode()
-
-    while at < len(data):
-        letter = data[at : at + 1]
-        at += 1
-        if letter == b"S":
-            namespace, name = text(), text()
-            yield "start", namespace, name, [(text(), text(), text()) for _ in range(number())]
-        elif letter == b"E":
-            yield ("end",)
-        elif letter == b"T":
-            yield "text", text()
-        elif letter == b"C":
-            yield "comment", text()
-        elif letter == b"D":
-            yield "doctype", text()
-        elif letter == b"P":
-            yield "processing instruction", text(), text()
-        else:
-            raise AssertionError(letter)
+def parse(page: Page, table: Optional[Page] = None) -> Document:
+    """The document of a page. `table` is as in `normalise`. Raises Fault or MemoryError."""
+    image, _ = _by(_tree, _tree_with, page, table, 24, 1024)
+    return Document(bytes(image))
 
 
 def element(page: Page, table: Optional[Page] = None) -> Element:
-    """The document element of a page as xml.etree's; names of SVG and MathML have their namespace in braces."""
-    html = "http://www.w3.org/1999/xhtml"
+    """The document element of a page as xml.etree's, which cannot write it back as HTML.
+
+    Names of SVG and MathML have their namespace in braces; what stands in a template is left out.
+    """
     builder = TreeBuilder(insert_comments=True)
-    names: List[str] = []
-    for event in events(page, table)[0]:
-        if event[0] == "start":
-            names.append(event[2] if event[1] == html else "{%s}%s" % event[1:3])
-            builder.start(names[-1], {("{%s}%s" % it[:2] if it[0] else it[1]): it[2] for it in event[3]})
-        elif event[0] == "end":
-            builder.end(names.pop())
-        elif names and event[0] == "text":
-            builder.data(event[1])
-        elif names and event[0] == "comment":
-            builder.comment(event[1])
+    open_nodes: List[Tuple[Node, str]] = []
+    node = parse(page, table).root
+    while node is not None:
+        if node.kind == "element":
+            name = node.name if node.namespace == NAMESPACES[1] else "{%s}%s" % (node.namespace, node.name)
+            builder.start(name, {("{%s}%s" % it[:2] if it[0] else it[1]): it[2] for it in node.attrs.namespaced()})
+            open_nodes.append((node, name))
+            following = node.first_child
+        else:
+            if node.kind == "text":
+                builder.data(node.data)
+            elif node.kind == "comment":
+                builder.comment(node.data)
+            following = node.next
+        while following is None and open_nodes:
+            ended, name = open_nodes.pop()
+            builder.end(name)
+            following = ended.next if open_nodes else None
+        node = following
     return builder.close()
 
 

@@ -2,7 +2,6 @@
 import ctypes
 import doctest
 import os
-import struct
 import sys
 import threading
 
@@ -37,26 +36,6 @@ def unescaped(field):
     return bytes(made)
 
 
-def counted(text):
-    data = text.encode()
-    return struct.pack("<I", len(data)) + data
-
-
-def bytes_of(events):
-    """Events as bytes again."""
-    made = b""
-    for event in events:
-        if event[0] == "start":
-            made += b"S" + counted(event[1]) + counted(event[2]) + struct.pack("<I", len(event[3]))
-            made += b"".join(counted(it) for attribute in event[3] for it in attribute)
-        elif event[0] == "end":
-            made += b"E"
-        else:
-            letter = {"text": b"T", "comment": b"C", "doctype": b"D", "processing instruction": b"P"}[event[0]]
-            made += letter + b"".join(counted(it) for it in event[1:])
-    return made
-
-
 def called(name, table, page):
     """Answer, numbers and text of a row's call."""
     try:
@@ -64,9 +43,14 @@ def called(name, table, page):
             text, counts = getattr(figpliers, name)(page)
             return 0, ",".join(map(str, (0, *counts))), text.encode()
         words = (page, table) if name.endswith("_with") else (page,)
-        text, report = getattr(figpliers, name.replace("_with", ""))(*words)
+        if name.startswith("tree"):
+            document = figpliers.parse(*words)
+            text, report = document.image, figpliers.normalise(*words)[1]
+            check((document.errors, document.quirks) == (report.errors, report.quirks), "the header of an image")
+        else:
+            text, report = figpliers.normalise(*words)
         numbers = f"{'+' if report.errors else 0},0,{('no', 'limited', 'yes').index(report.quirks)},{int(report.plain)}"
-        return 0, numbers, text.encode() if isinstance(text, str) else bytes_of(text)
+        return 0, numbers, text.encode() if isinstance(text, str) else text
     except figpliers.Fault as fault:
         numbers = f"{fault.at},0,0,0,0" if name.startswith("clean") else f"0,{fault.at},0,0"
         return fault.answer, numbers, b""
@@ -99,12 +83,24 @@ for thread in threads:
 for thread in threads:
     thread.join()
 check(figpliers.normalise("<p>" * 1000)[0].count("</p>") == 1000, "where the first guess of room is too short")
-check(len(figpliers.events("<p>" * 1000)[0]) == 2006, "many events")
+many = figpliers.parse("<p>" * 1000)
+check(len(many.elements("p")) == 1000, "many elements")
+check(len(list(figpliers.parse("<div>" * 20000).walk())) == 20003, "deep elements")
+check(figpliers.Document(many.image).root.last_child.last_child.previous.parent.name == "body", "an image that was handed on")
+odd = figpliers.parse("<!DOCTYPE a PUBLIC b><svg xlink:href=c><title>d</title></svg><template><i>e</i></template><?f>")
+check(odd.first_child.identifiers == ("b", "") and odd.first_child.name == "a", "a doctype")
+check(list(odd.elements("svg", figpliers.NAMESPACES[3])[0].attrs.items()) == [("xlink:href", "c")], "an attribute with a prefix")
+[template] = odd.elements("template")
+check(template.children == [] and template.contents.text() == "e" and template.text() == "", "the contents of a template")
+check(odd.text() == "d" and odd.root.last_child.last_child.data == "?f", "texts")
+check(template.attrs == {} and not template.contents.parent and template.next.kind == "comment", "nodes beside a template")
 top = figpliers.element("<!DOCTYPE html><p id=a>b<svg><path/></svg>c")
 check(top.find("body/p").get("id") == "a", "an element")
 check(top.find("body/p/{http://www.w3.org/2000/svg}svg").tail == "c", "an element of SVG")
-outcome = doctest.testmod(figpliers)
-check(outcome.failed == 0 and outcome.attempted == 4, "the examples")
+check(len(figpliers.element("<p>" * 1000).find("body")) == 1000, "many elements of etree")
+for module, examples in ((figpliers, 5), (figpliers.tree, 6)):
+    outcome = doctest.testmod(module)
+    check(outcome.failed == 0 and outcome.attempted == examples, f"the examples of {module.__name__}")
 if "FIGPLIERS_LAYOUT" in os.environ:
     with open(os.environ["FIGPLIERS_LAYOUT"], "w") as file:
         file.write("\n".join(layout()) + "\n")

@@ -1,4 +1,4 @@
-//! Figpliers, a verified HTML parser: the normal text of a page, its tree as events, and what a sanitizer keeps of it.
+//! Figpliers, a verified HTML parser: the normal text of a page, its tree, and what a sanitizer keeps of it.
 //!
 //! ```
 //! let (text, report) = figpliers::normalise("<!DOCTYPE html><p>caf&eacute;")?;
@@ -14,10 +14,10 @@
 //! no memory and hands none out, so what is owned here is a `String` or a `Vec` and needs no `Drop` of its own. Calls share
 //! nothing and may be made from any thread.
 
-mod events;
 mod sys;
+mod tree;
 
-pub use events::{Attribute, Event, Events, Iter};
+pub use tree::{Attribute, Document, Kind, Namespace, Node};
 
 use std::fmt;
 use sys::{FigCleaned, FigReport};
@@ -31,6 +31,16 @@ pub enum Quirks {
     Limited,
     /// Laid out as old browsers did.
     Yes,
+}
+
+impl Quirks {
+    fn new(number: u32) -> Quirks {
+        match number {
+            0 => Quirks::No,
+            1 => Quirks::Limited,
+            _ => Quirks::Yes,
+        }
+    }
 }
 
 /// What is told of a page.
@@ -65,6 +75,8 @@ pub enum Fault {
     NotUtf8 { at: u64 },
     /// There was not enough memory.
     Memory,
+    /// A part of the tree's image would have 2^32 bytes or more.
+    TooLarge,
     /// The table is not UTF-8; its longest front that is has `at` bytes.
     TableNotUtf8 { at: u64 },
     /// A line of the table, counted from 1, is no row.
@@ -84,6 +96,7 @@ impl Fault {
         match answer {
             1 => Fault::NotUtf8 { at },
             3 => Fault::Memory,
+            4 => Fault::TooLarge,
             16 => Fault::TableNotUtf8 { at },
             17 => Fault::TableLine { line: at },
             18 => Fault::TableName { row: at },
@@ -99,6 +112,7 @@ impl fmt::Display for Fault {
         match self {
             Fault::NotUtf8 { at } => write!(f, "the page is not UTF-8 at byte {at}"),
             Fault::Memory => write!(f, "no memory was left"),
+            Fault::TooLarge => write!(f, "the tree is too large for an image"),
             Fault::TableNotUtf8 { at } => write!(f, "the table is not UTF-8 at byte {at}"),
             Fault::TableLine { line } => write!(f, "line {line} of the table is no row"),
             Fault::TableName { row } => write!(f, "row {row} of the table has a bad name"),
@@ -178,11 +192,7 @@ fn text_of(bytes: Vec<u8>) -> String {
 fn report_of(told: FigReport) -> Report {
     Report {
         errors: told.errors,
-        quirks: match told.quirks {
-            0 => Quirks::No,
-            1 => Quirks::Limited,
-            _ => Quirks::Yes,
-        },
+        quirks: Quirks::new(told.quirks.into()),
         plain: told.plain != 0,
     }
 }
@@ -201,9 +211,9 @@ fn text_guess(page: &[u8]) -> usize {
     page.len() + page.len() / 4 + 256
 }
 
-/// Room that is enough for most pages' events.
-fn events_guess(page: &[u8]) -> usize {
-    4 * page.len() + 1024
+/// Room that is enough for most pages' trees.
+fn tree_guess(page: &[u8]) -> usize {
+    6 * page.len() + 1024
 }
 
 /// The normal text of a page: that of the document which the HTML Standard gives it.
@@ -225,20 +235,20 @@ pub fn normalise_with(table: impl AsRef<[u8]>, page: impl AsRef<[u8]>) -> Result
     Ok((text_of(text), report_of(told)))
 }
 
-/// The tree of a page as events, for who builds a tree of one's own.
+/// The document of a page, with its tree.
 ///
-/// Errors: as of [`normalise`]; [`Fault::Memory`] also where a text has 4 GiB or more.
-pub fn events(page: impl AsRef<[u8]>) -> Result<(Events, Report), Fault> {
+/// Errors: as of [`normalise`]; [`Fault::TooLarge`] for a tree of some 80 million nodes or 4 GiB of texts.
+pub fn parse(page: impl AsRef<[u8]>) -> Result<Document, Fault> {
     let page = page.as_ref();
-    let (bytes, told) = by_standard(sys::fig_events, page, events_guess(page))?;
-    Ok((Events::new(bytes), report_of(told)))
+    let (image, _) = by_standard(sys::fig_tree, page, tree_guess(page))?;
+    Ok(Document::new(image))
 }
 
 /// The same by a table of references, as [`normalise_with`] has it.
-pub fn events_with(table: impl AsRef<[u8]>, page: impl AsRef<[u8]>) -> Result<(Events, Report), Fault> {
+pub fn parse_with(table: impl AsRef<[u8]>, page: impl AsRef<[u8]>) -> Result<Document, Fault> {
     let page = page.as_ref();
-    let (bytes, told) = by_table(sys::fig_events_with, table.as_ref(), page, events_guess(page))?;
-    Ok((Events::new(bytes), report_of(told)))
+    let (image, _) = by_table(sys::fig_tree_with, table.as_ref(), page, tree_guess(page))?;
+    Ok(Document::new(image))
 }
 
 /// What the ready policy keeps of a page, read as what stands in a `div`: text, links, tables and formatting.

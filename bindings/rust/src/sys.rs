@@ -29,8 +29,8 @@ extern "C" {
     pub fn fig_normalise_with(
         table: *const u8, table_length: usize, page: *const u8, page_length: usize, output: *mut u8, room: usize, report: *mut FigReport,
     ) -> u32;
-    pub fn fig_events(page: *const u8, page_length: usize, output: *mut u8, room: usize, report: *mut FigReport) -> u32;
-    pub fn fig_events_with(
+    pub fn fig_tree(page: *const u8, page_length: usize, output: *mut u8, room: usize, report: *mut FigReport) -> u32;
+    pub fn fig_tree_with(
         table: *const u8, table_length: usize, page: *const u8, page_length: usize, output: *mut u8, room: usize, report: *mut FigReport,
     ) -> u32;
     pub fn fig_clean(page: *const u8, page_length: usize, output: *mut u8, room: usize, report: *mut FigCleaned) -> u32;

@@ -1,6 +1,6 @@
 //! The rows that all bindings are tested with, from several threads.
 
-use figpliers::{Cleaned, Event, Fault, Quirks, Report};
+use figpliers::{Cleaned, Document, Fault, Kind, Namespace, Quirks, Report};
 
 fn unescaped(field: &str) -> Vec<u8> {
     let (mut bytes, mut left) = (Vec::new(), field.as_bytes().iter().copied());
@@ -23,38 +23,6 @@ fn unescaped(field: &str) -> Vec<u8> {
     bytes
 }
 
-fn put(bytes: &mut Vec<u8>, text: &str) {
-    bytes.extend((text.len() as u32).to_le_bytes());
-    bytes.extend(text.as_bytes());
-}
-
-/// Events as bytes again.
-fn bytes_of(events: &figpliers::Events) -> Vec<u8> {
-    let mut bytes = Vec::new();
-    for event in events {
-        match event {
-            Event::Start { namespace, name, attributes } => {
-                bytes.push(b'S');
-                put(&mut bytes, namespace);
-                put(&mut bytes, name);
-                bytes.extend((attributes.len() as u32).to_le_bytes());
-                for it in attributes {
-                    put(&mut bytes, it.namespace);
-                    put(&mut bytes, it.name);
-                    put(&mut bytes, it.value);
-                }
-            }
-            Event::End => bytes.push(b'E'),
-            Event::Text(text) => (bytes.push(b'T'), put(&mut bytes, text)).1,
-            Event::Comment(text) => (bytes.push(b'C'), put(&mut bytes, text)).1,
-            Event::Doctype(name) => (bytes.push(b'D'), put(&mut bytes, name)).1,
-            Event::ProcessingInstruction(target, text) => (bytes.push(b'P'), put(&mut bytes, target), put(&mut bytes, text)).2,
-        }
-    }
-    assert_eq!(bytes, events.as_bytes());
-    bytes
-}
-
 fn told(report: Report) -> String {
     let quirks = match report.quirks {
         Quirks::No => 0,
@@ -62,6 +30,12 @@ fn told(report: Report) -> String {
         Quirks::Yes => 2,
     };
     format!("{},0,{quirks},{}", if report.errors == 0 { "0" } else { "+" }, report.plain as u8)
+}
+
+/// The image of a document, and what is told of its page.
+fn image_of(document: Document, report: Report) -> (Vec<u8>, String) {
+    assert_eq!((document.errors(), document.quirks()), (report.errors, report.quirks));
+    (document.as_bytes().to_vec(), told(report))
 }
 
 fn counted(counts: Cleaned) -> String {
@@ -85,8 +59,8 @@ fn call(name: &str, table: &[u8], page: &[u8]) -> Result<(Vec<u8>, String), Faul
     Ok(match name {
         "normalise" => figpliers::normalise(page).map(|(text, report)| (text.into_bytes(), told(report)))?,
         "normalise_with" => figpliers::normalise_with(table, page).map(|(text, report)| (text.into_bytes(), told(report)))?,
-        "events" => figpliers::events(page).map(|(events, report)| (bytes_of(&events), told(report)))?,
-        "events_with" => figpliers::events_with(table, page).map(|(events, report)| (bytes_of(&events), told(report)))?,
+        "tree" => image_of(figpliers::parse(page)?, figpliers::normalise(page)?.1),
+        "tree_with" => image_of(figpliers::parse_with(table, page)?, figpliers::normalise_with(table, page)?.1),
         "clean" => figpliers::clean(page).map(|(text, counts)| (text.into_bytes(), counted(counts)))?,
         "clean_document" => figpliers::clean_document(page).map(|(text, counts)| (text.into_bytes(), counted(counts)))?,
         other => panic!("{other}"),
@@ -129,5 +103,28 @@ fn all_rows_from_each_thread() {
 fn long_texts() {
     let page = "<p>".repeat(1000);
     assert_eq!(figpliers::normalise(&page).unwrap().0.matches("</p>").count(), 1000);
-    assert_eq!(figpliers::events(&page).unwrap().0.iter().filter(|it| *it == Event::End).count(), 1003);
+    let document = figpliers::parse(&page).unwrap();
+    assert_eq!(document.root().descendants().filter(|it| it.name() == "p").count(), 1000);
+    let deep = figpliers::parse("<div>".repeat(20000)).unwrap();
+    assert_eq!(deep.root().descendants().count(), 20003);
+}
+
+/// What is read of a tree.
+#[test]
+fn trees() {
+    let page = "<!DOCTYPE a PUBLIC b><p id=c>d<svg xlink:href=e></svg></p><template><i>f</i></template>g<?h>";
+    let document = figpliers::parse(page).unwrap();
+    let doctype = document.root().first_child().unwrap();
+    assert_eq!((doctype.kind(), doctype.name(), doctype.identifiers()), (Kind::Doctype, "a", Some(("b", ""))));
+    let names: Vec<_> = document.root().descendants().map(|it| if it.name().is_empty() { it.data() } else { it.name() }).collect();
+    assert_eq!(names, ["a", "html", "head", "body", "p", "d", "svg", "template", "g", "?h"]);
+    let p = document.root().descendants().find(|it| it.name() == "p").unwrap();
+    assert_eq!((p.attribute("id"), p.text().as_str(), p.namespace()), (Some("c"), "d", Namespace::Html));
+    let svg = p.last_child().unwrap();
+    let href = svg.attributes().next().unwrap();
+    assert_eq!((svg.namespace(), href.name, href.value, href.namespace), (Namespace::Svg, "xlink:href", "e", Namespace::XLink));
+    let template = p.next_sibling().unwrap();
+    assert_eq!((template.children().count(), template.text().as_str()), (0, ""));
+    assert_eq!(template.contents().unwrap().text(), "f");
+    assert_eq!(template.previous_sibling().and_then(|it| it.parent()), p.parent());
 }

@@ -9,8 +9,8 @@ use Rattle.html_ffi.specs.Reports.{cleaned_of, nothing_at, nothing_cleaned_at, r
 use Rattle.html_ffi.specs.declared.report.FigCleaned.{FigCleaned}
 use Rattle.html_ffi.specs.declared.report.FigReport.{FigReport}
 use Rattle.html_ffi.specs.declared.answer.Answer.{Answer}
-use Rattle.html_ffi.specs.declared.answer.Answer.TheVariants.{Done, NotUtf8, TooShort, Memory, TableNotUtf8, TableLine}
-use Rattle.html_ffi.specs.declared.answer.Answer.TheVariants.{TableName, TableDuplicate, TableValue}
+use Rattle.html_ffi.specs.declared.answer.Answer.TheVariants.{Done, NotUtf8, TooShort, Memory, TooLarge, TableNotUtf8}
+use Rattle.html_ffi.specs.declared.answer.Answer.TheVariants.{TableLine, TableName, TableDuplicate, TableValue}
 
 module _ (Makes : List ℕ → Type 0) (None : Type 0) (file page : List ℕ) (at : ℕ) (old new : List ℕ) where
   -- a text that was made was put in front of the room, or is too long for it
@@ -19,6 +19,7 @@ module _ (Makes : List ℕ → Type 0) (None : Type 0) (file page : List ℕ) (a
   put-means text NotUtf8 made is = absurd is
   put-means text TooShort made is = record { text = text; made = made; short = is.0; same = is.1 }
   put-means text Memory made is = absurd is
+  put-means text TooLarge made is = absurd is
   put-means text TableNotUtf8 made is = absurd is
   put-means text TableLine made is = absurd is
   put-means text TableName made is = absurd is
@@ -31,6 +32,7 @@ module _ (Makes : List ℕ → Type 0) (None : Type 0) (file page : List ℕ) (a
   none-means NotUtf8 why none same = record { why = why; none = none; same = same }
   none-means TooShort why none same = absurd why
   none-means Memory why none same = record { why = why; none = none; same = same }
+  none-means TooLarge why none same = record { why = why; none = none; same = same }
   none-means TableNotUtf8 why none same = record { why = why; none = none; same = same }
   none-means TableLine why none same = record { why = why; none = none; same = same }
   none-means TableName why none same = record { why = why; none = none; same = same }

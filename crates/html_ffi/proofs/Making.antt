@@ -1,12 +1,10 @@
 -- What was made of a page in memory, and why nothing was.
-use Rattle.std.proofs.Common.{◌∙◌, ◌≡◌, ℕ, cond, false, List, [], Option, Some, ap, refl, subst, sym, encode_utf8_all}
+use Rattle.std.proofs.Common.{◌∙◌, ◌≡◌, ℕ, true, false, List, [], Option, Some, ap, refl, subst, sym, encode_utf8_all}
 use Rattle.std.specs.Io.KnownBytes.{append_known}
 use Rattle.std.specs.Str.{IsValidUpTo, chars}
-use Rattle.markup.specs.Calls.{calls_of}
-use Rattle.markup.specs.Forest.{Forest, children_of, data_of, template_of}
-use Rattle.markup.specs.Forest.NodeData.{Document}
+use Rattle.markup.specs.Forest.{Forest}
 use Rattle.markup.specs.TreeLaws.{with_errors}
-use Rattle.markup.specs.Trees.{Trees, inner_of, trees_of}
+use Rattle.markup.specs.Trees.{Trees}
 use Rattle.html_clean.specs.Pieces.{written_pieces}
 use Rattle.html_clean.specs.declared.counts.Cleaned.{Cleaned}
 use Rattle.html_clean.specs.declared.policy.Policy.{Policy}
@@ -17,15 +15,18 @@ use Rattle.html_input.specs.declared.table.TableFileFault.TheVariants as file
 use Rattle.html_tokens.specs.declared.table.TableFault.{TableFault}
 use Rattle.html_tokens.specs.declared.table.TableFault.TheVariants as table
 use Rattle.html_tokens.specs.Table.{Row}
-use Rattle.html_events.specs.Events.{all_event_bytes}
-use Rattle.html_normal.proofs.SameTrees.{plain-same, trees_of-same}
-use Rattle.html_normal.specs.Document.{CountsErrors, document_bytes, document_trees}
+use Rattle.html_normal.proofs.SameTrees.{plain-same}
+use Rattle.html_normal.specs.Document.{CountsErrors, document_bytes}
 use Rattle.html_normal.specs.Normal.{IsNormalised, IsRead}
 use Rattle.html_normal.specs.declared.fault.NormalFault.{NormalFault}
 use Rattle.html_normal.specs.declared.fault.NormalFault.TheVariants as normal
 use Rattle.html_normal.specs.declared.report.Report.{Report}
-use Rattle.html_ffi.specs.Answers.{Fails, failure_of, table_failure_of}
-use Rattle.html_ffi.specs.Calls.{IsNormalText, IsToldOf, IsTreeText}
+use Rattle.html_tree_image.proofs.Same.{too-large-same}
+use Rattle.html_tree_image.specs.Image.{image_of, is_too_large}
+use Rattle.html_tree_image.specs.declared.image.ImageFault.{ImageFault}
+use Rattle.html_tree_image.specs.declared.image.ImageFault.TheVariants as image
+use Rattle.html_ffi.specs.Answers.{Fails, FailsOver, IsTooLarge, failure_of, image_failure_of, table_failure_of}
+use Rattle.html_ffi.specs.Calls.{IsNormalText, IsToldOf, IsTreeImage}
 use Rattle.html_ffi.specs.declared.answer.Failure.{Failure}
 
 table-fails : (bytes page left : List ℕ) (fault : TableFileFault) → IsTableFault (Some bytes) (Some left) fault
@@ -76,31 +77,42 @@ normal-made file page rows left old written told table none n = record {
   };
 }
 
--- the events of what stands in the document's node are those of its trees
-pub events-are : (f : Forest) (id : ℕ) (bytes : List ℕ) → data_of f 0 ≡ Document → id ≡ 0 → bytes ≡ all_event_bytes
-    (calls_of (trees_of f (inner_of f id))) → bytes ≡ all_event_bytes (calls_of (document_trees f))
-events-are f id bytes first is given =
-    given ∙ ap (λ n. all_event_bytes (calls_of (trees_of f (inner_of f n)))) is
-    ∙ ap (λ about. all_event_bytes (calls_of (trees_of f (children_of f (cond (template_of about) 1 0))))) first
+-- why a forest has no image
+pub image-failed : (f : Forest) (fault : ImageFault) (made : Failure) → made ≡ image_failure_of fault
+    → (fault ≡ image.TooLarge → is_too_large f ≡ true) → FailsOver f made.answer made.at
+image-failed f image.Memory made is large file page = λ over. subst (λ (m : Failure). Fails file page m.answer m.at) (sym is) refl
+image-failed f image.TooLarge made is large file page = λ over.
+    subst (λ (m : Failure). Fails file page m.answer m.at) (sym is) (refl, over (large refl))
 
 -- what was read to its end
 pub read-made : (rows : List Row) (page : List ℕ) (left : Option (List ℕ)) (document : Forest) (errors : ℕ)
     → IsRead rows false page left document errors → IsRead rows false page (Some []) document errors
 read-made rows page left document errors read = record { input = read.input; taken = refl; counts = read.counts }
 
--- the tree of a page that was read to its end
-pub tree-made : (file page : List ℕ) (rows : List Row) (f : Forest) (bytes : List ℕ) (told : Report)
+-- the image of a page that was read to its end
+pub image-made : (file page : List ℕ) (rows : List Row) (f : Forest) (bytes : List ℕ) (told : Report)
     → IsTableFile file (Some []) rows → IsRead rows false page (Some []) (with_errors 0 f) f.errors
-    → IsToldOf f bytes told → IsTreeText file page bytes told
-tree-made file page rows f bytes told table read is = record {
+    → IsToldOf f bytes told → IsTreeImage file page bytes told
+image-made file page rows f bytes told table read is = record {
   rows = rows;
   table = table;
   document = with_errors 0 f;
   input = read.input;
-  events = is.events ∙ ap (λ trees. all_event_bytes (calls_of trees)) (sym (trees_of-same 0 f (children_of f 0)));
+  image = is.image ∙ ap (λ n. image_of (with_errors n f)) (sym is.errors);
   plain = is.plain ∙ sym (plain-same 0 f);
   quirks = is.quirks;
   errors = subst (λ (n : ℕ). CountsErrors rows false (chars page) n) (sym is.errors) read.counts;
+}
+
+-- the image of a page that was read to its end is too large
+pub large-made : (file page : List ℕ) (rows : List Row) (f : Forest) → IsTableFile file (Some []) rows
+    → IsRead rows false page (Some []) (with_errors 0 f) f.errors → is_too_large f ≡ true → IsTooLarge file page
+large-made file page rows f table read large = record {
+  rows = rows;
+  table = table;
+  document = with_errors 0 f;
+  input = read.input;
+  large = too-large-same 0 f ∙ large;
 }
 
 -- what a policy keeps of a page, written to a writer with nothing in it

@@ -1,16 +1,22 @@
 -- What a call answers, and what that says of the caller's room.
-use Rattle.std.specs.Prelude.{◌≡◌, ℕ, ◌<◌, List, ◌++◌, length, drop}
+use Rattle.std.specs.Prelude.{◌≡◌, ℕ, ◌<◌, true, List, [], ◌++◌, Some, length, drop}
 use Rattle.std.specs.Str.{IsValidUpTo}
-use Rattle.html_input.specs.TableFault.{HasBadLine, HasBadRow}
+use Rattle.markup.specs.Forest.{Forest}
+use Rattle.html_input.specs.TableFault.{HasBadLine, HasBadRow, IsTableFile}
 use Rattle.html_input.specs.declared.table.TableFileFault.{TableFileFault}
 use Rattle.html_input.specs.declared.table.TableFileFault.TheVariants as file
+use Rattle.html_tokens.specs.Table.{Row}
 use Rattle.html_tokens.specs.declared.table.TableFault.{TableFault}
 use Rattle.html_tokens.specs.declared.table.TableFault.TheVariants as table
+use Rattle.html_normal.specs.Document.{IsDocument}
 use Rattle.html_normal.specs.declared.fault.NormalFault.{NormalFault}
 use Rattle.html_normal.specs.declared.fault.NormalFault.TheVariants as normal
+use Rattle.html_tree_image.specs.Image.{is_too_large}
+use Rattle.html_tree_image.specs.declared.image.ImageFault.{ImageFault}
+use Rattle.html_tree_image.specs.declared.image.ImageFault.TheVariants as image
 use Rattle.html_ffi.specs.declared.answer.Answer.{Answer}
-use Rattle.html_ffi.specs.declared.answer.Answer.TheVariants.{Done, NotUtf8, TooShort, Memory, TableNotUtf8, TableLine}
-use Rattle.html_ffi.specs.declared.answer.Answer.TheVariants.{TableName, TableDuplicate, TableValue}
+use Rattle.html_ffi.specs.declared.answer.Answer.TheVariants.{Done, NotUtf8, TooShort, Memory, TooLarge, TableNotUtf8}
+use Rattle.html_ffi.specs.declared.answer.Answer.TheVariants.{TableLine, TableName, TableDuplicate, TableValue}
 use Rattle.html_ffi.specs.declared.answer.Failure.{Failure}
 
 -- ANSWERS
@@ -21,6 +27,7 @@ number_of Done = 0
 number_of NotUtf8 = 1
 number_of TooShort = 2
 number_of Memory = 3
+number_of TooLarge = 4
 number_of TableNotUtf8 = 16
 number_of TableLine = 17
 number_of TableName = 18
@@ -38,6 +45,11 @@ failure_of normal.Write = failure Memory 0
 failure_of normal.Memory = failure Memory 0
 failure_of normal.Refused = failure Memory 0
 
+-- of the image of a tree
+abbrev pub image_failure_of : ImageFault → Failure
+image_failure_of image.Memory = failure Memory 0
+image_failure_of image.TooLarge = failure TooLarge 0
+
 -- of the rows of a table
 abbrev pub row_failure_of : TableFault → Failure
 row_failure_of (table.BadName at) = failure TableName at
@@ -53,17 +65,30 @@ table_failure_of (file.BadLine at) = failure TableLine at
 table_failure_of (file.Table fault) = row_failure_of fault
 table_failure_of file.Memory = failure Memory 0
 
+-- The image of a page's document has a part that is longer than 32 bits can say.
+pub record IsTooLarge (file page : List ℕ) : Type 0 where
+  pub rows : List Row
+  pub table : IsTableFile file (Some []) rows
+  pub document : Forest
+  pub input : IsDocument rows page document
+  pub large : is_too_large document ≡ true
+
 -- What the answer of a call that has no text says of the table's bytes and the page, with the place that it tells.
 abbrev pub Fails : (file page : List ℕ) → Answer → ℕ → Type 0
 Fails file page Done at = ⊥
 Fails file page NotUtf8 at = IsValidUpTo page at
 Fails file page TooShort at = ⊥
 Fails file page Memory at = at ≡ 0
+Fails file page TooLarge at = (at ≡ 0) × IsTooLarge file page
 Fails file page TableNotUtf8 at = IsValidUpTo file at
 Fails file page TableLine at = HasBadLine file at
 Fails file page TableName at = HasBadRow file (table.BadName at)
 Fails file page TableDuplicate at = HasBadRow file (table.Duplicate at)
 Fails file page TableValue at = HasBadRow file (table.BadValue at)
+
+-- why there is no image of a forest, whatever page has it as its document
+abbrev pub FailsOver : Forest → Answer → ℕ → Type 0
+FailsOver f answer at = (file page : List ℕ) → (is_too_large f ≡ true → IsTooLarge file page) → Fails file page answer at
 
 -- THE ROOM
 
@@ -73,6 +98,7 @@ IsPut text old new Done = new ≡ text ++ drop (length text) old
 IsPut text old new NotUtf8 = ⊥
 IsPut text old new TooShort = (length old < length text) × (new ≡ old)
 IsPut text old new Memory = ⊥
+IsPut text old new TooLarge = ⊥
 IsPut text old new TableNotUtf8 = ⊥
 IsPut text old new TableLine = ⊥
 IsPut text old new TableName = ⊥
@@ -105,6 +131,7 @@ module _ (Makes : List ℕ → Type 0) (None : Type 0) (file page : List ℕ) (a
   Means NotUtf8 = HasNone NotUtf8
   Means TooShort = IsTooShort
   Means Memory = HasNone Memory
+  Means TooLarge = HasNone TooLarge
   Means TableNotUtf8 = HasNone TableNotUtf8
   Means TableLine = HasNone TableLine
   Means TableName = HasNone TableName

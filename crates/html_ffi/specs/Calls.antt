@@ -1,19 +1,19 @@
 -- The texts that calls make of a page, by the table of references that a file's bytes hold.
 use Rattle.std.specs.Prelude.{◌≡◌, ℕ, false, List, [], length, Some}
 use Rattle.std.specs.Str.{chars}
-use Rattle.markup.specs.Calls.{calls_of}
 use Rattle.markup.specs.Forest.{Forest}
+use Rattle.markup.specs.TreeLaws.{with_errors}
 use Rattle.html_clean.specs.Ready.{IsTextAndLinks}
 use Rattle.html_clean.specs.declared.counts.Cleaned.{Cleaned}
 use Rattle.html_clean.specs.declared.policy.Policy.{Policy}
 use Rattle.html_clean_document.specs.Clean.{IsCleaned, IsDocumentOf, IsFragmentOf, div_name}
-use Rattle.html_events.specs.Events.{all_event_bytes}
 use Rattle.html_input.specs.TableFault.{IsTableFile}
-use Rattle.html_normal.specs.Document.{CountsErrors, IsDocument, document_trees}
+use Rattle.html_normal.specs.Document.{CountsErrors, IsDocument}
 use Rattle.html_normal.specs.Normal.{IsNormalised}
 use Rattle.html_normal.specs.declared.report.Report.{Report}
 use Rattle.html_plain.specs.Grammar.{is_plain_forest}
 use Rattle.html_tokens.specs.Table.{Row}
+use Rattle.html_tree_image.specs.Image.{image_of}
 use Rattle.html_ffi.specs.Answers.{Means}
 use Rattle.html_ffi.specs.Reports.{cleaned_of, nothing_at, nothing_cleaned_at, report_of}
 use Rattle.html_ffi.specs.declared.answer.Answer.{Answer}
@@ -26,20 +26,20 @@ pub record IsNormalText (file page text : List ℕ) (told : Report) : Type 0 whe
   pub table : IsTableFile file (Some []) rows
   pub normal : IsNormalised rows false page (Some []) (Some []) (Some text) told
 
--- Bytes are the events of the tree of a forest's document, and this is told of it.
+-- Bytes are the image of a forest, and this is told of it.
 pub record IsToldOf (f : Forest) (bytes : List ℕ) (told : Report) : Type 0 where
-  pub events : bytes ≡ all_event_bytes (calls_of (document_trees f))
+  pub image : bytes ≡ image_of f
   pub plain : told.plain ≡ is_plain_forest f
   pub quirks : told.quirks ≡ f.quirks
   pub errors : told.errors ≡ f.errors
 
--- Bytes are the events of the tree of a page's document, and this is told of the page.
-pub record IsTreeText (file page bytes : List ℕ) (told : Report) : Type 0 where
+-- Bytes are the image of a page's document, and this is told of the page.
+pub record IsTreeImage (file page bytes : List ℕ) (told : Report) : Type 0 where
   pub rows : List Row
   pub table : IsTableFile file (Some []) rows
   pub document : Forest
   pub input : IsDocument rows page document
-  pub events : bytes ≡ all_event_bytes (calls_of (document_trees document))
+  pub image : bytes ≡ image_of (with_errors told.errors document)
   pub plain : told.plain ≡ is_plain_forest document
   pub quirks : told.quirks ≡ document.quirks
   pub errors : CountsErrors rows false (chars page) told.errors

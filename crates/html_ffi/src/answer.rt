@@ -1,9 +1,10 @@
 //! What a call answers.
 ghost use Rattle.std.specs.Prelude.{◌≡◌, ℕ, List};
-ghost use Rattle.html_ffi.specs.Answers.{Fails, failure_of, number_of, row_failure_of, table_failure_of};
+ghost use Rattle.html_ffi.specs.Answers.{Fails, failure_of, image_failure_of, number_of, row_failure_of, table_failure_of};
 ghost use Rattle.html_ffi.specs.declared.answer.Answer.TheVariants.{Memory};
 
 use html_normal::{NormalFault, TableFault, TableFileFault};
+use html_tree_image::ImageFault;
 use std::alloc::{AllocError, AllocFailed};
 
 /// What a call answers. The numbers stand in C's header, and never change.
@@ -17,6 +18,8 @@ pub enum Answer {
     TooShort,
     /// There was not enough memory.
     Memory,
+    /// The image of the tree would have a part of 2^32 bytes or more.
+    TooLarge,
     /// The table is not UTF-8.
     TableNotUtf8,
     /// A line of the table is no row.
@@ -39,6 +42,7 @@ impl Answer {
             Answer::NotUtf8 => 1,
             Answer::TooShort => 2,
             Answer::Memory => 3,
+            Answer::TooLarge => 4,
             Answer::TableNotUtf8 => 16,
             Answer::TableLine => 17,
             Answer::TableName => 18,
@@ -136,6 +140,20 @@ impl From<TableFileFault> for Failure {
             },
             TableFileFault::Table(fault) => row_failure(fault),
             TableFileFault::Read | TableFileFault::Memory => no_memory(),
+        }
+    }
+}
+
+impl From<ImageFault> for Failure {
+    ghost from_gives = { λ fault made. made ≡ image_failure_of fault };
+
+    fn from(fault: ImageFault) -> Failure {
+        match fault {
+            ImageFault::Memory => no_memory(),
+            ImageFault::TooLarge => Failure {
+                answer: Answer::TooLarge,
+                at: 0,
+            },
         }
     }
 }

@@ -1,9 +1,9 @@
-//! The C library: normal text, trees as bytes, and cleaned text, of pages in memory.
+//! The C library: normal text, images of trees, and cleaned text, of pages in memory.
 #![tactic(auto)]
 
 ghost use Rattle.std.specs.Prelude.{◌≡◌, length};
 ghost use Rattle.html_ffi.specs.Answers.{Tells};
-ghost use Rattle.html_ffi.specs.Calls.{IsCleanDocument, IsCleanFragment, IsNormalText, IsTreeText, MeansCleaned, MeansText};
+ghost use Rattle.html_ffi.specs.Calls.{IsCleanDocument, IsCleanFragment, IsNormalText, IsTreeImage, MeansCleaned, MeansText};
 
 mod answer;
 mod clean;
@@ -21,7 +21,7 @@ use html_standard_references::STANDARD_ROWS;
 use normal::normalise_by;
 use report::{FigCleaned, FigReport};
 use std::alloc::Global;
-use tree::events_by;
+use tree::tree_by;
 
 /// Writes the normal text of `page` to `output`, by the Standard's table of references.
 #[unsafe(no_mangle)]
@@ -52,33 +52,33 @@ pub extern "C" fn fig_normalise_with(
     normalise_by(alloc, table, page, output, report).number()
 }
 
-/// Writes the tree of `page` to `output` as bytes, an event after the other, by the Standard's table of references.
+/// Writes the image of `page`'s tree to `output`, by the Standard's table of references.
 #[unsafe(no_mangle)]
-pub extern "C" fn fig_events(
+pub extern "C" fn fig_tree(
     alloc: Global,
     page: &[u8],
     output: &mut [u8],
     report: &mut FigReport,
 ) -> u32
-    ensures answer { Tells (MeansText IsTreeText STANDARD_ROWS.now page.now output.old output.new report.new) result }
+    ensures answer { Tells (MeansText IsTreeImage STANDARD_ROWS.now page.now output.old output.new report.new) result }
     ensures same_room { length output.new ≡ length output.old }
 {
-    events_by(alloc, STANDARD_ROWS.as_bytes(), page, output, report).number()
+    tree_by(alloc, STANDARD_ROWS.as_bytes(), page, output, report).number()
 }
 
-/// Writes the tree of `page` to `output` as bytes, by the table of references that `table` has.
+/// Writes the image of `page`'s tree to `output`, by the table of references that `table` has.
 #[unsafe(no_mangle)]
-pub extern "C" fn fig_events_with(
+pub extern "C" fn fig_tree_with(
     alloc: Global,
     table: &[u8],
     page: &[u8],
     output: &mut [u8],
     report: &mut FigReport,
 ) -> u32
-    ensures answer { Tells (MeansText IsTreeText table.now page.now output.old output.new report.new) result }
+    ensures answer { Tells (MeansText IsTreeImage table.now page.now output.old output.new report.new) result }
     ensures same_room { length output.new ≡ length output.old }
 {
-    events_by(alloc, table, page, output, report).number()
+    tree_by(alloc, table, page, output, report).number()
 }
 
 /// Writes what the ready policy keeps of `page`, as a fragment in a `div`, to `output`.

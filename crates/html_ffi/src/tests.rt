@@ -2,7 +2,7 @@
 
 use crate::report::{FigCleaned, FigReport};
 use crate::{
-    fig_clean, fig_clean_document, fig_events, fig_events_with, fig_normalise, fig_normalise_with,
+    fig_clean, fig_clean_document, fig_normalise, fig_normalise_with, fig_tree, fig_tree_with,
 };
 use std::alloc::Global;
 
@@ -13,12 +13,21 @@ const ROOM: usize = 400;
 enum Page {
     Normal(&'static [u8]),
     NormalWith(&'static [u8], &'static [u8]),
-    Events(&'static [u8]),
-    EventsWith(&'static [u8], &'static [u8]),
+    Tree(&'static [u8]),
+    TreeWith(&'static [u8], &'static [u8]),
 }
 
 /// The answer, and what the report has: `at`, the number of the quirks mode, and whether the document is plain; and what is written.
 type Seen = (u32, u64, u8, u8, &'static [u8]);
+
+/// The image of `<!DOCTYPE html>`: the header; the document, the doctype, `html`, `head` and `body`; no attribute; the texts.
+const IMAGE: &[u8] = b"FIGT\x01\0\0\0\xF0\0\0\0\0\0\0\0\x10\0\0\0\0\0\0\0\0\0\0\0\0\0\0\0\
+\x09\0\0\0\xFF\xFF\xFF\xFF\x01\0\0\0\x02\0\0\0\xFF\xFF\xFF\xFF\xFF\xFF\xFF\xFF\0\0\0\0\0\0\0\0\0\0\0\0\0\0\0\0\0\0\0\0\0\0\0\0\
+\x0A\0\0\0\0\0\0\0\xFF\xFF\xFF\xFF\xFF\xFF\xFF\xFF\xFF\xFF\xFF\xFF\x02\0\0\0\0\0\0\0\x04\0\0\0\x04\0\0\0\0\0\0\0\x04\0\0\0\0\0\0\0\
+\x01\x01\0\0\0\0\0\0\x03\0\0\0\x04\0\0\0\x01\0\0\0\xFF\xFF\xFF\xFF\x04\0\0\0\x04\0\0\0\0\0\0\0\0\0\0\0\xFF\xFF\xFF\xFF\0\0\0\0\
+\x01\x01\0\0\x02\0\0\0\xFF\xFF\xFF\xFF\xFF\xFF\xFF\xFF\xFF\xFF\xFF\xFF\x04\0\0\0\x08\0\0\0\x04\0\0\0\0\0\0\0\0\0\0\0\xFF\xFF\xFF\xFF\0\0\0\0\
+\x01\x01\0\0\x02\0\0\0\xFF\xFF\xFF\xFF\xFF\xFF\xFF\xFF\x03\0\0\0\xFF\xFF\xFF\xFF\x0C\0\0\0\x04\0\0\0\0\0\0\0\0\0\0\0\xFF\xFF\xFF\xFF\0\0\0\0\
+htmlhtmlheadbody";
 
 const PAGES: &[(Page, Seen)] = &[
     (
@@ -52,18 +61,9 @@ const PAGES: &[(Page, Seen)] = &[
     (Page::NormalWith(b"x; 41\nx; 42", b"a"), (19, 2, 0, 0, b"")),
     (Page::NormalWith(b"x; 0", b"a"), (20, 1, 0, 0, b"")),
     (Page::NormalWith(b"x; 41", b"\xFF"), (1, 0, 0, 0, b"")),
-    (
-        Page::Events(b"<!DOCTYPE html>"),
-        (
-            0,
-            0,
-            0,
-            1,
-            b"D\x04\x00\x00\x00htmlS\x1C\x00\x00\x00http://www.w3.org/1999/xhtml\x04\x00\x00\x00html\x00\x00\x00\x00S\x1C\x00\x00\x00http://www.w3.org/1999/xhtml\x04\x00\x00\x00head\x00\x00\x00\x00ES\x1C\x00\x00\x00http://www.w3.org/1999/xhtml\x04\x00\x00\x00body\x00\x00\x00\x00EE",
-        ),
-    ),
-    (Page::EventsWith(b"x", b"a"), (17, 1, 0, 0, b"")),
-    (Page::Events(b"a\xC0"), (1, 1, 0, 0, b"")),
+    (Page::Tree(b"<!DOCTYPE html>"), (0, 0, 0, 1, IMAGE)),
+    (Page::TreeWith(b"x", b"a"), (17, 1, 0, 0, b"")),
+    (Page::Tree(b"a\xC0"), (1, 1, 0, 0, b"")),
 ];
 
 /// A call whose report is on a page that was cleaned.
@@ -113,8 +113,8 @@ fn call(alloc: Global, page: &Page, output: &mut [u8], report: &mut FigReport) -
     match page {
         Page::Normal(page) => fig_normalise(alloc, page, output, report),
         Page::NormalWith(table, page) => fig_normalise_with(alloc, table, page, output, report),
-        Page::Events(page) => fig_events(alloc, page, output, report),
-        Page::EventsWith(table, page) => fig_events_with(alloc, table, page, output, report),
+        Page::Tree(page) => fig_tree(alloc, page, output, report),
+        Page::TreeWith(table, page) => fig_tree_with(alloc, table, page, output, report),
     }
 }
 

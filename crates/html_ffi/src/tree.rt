@@ -1,40 +1,37 @@
-//! The tree of a page, as bytes.
+//! The tree of a page, as an image.
 ghost use Rattle.std.specs.Prelude.{◌≡◌, ℕ, List, [], Some, false, IfErr, IfOk, length};
-ghost use Rattle.markup.specs.Calls.{calls_of};
 ghost use Rattle.markup.specs.TreeLaws.{with_errors};
-ghost use Rattle.html_events.specs.Events.{all_event_bytes};
-ghost use Rattle.html_normal.specs.Document.{document_trees};
 ghost use Rattle.html_normal.specs.Normal.{IsRead};
 ghost use Rattle.html_plain.specs.Grammar.{is_plain_forest};
-ghost use Rattle.html_ffi.specs.Answers.{Fails};
-ghost use Rattle.html_ffi.specs.Calls.{IsToldOf, IsTreeText, MeansText};
+ghost use Rattle.html_tree_image.specs.Image.{image_of};
+ghost use Rattle.html_ffi.specs.Answers.{Fails, FailsOver};
+ghost use Rattle.html_ffi.specs.Calls.{IsToldOf, IsTreeImage, MeansText};
 
 use crate::answer::{Answer, Failure, no_memory};
 use crate::page::{COUNTED, Page};
 use crate::report::FigReport;
 use crate::room::put_front;
 use crate::table::table_of;
-use html_events::tree_bytes;
 use html_forest::Forest;
 use html_normal::{References, Report, read_document};
+use html_tree_image::tree_image;
 use std::alloc::Global;
 
-/// The events of a forest's tree.
-fn event_bytes(alloc: Global, forest: &Forest) -> Result<Vec<u8>, Failure>
-    ensures ok { IfOk result (λ bytes. bytes.items ≡ all_event_bytes (calls_of (document_trees forest.now))) }
-    ensures err { IfErr result (λ failure. (file page : List ℕ) → Fails file page failure.answer failure.at) }
+/// The image of a forest.
+fn image_bytes(alloc: Global, forest: &Forest) -> Result<Vec<u8>, Failure>
+    ensures ok { IfOk result (λ bytes. bytes.items ≡ image_of forest.now) }
+    ensures err { IfErr result (λ failure. FailsOver forest.now failure.answer failure.at) }
 {
-    forest.keeps();
-    match tree_bytes(alloc, forest, forest.document()) {
+    match tree_image(alloc, forest) {
         Ok(bytes) => Ok(bytes),
-        Err(_) => Err(no_memory()),
+        Err(fault) => Err(Failure::from(fault)),
     }
 }
 
 /// Whether a forest's document is plain.
 fn is_plain(forest: &Forest) -> Result<bool, Failure>
     ensures ok { IfOk result (λ plain. plain ≡ is_plain_forest forest.now) }
-    ensures err { IfErr result (λ failure. (file page : List ℕ) → Fails file page failure.answer failure.at) }
+    ensures err { IfErr result (λ failure. FailsOver forest.now failure.answer failure.at) }
 {
     match forest.is_plain() {
         Ok(plain) => Ok(plain),
@@ -42,12 +39,12 @@ fn is_plain(forest: &Forest) -> Result<bool, Failure>
     }
 }
 
-/// The events of a forest's tree, and what is told of it.
-fn told_tree(alloc: Global, forest: &Forest) -> Result<(Vec<u8>, Report), Failure>
+/// The image of a forest, and what is told of it.
+fn told_image(alloc: Global, forest: &Forest) -> Result<(Vec<u8>, Report), Failure>
     ensures ok { IfOk result (λ made. IsToldOf forest.now made.0.items made.1) }
-    ensures err { IfErr result (λ failure. (file page : List ℕ) → Fails file page failure.answer failure.at) }
+    ensures err { IfErr result (λ failure. FailsOver forest.now failure.answer failure.at) }
 {
-    let bytes = event_bytes(alloc, forest)?;
+    let bytes = image_bytes(alloc, forest)?;
     let plain = is_plain(forest)?;
     let told = Report {
         plain,
@@ -68,29 +65,29 @@ fn document_of(alloc: Global, table: References, page: &[u8]) -> Result<Forest, 
     }
 }
 
-/// The events of a page's tree, and what is told of the page.
-fn tree_text(alloc: Global, file: &[u8], page: &[u8]) -> Result<(Vec<u8>, Report), Failure>
-    ensures ok { IfOk result (λ made. IsTreeText file.now page.now made.0.items made.1) }
+/// The image of a page's document, and what is told of the page.
+fn page_image(alloc: Global, file: &[u8], page: &[u8]) -> Result<(Vec<u8>, Report), Failure>
+    ensures ok { IfOk result (λ made. IsTreeImage file.now page.now made.0.items made.1) }
     ensures err { IfErr result (λ failure. Fails file.now page.now failure.answer failure.at) }
 {
     let table = table_of(alloc, file)?;
     let forest = document_of(alloc, table, page)?;
-    let made = told_tree(alloc, &forest)?;
+    let made = told_image(alloc, &forest)?;
     Ok(made)
 }
 
-/// Writes the events of a page's tree to the front of room.
-pub(crate) fn events_by(
+/// Writes the image of a page's document to the front of room.
+pub(crate) fn tree_by(
     alloc: Global,
     file: &[u8],
     page: &[u8],
     output: &mut [u8],
     report: &mut FigReport,
 ) -> Answer
-    ensures answer { MeansText IsTreeText file.now page.now output.old output.new report.new result }
+    ensures answer { MeansText IsTreeImage file.now page.now output.old output.new report.new result }
     ensures same_room { length output.new ≡ length output.old }
 {
-    match tree_text(alloc, file, page) {
+    match page_image(alloc, file, page) {
         Ok(made) => {
             let text = made.0.as_slice();
             *report = FigReport::new(text.len(), made.1);

@@ -4,7 +4,7 @@
 #[cfg(test)]
 mod errors;
 #[cfg(test)]
-mod events;
+mod images;
 #[cfg(test)]
 mod nodes;
 #[cfg(test)]

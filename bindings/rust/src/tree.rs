@@ -1,0 +1,262 @@
+//! The tree of a page, read from its image (`docs/TREE_IMAGE.md`).
+
+use crate::Quirks;
+use std::fmt;
+
+const NO_NODE: u32 = u32::MAX;
+const HEADER: usize = 32;
+const NODE: usize = 48;
+const ATTRIBUTE: usize = 24;
+
+/// The document of a page, with its tree.
+///
+/// ```
+/// let page = figpliers::parse("<p>See <a href=/a>this</a> and <a href=/b>that</a>.")?;
+/// let links: Vec<_> = page.root().descendants().filter_map(|node| Some((node.attribute("href")?, node.text()))).collect();
+/// assert_eq!(links, [("/a", "this".to_string()), ("/b", "that".to_string())]);
+/// # Ok::<(), figpliers::Fault>(())
+/// ```
+#[derive(Clone, PartialEq, Eq)]
+pub struct Document {
+    image: Vec<u8>,
+}
+
+/// A node of a tree.
+#[derive(Clone, Copy)]
+pub struct Node<'a> {
+    image: &'a [u8],
+    number: u32,
+}
+
+/// What a node is.
+#[derive(Clone, Copy, Debug, PartialEq, Eq, Hash)]
+pub enum Kind {
+    Document,
+    Doctype,
+    Element,
+    Text,
+    Comment,
+    ProcessingInstruction,
+    /// The contents of a template.
+    Contents,
+}
+
+/// The namespace of an element or an attribute.
+#[derive(Clone, Copy, Debug, PartialEq, Eq, Hash)]
+pub enum Namespace {
+    None,
+    Html,
+    MathMl,
+    Svg,
+    XLink,
+    Xml,
+    Xmlns,
+    Other,
+}
+
+/// An attribute.
+#[derive(Clone, Copy, Debug, PartialEq, Eq)]
+pub struct Attribute<'a> {
+    /// The qualified name, as `href` or `xlink:href`.
+    pub name: &'a str,
+    pub value: &'a str,
+    pub namespace: Namespace,
+}
+
+fn word(image: &[u8], at: usize) -> u32 {
+    u32::from_le_bytes(image[at..at + 4].try_into().expect("four bytes"))
+}
+
+fn namespace_of(number: u32) -> Namespace {
+    match number {
+        0 => Namespace::None,
+        1 => Namespace::Html,
+        2 => Namespace::MathMl,
+        3 => Namespace::Svg,
+        4 => Namespace::XLink,
+        5 => Namespace::Xml,
+        6 => Namespace::Xmlns,
+        _ => Namespace::Other,
+    }
+}
+
+fn text_at(image: &[u8], at: u32, length: u32) -> &str {
+    let texts = HEADER + word(image, 8) as usize + word(image, 12) as usize;
+    let from = texts + at as usize;
+    std::str::from_utf8(&image[from..from + length as usize]).expect("texts are UTF-8")
+}
+
+impl Document {
+    pub(crate) fn new(image: Vec<u8>) -> Document {
+        Document { image }
+    }
+
+    /// The node of the document.
+    pub fn root(&self) -> Node<'_> {
+        Node { image: &self.image, number: 0 }
+    }
+
+    /// How many parse errors were counted: 0 in a page without any.
+    pub fn errors(&self) -> u64 {
+        u64::from(word(&self.image, 28)) << 32 | u64::from(word(&self.image, 24))
+    }
+
+    /// The quirks mode.
+    pub fn quirks(&self) -> Quirks {
+        Quirks::new(word(&self.image, 20))
+    }
+
+    /// The bytes of the image.
+    pub fn as_bytes(&self) -> &[u8] {
+        &self.image
+    }
+}
+
+impl fmt::Debug for Document {
+    fn fmt(&self, f: &mut fmt::Formatter<'_>) -> fmt::Result {
+        write!(f, "Document of {} nodes", word(&self.image, 8) as usize / NODE)
+    }
+}
+
+impl<'a> Node<'a> {
+    fn word(self, k: usize) -> u32 {
+        word(self.image, HEADER + self.number as usize * NODE + 4 * k)
+    }
+
+    fn other(self, k: usize) -> Option<Node<'a>> {
+        match self.word(k) {
+            NO_NODE => None,
+            number => Some(Node { image: self.image, number }),
+        }
+    }
+
+    /// What it is.
+    pub fn kind(self) -> Kind {
+        match self.word(0) & 255 {
+            1 => Kind::Element,
+            3 => Kind::Text,
+            7 => Kind::ProcessingInstruction,
+            8 => Kind::Comment,
+            9 => Kind::Document,
+            10 => Kind::Doctype,
+            _ => Kind::Contents,
+        }
+    }
+
+    /// The local name of an element, the name of a doctype, the target of a processing instruction; else the empty text.
+    pub fn name(self) -> &'a str {
+        match self.kind() {
+            Kind::Element | Kind::Doctype | Kind::ProcessingInstruction => text_at(self.image, self.word(6), self.word(7)),
+            _ => "",
+        }
+    }
+
+    /// The namespace of an element.
+    pub fn namespace(self) -> Namespace {
+        namespace_of(self.word(0) >> 8 & 255)
+    }
+
+    /// The characters of a text, of a comment or of a processing instruction; else the empty text.
+    pub fn data(self) -> &'a str {
+        match self.kind() {
+            Kind::Text | Kind::Comment => text_at(self.image, self.word(6), self.word(7)),
+            Kind::ProcessingInstruction => text_at(self.image, self.word(8), self.word(9)),
+            _ => "",
+        }
+    }
+
+    /// The public and the system identifier of a doctype.
+    pub fn identifiers(self) -> Option<(&'a str, &'a str)> {
+        match self.kind() {
+            Kind::Doctype => Some((text_at(self.image, self.word(8), self.word(9)), text_at(self.image, self.word(10), self.word(11)))),
+            _ => None,
+        }
+    }
+
+    pub fn parent(self) -> Option<Node<'a>> {
+        self.other(1)
+    }
+
+    pub fn first_child(self) -> Option<Node<'a>> {
+        self.other(2)
+    }
+
+    pub fn last_child(self) -> Option<Node<'a>> {
+        self.other(3)
+    }
+
+    pub fn previous_sibling(self) -> Option<Node<'a>> {
+        self.other(4)
+    }
+
+    pub fn next_sibling(self) -> Option<Node<'a>> {
+        self.other(5)
+    }
+
+    /// The contents of a template, whose children its children are not.
+    pub fn contents(self) -> Option<Node<'a>> {
+        match self.kind() {
+            Kind::Element => self.other(10),
+            _ => None,
+        }
+    }
+
+    /// The children in their order.
+    pub fn children(self) -> impl Iterator<Item = Node<'a>> {
+        std::iter::successors(self.first_child(), |node| node.next_sibling())
+    }
+
+    /// The nodes below this one in tree order, the contents of templates left out.
+    pub fn descendants(self) -> impl Iterator<Item = Node<'a>> {
+        let top = self.number;
+        std::iter::successors(self.first_child(), move |node| {
+            let (mut node, mut following) = (*node, node.first_child());
+            while following.is_none() && node.number != top {
+                following = node.next_sibling();
+                if following.is_none() {
+                    node = node.parent()?;
+                }
+            }
+            following
+        })
+    }
+
+    /// The attributes of an element, in the order of the page; of another node none.
+    pub fn attributes(self) -> impl Iterator<Item = Attribute<'a>> {
+        let count = if self.kind() == Kind::Element { self.word(9) as usize } else { 0 };
+        let from = HEADER + word(self.image, 8) as usize + self.word(8) as usize;
+        let image = self.image;
+        (0..count).map(move |k| {
+            let at = from + k * ATTRIBUTE;
+            Attribute {
+                name: text_at(image, word(image, at), word(image, at + 4)),
+                value: text_at(image, word(image, at + 8), word(image, at + 12)),
+                namespace: namespace_of(word(image, at + 16)),
+            }
+        })
+    }
+
+    /// The value of the attribute of a qualified name.
+    pub fn attribute(self, name: &str) -> Option<&'a str> {
+        self.attributes().find(|it| it.name == name).map(|it| it.value)
+    }
+
+    /// The characters of this node, if it is a text, and of all texts below it (`textContent` of the DOM).
+    pub fn text(self) -> String {
+        std::iter::once(self).chain(self.descendants()).filter(|it| it.kind() == Kind::Text).map(Node::data).collect()
+    }
+}
+
+impl fmt::Debug for Node<'_> {
+    fn fmt(&self, f: &mut fmt::Formatter<'_>) -> fmt::Result {
+        write!(f, "{:?} {:?}", self.kind(), if self.name().is_empty() { self.data() } else { self.name() })
+    }
+}
+
+impl PartialEq for Node<'_> {
+    fn eq(&self, other: &Self) -> bool {
+        std::ptr::eq(self.image, other.image) && self.number == other.number
+    }
+}
+
+impl Eq for Node<'_> {}

@@ -1,6 +1,0 @@
-use Rattle.html_ffi.proofs.Making.{tree-made}
-use Rattle.html_ffi.proofs.tree.tree_text.Goals as goal
-
-pub returns-clause-ok : goal.returns-clause-ok
-returns-clause-ok c = tree-made c.args.file.now c.args.page.now c.in_ok-table.table c.in_ok-forest.forest _ _
-    c.in_ok-table.ensures.ok c.in_ok-forest.ensures.ok c.in_ok-made.ensures.ok

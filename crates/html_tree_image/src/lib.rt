@@ -1,0 +1,11 @@
+//! A forest as one block of bytes, which any language reads without a call.
+//!
+//! Tests: `pages_tests`, `images`.
+#![tactic(auto)]
+
+mod attributes;
+mod image;
+mod nodes;
+mod words;
+
+pub use image::{ImageFault, tree_image};
