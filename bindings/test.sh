@@ -1,7 +1,7 @@
 #!/bin/sh
 # test.sh: the bindings that build.sh made, on the rows of rows.tsv: C under the address and the undefined-behaviour sanitizer, by the
 # static and by the shared library and by the Debian package; Rust by cargo; Python from the wheel. Then whether all have the structs
-# alike, and which names are to be seen. Needs a C compiler with the sanitizers, cargo, python3 with pip, pkg-config or none, dpkg-deb.
+# alike, which names are to be seen, and the npm package in Node where js/build.sh made it. Needs a C compiler with the sanitizers, cargo, python3 with pip, pkg-config or none, dpkg-deb.
 here=$(cd "$(dirname "$0")" && pwd)
 out=$here/out
 work=$(mktemp -d)
@@ -51,6 +51,10 @@ links() {
     $cc $flags -I"$here/c" "$here/c/links.c" "$out/libfigpliers.a" -o "$work/links" \
         && test "$(echo '<p>See <a href=/a>this <b>one</b></a>,<a>no</a>' | "$work/links")" = "/a this one" && echo "C: 1 passed"
 }
+javascript() {
+    mkdir "$work/js" && cd "$work/js" && npm install --silent --no-audit --no-fund "$out"/figpliers-*.tgz && cp "$here/js/test.mjs" . \
+        && node test.mjs "$here/rows.tsv"
+}
 names() {
     nm -D --defined-only "$out/libfigpliers.so" | awk '{ print $3 }' | sort > "$work/names.shared"
     nm -g --defined-only "$out/libfigpliers.a" | awk 'NF == 3 { print $3 }' | sort > "$work/names.static"
@@ -68,6 +72,8 @@ try "Rust, shared library" rust --features shared
 unset LD_LIBRARY_PATH
 try "Python, wheel" python
 try "sizes and offsets of the structs" layouts
+# where js/build.sh was run
+if ls "$out"/figpliers-*.tgz > /dev/null 2>&1; then try "JavaScript, npm package" javascript; fi
 try "names that are to be seen" names
 echo "$passed passed, $failed failed"
 [ "$failed" = 0 ]

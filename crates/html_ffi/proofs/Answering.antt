@@ -1,6 +1,6 @@
 -- What an answer says, by what came of a text or of a failure.
-use Rattle.std.proofs.Common.{◌≡◌, ◌∙◌, ℕ, List, ◌++◌, ap, refl, subst, sym}
-use Rattle.std.specs.Prelude.{length, drop}
+use Rattle.std.proofs.Common.{◌≡◌, ◌∙◌, ℕ, List, ap, subst, sym}
+use Rattle.std.specs.Prelude.{length}
 use Rattle.html_clean.specs.declared.counts.Cleaned.{Cleaned}
 use Rattle.html_normal.specs.declared.report.Report.{Report}
 use Rattle.html_ffi.specs.Answers.{Fails, IsPut, Means}

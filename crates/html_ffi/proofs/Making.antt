@@ -12,7 +12,6 @@ use Rattle.html_clean_document.specs.Clean.{IsCleaned}
 use Rattle.html_input.specs.TableFault.{IsTableFault, IsTableFile}
 use Rattle.html_input.specs.declared.table.TableFileFault.{TableFileFault}
 use Rattle.html_input.specs.declared.table.TableFileFault.TheVariants as file
-use Rattle.html_tokens.specs.declared.table.TableFault.{TableFault}
 use Rattle.html_tokens.specs.declared.table.TableFault.TheVariants as table
 use Rattle.html_tokens.specs.Table.{Row}
 use Rattle.html_normal.proofs.SameTrees.{plain-same}

@@ -1,6 +1,6 @@
 -- A forest as one block of bytes (docs/TREE_IMAGE.md): a header, a record for each node, a record for each attribute, and texts in UTF-8.
 -- Numbers have 32 bits, the lowest byte first, and places are counted in bytes from the start of a part.
-use Rattle.std.specs.Prelude.{ℕ, zero, suc, ◌+◌, ◌*◌, ◌^◌, Bool, true, false, cond, ◌||◌, nat_le, List, [], ◌∷◌, ◌++◌, length}
+use Rattle.std.specs.Prelude.{ℕ, zero, suc, ◌+◌, ◌*◌, ◌^◌, Bool, true, false, ◌||◌, nat_le, List, [], ◌∷◌, ◌++◌, length}
 use Rattle.std.specs.Prelude.{Option, Some, None, codes, encode_utf8_all}
 use Rattle.std.specs.Int.{w64, bytes_low_first, to_le_bytes}
 use Rattle.markup.specs.Forest.{Forest, NodeData, children_of, contents_of, data_of, last_of, node_count, parent_of}
