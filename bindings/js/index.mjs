@@ -95,7 +95,7 @@ export function normalise(page, table) {
 }
 
 export function parse(page, table) {
-  return byTable('fig_tree', page, table, 6, (image) => new Document(image.slice()));
+  return byTable('fig_tree', page, table, 4, (image) => new Document(image.slice()));
 }
 
 function cleaned(name, page) {

@@ -66,7 +66,7 @@ for (const row of readFileSync(process.argv[2], 'utf8').split('\n')) {
 
 check(parse('<p>'.repeat(1000)).elements('p').length === 1000, 'many elements');
 check([...parse('<div>'.repeat(20000)).walk()].length === 20003, 'deep elements');
-const odd = parse('<!DOCTYPE a PUBLIC b><p id=c>d<svg xlink:href=e></svg></p><template><i>f</i></template>g<?h>');
+const odd = parse('<!DOCTYPE a PUBLIC "b"><p id=c>d<svg xlink:href=e></svg></p><template><i>f</i></template>g<?h>');
 check(odd.firstChild.name === 'a' && odd.firstChild.publicId === 'b' && odd.firstChild.systemId === '', 'a doctype');
 const [p] = odd.elements('p');
 check(p.attribute('id') === 'c' && p.attribute('x') === null && p.text() === 'd' && p.parent.name === 'body', 'a paragraph');

@@ -134,7 +134,7 @@ def _with_room(call: Callable[..., int], texts: List[bytes], room: int, report):
         elif answer:
             raise Fault(answer, report.at)
         else:
-            return output[: report.length], report
+            return bytes(memoryview(output)[: report.length]), report
 
 
 def _told(report: _Report) -> Report:
@@ -161,8 +161,8 @@ def normalise(page: Page, table: Optional[Page] = None) -> Tuple[str, Report]:
 
 def parse(page: Page, table: Optional[Page] = None) -> Document:
     """The document of a page. `table` is as in `normalise`. Raises Fault or MemoryError."""
-    image, _ = _by(_tree, _tree_with, page, table, 24, 1024)
-    return Document(bytes(image))
+    image, _ = _by(_tree, _tree_with, page, table, 16, 1024)
+    return Document(image)
 
 
 def element(page: Page, table: Optional[Page] = None) -> Element:

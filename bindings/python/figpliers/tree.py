@@ -41,7 +41,7 @@ NAMESPACES = (
 class _Image:
     """An image, and where its parts begin."""
 
-    __slots__ = ("data", "attributes", "texts")
+    __slots__ = ("data", "attributes", "texts", "_records")
 
     def __init__(self, data: bytes) -> None:
         if data[:4] != b"FIGT" or struct.unpack_from("<I", data, 4)[0] != 1:
@@ -50,9 +50,30 @@ class _Image:
         self.data = data
         self.attributes = _HEADER + nodes
         self.texts = self.attributes + attributes
+        self._records: Optional[List[Tuple[int, ...]]] = None
+
+    def records(self) -> List[Tuple[int, ...]]:
+        """The records of all nodes, which are unpacked once."""
+        if self._records is None:
+            self._records = list(_NODE.iter_unpack(memoryview(self.data)[_HEADER : self.attributes]))
+        return self._records
+
+    def below(self, top: int) -> Iterator[int]:
+        """The numbers of the nodes below one, in tree order."""
+        records = self.records()
+        node = records[top][2]
+        while node != _NO_NODE:
+            yield node
+            following = records[node][2]
+            while following == _NO_NODE and node != top:
+                following = records[node][5]
+                if following == _NO_NODE:
+                    node = records[node][1]
+            node = following
 
     def node(self, number: int) -> Tuple[int, ...]:
-        return _NODE.unpack_from(self.data, _HEADER + 48 * number)
+        """The record of a node."""
+        return self._records[number] if self._records is not None else _NODE.unpack_from(self.data, _HEADER + 48 * number)
 
     def text(self, at: int, length: int) -> str:
         at += self.texts
@@ -190,23 +211,27 @@ class Node:
 
     def walk(self) -> "Iterator[Node]":
         """The nodes below this one in tree order, the contents of templates left out."""
-        node = self.first_child
-        while node is not None:
-            yield node
-            following = node.first_child
-            while following is None and node is not None and node != self:
-                following = node.next
-                if following is None:
-                    node = node.parent
-            node = following
+        return (Node(self._image, number) for number in self._image.below(self._number))
 
     def elements(self, name: str, namespace: str = NAMESPACES[1]) -> "List[Node]":
         """The elements below this node that have a name, in tree order."""
-        return [it for it in self.walk() if it._words[0] & 255 == 1 and it.name == name and it.namespace == namespace]
+        kind = 1 + 256 * NAMESPACES.index(namespace)
+        spelled = name.encode()
+        image, data, texts, length = self._image, self._image.data, self._image.texts, len(spelled)
+        records = image.records()
+        found = []
+        for number in image.below(self._number):
+            words = records[number]
+            if words[7] == length and words[0] & 0xFFFF == kind and data.startswith(spelled, texts + words[6]):
+                found.append(Node(image, number))
+        return found
 
     def text(self) -> str:
         """The characters of this node, if it is a text, and of all texts below it (`textContent` of the DOM)."""
-        return self.data if self._words[0] & 255 == 3 else "".join(it.data for it in self.walk() if it._words[0] & 255 == 3)
+        if self._words[0] & 255 == 3:
+            return self.data
+        below = map(self._image.records().__getitem__, self._image.below(self._number))
+        return "".join(self._image.text(words[6], words[7]) for words in below if words[0] == 3)
 
 
 class Document(Node):

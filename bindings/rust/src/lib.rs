@@ -213,7 +213,7 @@ fn text_guess(page: &[u8]) -> usize {
 
 /// Room that is enough for most pages' trees.
 fn tree_guess(page: &[u8]) -> usize {
-    6 * page.len() + 1024
+    4 * page.len() + 1024
 }
 
 /// The normal text of a page: that of the document which the HTML Standard gives it.

@@ -112,7 +112,7 @@ fn long_texts() {
 /// What is read of a tree.
 #[test]
 fn trees() {
-    let page = "<!DOCTYPE a PUBLIC b><p id=c>d<svg xlink:href=e></svg></p><template><i>f</i></template>g<?h>";
+    let page = "<!DOCTYPE a PUBLIC 'b'><p id=c>d<svg xlink:href=e></svg></p><template><i>f</i></template>g<?h>";
     let document = figpliers::parse(page).unwrap();
     let doctype = document.root().first_child().unwrap();
     assert_eq!((doctype.kind(), doctype.name(), doctype.identifiers()), (Kind::Doctype, "a", Some(("b", ""))));
