@@ -1,7 +1,8 @@
 #!/bin/sh
 # test.sh: the bindings that build.sh made, on the rows of rows.tsv: C under the address and the undefined-behaviour sanitizer, by the
 # static and by the shared library and by the Debian package; Rust by cargo; Python from the wheel. Then whether all have the structs
-# alike, which names are to be seen, and the npm package in Node where js/build.sh made it. Needs a C compiler with the sanitizers, cargo, python3 with pip, pkg-config or none, dpkg-deb.
+# alike, and which names are to be seen. Needs a C compiler with the sanitizers, cargo, python3 with pip, pkg-config or none, dpkg-deb;
+# where js/build.sh made the npm package, also node and npm, and tests its types if tsc is there.
 here=$(cd "$(dirname "$0")" && pwd)
 out=$here/out
 work=$(mktemp -d)
@@ -55,6 +56,10 @@ javascript() {
     mkdir "$work/js" && cd "$work/js" && npm install --silent --no-audit --no-fund "$out"/figpliers-*.tgz && cp "$here/js/test.mjs" . \
         && node test.mjs "$here/rows.tsv"
 }
+types() {
+    cp "$here/js/types.mts" "$work/js" && cd "$work/js" \
+        && tsc --strict --noEmit --target es2022 --module nodenext --moduleResolution nodenext types.mts && echo "TypeScript: 1 passed"
+}
 names() {
     nm -D --defined-only "$out/libfigpliers.so" | awk '{ print $3 }' | sort > "$work/names.shared"
     nm -g --defined-only "$out/libfigpliers.a" | awk 'NF == 3 { print $3 }' | sort > "$work/names.static"
@@ -72,8 +77,10 @@ try "Rust, shared library" rust --features shared
 unset LD_LIBRARY_PATH
 try "Python, wheel" python
 try "sizes and offsets of the structs" layouts
-# where js/build.sh was run
-if ls "$out"/figpliers-*.tgz > /dev/null 2>&1; then try "JavaScript, npm package" javascript; fi
+if ls "$out"/figpliers-*.tgz > /dev/null 2>&1; then
+    try "JavaScript, npm package" javascript
+    if command -v tsc > /dev/null; then try "TypeScript, types of the package" types; fi
+fi
 try "names that are to be seen" names
 echo "$passed passed, $failed failed"
 [ "$failed" = 0 ]
