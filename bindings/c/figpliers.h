@@ -37,7 +37,9 @@ enum fig_answer {
     FIG_TABLE_LINE = 17,      /* line `at` of the table, counted from 1, is no row */
     FIG_TABLE_NAME = 18,      /* row `at` has a name that is not letters and digits of ASCII with `;` or nothing behind them */
     FIG_TABLE_DUPLICATE = 19, /* row `at` has the name of an earlier row */
-    FIG_TABLE_VALUE = 20      /* row `at` has a value that is no character, or 0 */
+    FIG_TABLE_VALUE = 20,     /* row `at` has a value that is no character, or 0 */
+    FIG_SELECTOR_NOT_UTF8 = 32, /* the selectors are not UTF-8: their longest front that is has `at` bytes */
+    FIG_SELECTOR = 33           /* the text is no selectors: `at` characters stand before the first fault */
 };
 
 /* What is told of a page. Where an answer is neither FIG_DONE nor FIG_TOO_SHORT all is 0 but `at`. */
@@ -76,6 +78,11 @@ uint32_t fig_normalise_with(const uint8_t *table, size_t table_length, const uin
 uint32_t fig_tree(const uint8_t *page, size_t page_length, uint8_t *output, size_t room, fig_report *report);
 uint32_t fig_tree_with(const uint8_t *table, size_t table_length, const uint8_t *page, size_t page_length,
                        uint8_t *output, size_t room, fig_report *report);
+
+/* Writes the numbers of the nodes of a page's tree that CSS selectors select (Selectors Level 4), in tree order: four bytes for each, the
+ * lowest first. They are the nodes of the image that fig_tree writes of the same page. */
+uint32_t fig_select(const uint8_t *selector, size_t selector_length, const uint8_t *page, size_t page_length,
+                    uint8_t *output, size_t room, fig_report *report);
 
 /* Writes what the ready policy keeps of a page: text, links, tables and formatting, no script, no style, no event. Every reader
  * that follows the Standard is told by it just the tags and texts that were kept, wherever it is put among elements and texts.

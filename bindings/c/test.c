@@ -76,6 +76,7 @@ static told call(const char *name, bytes table, bytes page, uint8_t *output, siz
     memset(&r, 0xA5, sizeof r);
     if (!strcmp(name, "normalise")) it.answer = fig_normalise(page.at, page.length, output, room, &r);
     else if (!strcmp(name, "tree")) it.answer = fig_tree(page.at, page.length, output, room, &r);
+    else if (!strcmp(name, "select")) it.answer = fig_select(table.at, table.length, page.at, page.length, output, room, &r);
     else it.answer = (strcmp(name, "tree_with") ? fig_normalise_with : fig_tree_with)(
              table.at, table.length, page.at, page.length, output, room, &r);
     it.length = r.length;

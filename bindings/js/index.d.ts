@@ -39,6 +39,8 @@ export declare class Node {
   readonly attributes: Attribute[];
   /** The value of an attribute, by its qualified name; null if there is none. */
   attribute(name: string): string | null;
+  /** Its number in the image; the document is 0. */
+  readonly number: number;
   isSame(other: Node): boolean;
   /** The nodes below this one in tree order, the contents of templates left out. */
   walk(): IterableIterator<Node>;
@@ -55,6 +57,8 @@ export declare class Document extends Node {
   readonly image: Uint8Array;
   readonly errors: number;
   readonly quirks: Quirks;
+  /** The node of a number. */
+  node(number: number): Node;
   /** The document element. */
   readonly root: Node | null;
 }
@@ -80,6 +84,8 @@ export interface Cleaned {
 export declare function normalise(page: Page, table?: Page): Normal;
 /** The document of a page. */
 export declare function parse(page: Page, table?: Page): Document;
+/** The elements of a page that CSS selectors select (Selectors Level 4), in tree order. */
+export declare function select(selectors: Page, page: Page): Node[];
 /** What the ready policy keeps of a page, read as what stands in a `div`. */
 export declare function clean(page: Page): Cleaned;
 /** The same of a page that is read as a document. */

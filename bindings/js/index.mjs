@@ -21,6 +21,8 @@ const WORDS = {
   18: (at) => `row ${at} of the table has a bad name`,
   19: (at) => `row ${at} of the table has the name of an earlier one`,
   20: (at) => `row ${at} of the table has a value that is no character`,
+  32: (at) => `the selectors are not UTF-8 at byte ${at}`,
+  33: (at) => `the selectors are wrong at character ${at}`,
 };
 
 export class Fault extends Error {
@@ -96,6 +98,13 @@ export function normalise(page, table) {
 
 export function parse(page, table) {
   return byTable('fig_tree', page, table, 4, (image) => new Document(image.slice()));
+}
+
+export function select(selectors, page) {
+  const bytes = bytesOf(page);
+  const numbers = call('fig_select', [bytesOf(selectors), bytes], 256, 16, (output) => new Uint32Array(output.slice().buffer));
+  const document = parse(bytes);
+  return Array.from(numbers, (number) => document.node(number));
 }
 
 function cleaned(name, page) {

@@ -1,6 +1,6 @@
 // test.mjs ROWS: the rows that all bindings are tested with, and what no row says. Prints how many passed and failed.
 import { readFileSync } from 'node:fs';
-import { Document, Fault, clean, cleanDocument, normalise, parse } from 'figpliers';
+import { Document, Fault, clean, cleanDocument, normalise, parse, select } from 'figpliers';
 
 let passed = 0;
 let failed = 0;
@@ -45,6 +45,11 @@ function called(name, table, page) {
     if (name.startsWith('clean')) {
       const it = (name === 'clean' ? clean : cleanDocument)(page);
       return [0, counts(it), Buffer.from(it.text)];
+    }
+    if (name === 'select') {
+      // the table of a row is its selectors
+      const found = select(table, page);
+      return [0, numbers(normalise(page)), Buffer.from(Uint32Array.from(found, (it) => it.number).buffer)];
     }
     const told = normalise(...words);
     if (!name.startsWith('tree')) return [0, numbers(told), Buffer.from(told.text)];

@@ -142,6 +142,10 @@ export class Node {
     return this.attributes.find((it) => it.name === name)?.value ?? null;
   }
 
+  get number() {
+    return this.#number;
+  }
+
   isSame(other) {
     return this.#image === other.#image && this.#number === other.#number;
   }
@@ -182,6 +186,10 @@ export class Document extends Node {
 
   get image() {
     return this.#image.bytes;
+  }
+
+  node(number) {
+    return new Node(this.#image, number);
   }
 
   get errors() {

@@ -15,6 +15,7 @@ threads run while one is made.
 """
 import ctypes
 import os
+import struct
 from typing import Callable, List, NamedTuple, Optional, Tuple, Union
 from xml.etree.ElementTree import Element, TreeBuilder
 
@@ -32,6 +33,7 @@ __all__ = [
     "element",
     "normalise",
     "parse",
+    "select",
 ]
 __version__ = "0.1.0"
 
@@ -68,6 +70,8 @@ class Fault(ValueError):
         18: "row {} of the table has a bad name",
         19: "row {} of the table has the name of an earlier one",
         20: "row {} of the table has a value that is no character",
+        32: "the selectors are not UTF-8 at byte {}",
+        33: "the selectors are wrong at character {}",
     }
 
     def __init__(self, answer: int, at: int) -> None:
@@ -111,6 +115,7 @@ _normalise = _declared("fig_normalise", 1, _Report)
 _normalise_with = _declared("fig_normalise_with", 2, _Report)
 _tree = _declared("fig_tree", 1, _Report)
 _tree_with = _declared("fig_tree_with", 2, _Report)
+_select = _declared("fig_select", 2, _Report)
 _clean = _declared("fig_clean", 1, _Cleaned)
 _clean_document = _declared("fig_clean_document", 1, _Cleaned)
 
@@ -163,6 +168,17 @@ def parse(page: Page, table: Optional[Page] = None) -> Document:
     """The document of a page. `table` is as in `normalise`. Raises Fault or MemoryError."""
     image, _ = _by(_tree, _tree_with, page, table, 16, 1024)
     return Document(image)
+
+
+def select(selectors: Page, page: Page) -> List[Node]:
+    """The elements of a page that CSS selectors select (Selectors Level 4), in tree order. Raises Fault or MemoryError.
+
+    >>> [item.text() for item in select("ul > li:nth-child(2)", "<ul><li>a<li>b</ul>")]
+    ['b']
+    """
+    page = _bytes(page)
+    numbers, _ = _with_room(_select, [_bytes(selectors), page], 256, _Report())
+    return parse(page)._nodes(number for (number,) in struct.iter_unpack("<I", numbers))
 
 
 def element(page: Page, table: Optional[Page] = None) -> Element:

@@ -12,7 +12,7 @@
 """
 import struct
 from collections.abc import Mapping
-from typing import Iterator, List, Optional, Tuple
+from typing import Iterable, Iterator, List, Optional, Tuple
 
 _NO_NODE = 0xFFFFFFFF
 _HEADER = 32
@@ -241,6 +241,9 @@ class Document(Node):
 
     def __init__(self, data: bytes) -> None:
         super().__init__(_Image(data), 0)
+
+    def _nodes(self, numbers: Iterable[int]) -> List[Node]:
+        return [Node(self._image, number) for number in numbers]
 
     @property
     def image(self) -> bytes:

@@ -43,6 +43,12 @@ def called(name, table, page):
             text, counts = getattr(figpliers, name)(page)
             return 0, ",".join(map(str, (0, *counts))), text.encode()
         words = (page, table) if name.endswith("_with") else (page,)
+        if name == "select":
+            # the table of a row is its selectors
+            nodes = figpliers.select(table, page)
+            report = figpliers.normalise(page)[1]
+            numbers = f"{'+' if report.errors else 0},0,{('no', 'limited', 'yes').index(report.quirks)},{int(report.plain)}"
+            return 0, numbers, b"".join(node._number.to_bytes(4, "little") for node in nodes)
         if name.startswith("tree"):
             document = figpliers.parse(*words)
             text, report = document.image, figpliers.normalise(*words)[1]
@@ -98,7 +104,7 @@ top = figpliers.element("<!DOCTYPE html><p id=a>b<svg><path/></svg>c")
 check(top.find("body/p").get("id") == "a", "an element")
 check(top.find("body/p/{http://www.w3.org/2000/svg}svg").tail == "c", "an element of SVG")
 check(len(figpliers.element("<p>" * 1000).find("body")) == 1000, "many elements of etree")
-for module, examples in ((figpliers, 5), (figpliers.tree, 6)):
+for module, examples in ((figpliers, 6), (figpliers.tree, 6)):
     outcome = doctest.testmod(module)
     check(outcome.failed == 0 and outcome.attempted == examples, f"the examples of {module.__name__}")
 if "FIGPLIERS_LAYOUT" in os.environ:

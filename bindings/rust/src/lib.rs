@@ -87,6 +87,10 @@ pub enum Fault {
     TableDuplicate { row: u64 },
     /// A row of the table has a value that is no character.
     TableValue { row: u64 },
+    /// The selectors are not UTF-8; their longest front that is has `at` bytes.
+    SelectorNotUtf8 { at: u64 },
+    /// The text is no selectors; so many characters stand before the first fault.
+    Selector { at: u64 },
     /// An answer of a later library.
     Other { answer: u32, at: u64 },
 }
@@ -102,6 +106,8 @@ impl Fault {
             18 => Fault::TableName { row: at },
             19 => Fault::TableDuplicate { row: at },
             20 => Fault::TableValue { row: at },
+            32 => Fault::SelectorNotUtf8 { at },
+            33 => Fault::Selector { at },
             _ => Fault::Other { answer, at },
         }
     }
@@ -118,6 +124,8 @@ impl fmt::Display for Fault {
             Fault::TableName { row } => write!(f, "row {row} of the table has a bad name"),
             Fault::TableDuplicate { row } => write!(f, "row {row} of the table has the name of an earlier one"),
             Fault::TableValue { row } => write!(f, "row {row} of the table has a value that is no character"),
+            Fault::SelectorNotUtf8 { at } => write!(f, "the selectors are not UTF-8 at byte {at}"),
+            Fault::Selector { at } => write!(f, "the selectors are wrong at character {at}"),
             Fault::Other { answer, at } => write!(f, "answer {answer} at {at}"),
         }
     }
@@ -176,7 +184,7 @@ fn by_standard<R: Told>(call: sys::Call<R>, page: &[u8], guess: usize) -> Result
     with_room(guess, |output, room, report| unsafe { call(page.as_ptr(), page.len(), output, room, report) })
 }
 
-/// A call by a table that is handed in.
+/// A call by a table that is handed in, or by selectors.
 fn by_table(call: sys::CallWith, table: &[u8], page: &[u8], guess: usize) -> Result<(Vec<u8>, FigReport), Fault> {
     // SAFETY: as above.
     with_room(guess, |output, room, report| unsafe {
@@ -249,6 +257,22 @@ pub fn parse_with(table: impl AsRef<[u8]>, page: impl AsRef<[u8]>) -> Result<Doc
     let page = page.as_ref();
     let (image, _) = by_table(sys::fig_tree_with, table.as_ref(), page, tree_guess(page))?;
     Ok(Document::new(image))
+}
+
+/// The numbers of the nodes of a page's tree that CSS selectors select (Selectors Level 4), in tree order: [`Document::node`] of the
+/// same page has the nodes.
+///
+/// ```
+/// let page = "<ul><li>a<li>b</ul>";
+/// let found = figpliers::select("ul > li:nth-child(2)", page)?;
+/// assert_eq!(figpliers::parse(page)?.node(found[0]).text(), "b");
+/// # Ok::<(), figpliers::Fault>(())
+/// ```
+///
+/// Errors: as of [`normalise`]; [`Fault::Selector`] where the text is no selectors.
+pub fn select(selectors: impl AsRef<[u8]>, page: impl AsRef<[u8]>) -> Result<Vec<u32>, Fault> {
+    let (bytes, _) = by_table(sys::fig_select, selectors.as_ref(), page.as_ref(), 256)?;
+    Ok(bytes.chunks_exact(4).map(|it| u32::from_le_bytes(it.try_into().expect("four bytes"))).collect())
 }
 
 /// What the ready policy keeps of a page, read as what stands in a `div`: text, links, tables and formatting.

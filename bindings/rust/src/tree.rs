@@ -96,6 +96,16 @@ impl Document {
         Node { image: &self.image, number: 0 }
     }
 
+    /// The node of a number, as [`select`](crate::select) has it.
+    ///
+    /// # Panics
+    ///
+    /// If the document has no such node.
+    pub fn node(&self, number: u32) -> Node<'_> {
+        assert!((number as usize) < word(&self.image, 8) as usize / NODE, "the document has no node {number}");
+        Node { image: &self.image, number }
+    }
+
     /// How many parse errors were counted: 0 in a page without any.
     pub fn errors(&self) -> u64 {
         u64::from(word(&self.image, 28)) << 32 | u64::from(word(&self.image, 24))

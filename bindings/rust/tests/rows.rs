@@ -51,6 +51,8 @@ fn answer(fault: Fault) -> (u32, u64) {
         Fault::TableName { row } => (18, row),
         Fault::TableDuplicate { row } => (19, row),
         Fault::TableValue { row } => (20, row),
+        Fault::SelectorNotUtf8 { at } => (32, at),
+        Fault::Selector { at } => (33, at),
         other => panic!("{other}"),
     }
 }
@@ -61,6 +63,10 @@ fn call(name: &str, table: &[u8], page: &[u8]) -> Result<(Vec<u8>, String), Faul
         "normalise_with" => figpliers::normalise_with(table, page).map(|(text, report)| (text.into_bytes(), told(report)))?,
         "tree" => image_of(figpliers::parse(page)?, figpliers::normalise(page)?.1),
         "tree_with" => image_of(figpliers::parse_with(table, page)?, figpliers::normalise_with(table, page)?.1),
+        "select" => {
+            let numbers = figpliers::select(table, page)?.into_iter().flat_map(u32::to_le_bytes).collect();
+            (numbers, told(figpliers::normalise(page)?.1))
+        }
         "clean" => figpliers::clean(page).map(|(text, counts)| (text.into_bytes(), counted(counts)))?,
         "clean_document" => figpliers::clean_document(page).map(|(text, counts)| (text.into_bytes(), counted(counts)))?,
         other => panic!("{other}"),

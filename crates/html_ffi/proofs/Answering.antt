@@ -4,17 +4,18 @@ use Rattle.std.specs.Prelude.{length}
 use Rattle.html_clean.specs.declared.counts.Cleaned.{Cleaned}
 use Rattle.html_normal.specs.declared.report.Report.{Report}
 use Rattle.html_ffi.specs.Answers.{Fails, IsPut, Means}
-use Rattle.html_ffi.specs.Calls.{IsReported, IsReportedClean, MeansCleaned, MeansText}
+use Rattle.html_ffi.specs.Calls.{IsReported, IsReportedClean, MeansCleaned}
 use Rattle.html_ffi.specs.Reports.{cleaned_of, nothing_at, nothing_cleaned_at, report_of}
 use Rattle.html_ffi.specs.declared.report.FigCleaned.{FigCleaned}
 use Rattle.html_ffi.specs.declared.report.FigReport.{FigReport}
 use Rattle.html_ffi.specs.declared.answer.Answer.{Answer}
 use Rattle.html_ffi.specs.declared.answer.Answer.TheVariants.{Done, NotUtf8, TooShort, Memory, TooLarge, TableNotUtf8}
 use Rattle.html_ffi.specs.declared.answer.Answer.TheVariants.{TableLine, TableName, TableDuplicate, TableValue}
+use Rattle.html_ffi.specs.declared.answer.Answer.TheVariants.{SelectorNotUtf8, Selector}
 
-module _ (Makes : List ℕ → Type 0) (None : Type 0) (file page : List ℕ) (at : ℕ) (old new : List ℕ) where
+module _ (Makes : List ℕ → Type 0) (None : Type 0) (Why : Answer → Type 0) (old new : List ℕ) where
   -- a text that was made was put in front of the room, or is too long for it
-  pub put-means : (text : List ℕ) (answer : Answer) → Makes text → IsPut text old new answer → Means Makes None file page at old new answer
+  pub put-means : (text : List ℕ) (answer : Answer) → Makes text → IsPut text old new answer → Means Makes None Why old new answer
   put-means text Done made is = record { text = text; made = made; front = is }
   put-means text NotUtf8 made is = absurd is
   put-means text TooShort made is = record { text = text; made = made; short = is.0; same = is.1 }
@@ -25,41 +26,50 @@ module _ (Makes : List ℕ → Type 0) (None : Type 0) (file page : List ℕ) (a
   put-means text TableName made is = absurd is
   put-means text TableDuplicate made is = absurd is
   put-means text TableValue made is = absurd is
+  put-means text SelectorNotUtf8 made is = absurd is
+  put-means text Selector made is = absurd is
 
   -- there is no text
-  pub none-means : (answer : Answer) → Fails file page answer at → None → new ≡ old → Means Makes None file page at old new answer
-  none-means Done why none same = absurd why
-  none-means NotUtf8 why none same = record { why = why; none = none; same = same }
-  none-means TooShort why none same = absurd why
-  none-means Memory why none same = record { why = why; none = none; same = same }
-  none-means TooLarge why none same = record { why = why; none = none; same = same }
-  none-means TableNotUtf8 why none same = record { why = why; none = none; same = same }
-  none-means TableLine why none same = record { why = why; none = none; same = same }
-  none-means TableName why none same = record { why = why; none = none; same = same }
-  none-means TableDuplicate why none same = record { why = why; none = none; same = same }
-  none-means TableValue why none same = record { why = why; none = none; same = same }
+  pub none-means : (Why Done → ⊥) → (Why TooShort → ⊥) → (answer : Answer) → Why answer → None → new ≡ old
+      → Means Makes None Why old new answer
+  none-means done short Done why none same = absurd (done why)
+  none-means done short NotUtf8 why none same = record { why = why; none = none; same = same }
+  none-means done short TooShort why none same = absurd (short why)
+  none-means done short Memory why none same = record { why = why; none = none; same = same }
+  none-means done short TooLarge why none same = record { why = why; none = none; same = same }
+  none-means done short TableNotUtf8 why none same = record { why = why; none = none; same = same }
+  none-means done short TableLine why none same = record { why = why; none = none; same = same }
+  none-means done short TableName why none same = record { why = why; none = none; same = same }
+  none-means done short TableDuplicate why none same = record { why = why; none = none; same = same }
+  none-means done short TableValue why none same = record { why = why; none = none; same = same }
+  none-means done short SelectorNotUtf8 why none same = record { why = why; none = none; same = same }
+  none-means done short Selector why none same = record { why = why; none = none; same = same }
 
 -- of a page's text
-module _ (Is : (file page text : List ℕ) → Report → Type 0) (file page old new : List ℕ) (report : FigReport) (answer : Answer) where
+module _ (Is : (file page text : List ℕ) → Report → Type 0) (Why : ℕ → Answer → Type 0) (file page old new : List ℕ)
+    (report : FigReport) (answer : Answer) where
   pub text-put : (text lent : List ℕ) (count : ℕ) (told : Report) → Is file page text told → lent ≡ text
-      → count ≡ length lent → report ≡ report_of count told → IsPut lent old new answer → MeansText Is file page old new report answer
+      → count ≡ length lent → report ≡ report_of count told → IsPut lent old new answer
+      → Means (IsReported Is file page report) (report ≡ nothing_at report.at) (Why report.at) old new answer
   text-put text lent count told is same counted report_is put =
-      put-means (IsReported Is file page report) (report ≡ nothing_at report.at) file page report.at old new text answer
+      put-means (IsReported Is file page report) (report ≡ nothing_at report.at) (Why report.at) old new text answer
       (record { told = told; is = is; report_is = report_is ∙ ap (λ n. report_of n told) (counted ∙ ap length same) })
       (subst (λ (t : List ℕ). IsPut t old new answer) same put)
 
-  pub text-none : (at : ℕ) → Fails file page answer at → report ≡ nothing_at at → new ≡ old → MeansText Is file page old new report answer
-  text-none at fails none same =
+  pub text-none : ((n : ℕ) → Why n Done → ⊥) → ((n : ℕ) → Why n TooShort → ⊥) → (at : ℕ) → Why at answer → report ≡ nothing_at at
+      → new ≡ old → Means (IsReported Is file page report) (report ≡ nothing_at report.at) (Why report.at) old new answer
+  text-none done short at fails none same =
       let there : report.at ≡ at = ap (λ (r : FigReport). r.at) none in
-      none-means (IsReported Is file page report) (report ≡ nothing_at report.at) file page report.at old new answer
-      (subst (λ (n : ℕ). Fails file page answer n) (sym there) fails) (none ∙ ap nothing_at (sym there)) same
+      none-means (IsReported Is file page report) (report ≡ nothing_at report.at) (Why report.at) old new (done report.at)
+      (short report.at) answer (subst (λ (n : ℕ). Why n answer) (sym there) fails) (none ∙ ap nothing_at (sym there)) same
 
 -- of what was kept of a page
 module _ (Is : (file page text : List ℕ) → Cleaned → Type 0) (file page old new : List ℕ) (report : FigCleaned) (answer : Answer) where
   pub cleaned-put : (text lent : List ℕ) (count : ℕ) (told : Cleaned) → Is file page text told → lent ≡ text
       → count ≡ length lent → report ≡ cleaned_of count told → IsPut lent old new answer → MeansCleaned Is file page old new report answer
   cleaned-put text lent count told is same counted report_is put =
-      put-means (IsReportedClean Is file page report) (report ≡ nothing_cleaned_at report.at) file page report.at old new text answer
+      put-means (IsReportedClean Is file page report) (report ≡ nothing_cleaned_at report.at) (λ a. Fails file page a report.at)
+      old new text answer
       (record { counts = told; is = is; report_is = report_is ∙ ap (λ n. cleaned_of n told) (counted ∙ ap length same) })
       (subst (λ (t : List ℕ). IsPut t old new answer) same put)
 
@@ -67,5 +77,6 @@ module _ (Is : (file page text : List ℕ) → Cleaned → Type 0) (file page ol
       → MeansCleaned Is file page old new report answer
   cleaned-none at fails none same =
       let there : report.at ≡ at = ap (λ (r : FigCleaned). r.at) none in
-      none-means (IsReportedClean Is file page report) (report ≡ nothing_cleaned_at report.at) file page report.at old new answer
+      none-means (IsReportedClean Is file page report) (report ≡ nothing_cleaned_at report.at) (λ a. Fails file page a report.at)
+      old new (λ (w : ⊥). w) (λ (w : ⊥). w) answer
       (subst (λ (n : ℕ). Fails file page answer n) (sym there) fails) (none ∙ ap nothing_cleaned_at (sym there)) same

@@ -1,6 +1,6 @@
 -- What a call answers, and what that says of the caller's room.
-use Rattle.std.specs.Prelude.{◌≡◌, ℕ, ◌<◌, true, List, [], ◌++◌, Some, length, drop}
-use Rattle.std.specs.Str.{IsValidUpTo}
+use Rattle.std.specs.Prelude.{◌≡◌, ℕ, ◌<◌, true, List, [], ◌++◌, Some, Err, length, drop}
+use Rattle.std.specs.Str.{IsValidUpTo, chars}
 use Rattle.markup.specs.Forest.{Forest}
 use Rattle.html_input.specs.TableFault.{HasBadLine, HasBadRow, IsTableFile}
 use Rattle.html_input.specs.declared.table.TableFileFault.{TableFileFault}
@@ -11,12 +11,17 @@ use Rattle.html_tokens.specs.declared.table.TableFault.TheVariants as table
 use Rattle.html_normal.specs.Document.{IsDocument}
 use Rattle.html_normal.specs.declared.fault.NormalFault.{NormalFault}
 use Rattle.html_normal.specs.declared.fault.NormalFault.TheVariants as normal
+use Rattle.html_selector_text.specs.Grammar.{parsed}
+use Rattle.html_selector_text.specs.declared.fault.SelectorError.{SelectorError}
+use Rattle.html_selector_text.specs.declared.fault.SelectorError.TheVariants as errors
+use Rattle.html_selector_text.specs.declared.fault.SyntaxFault.{SyntaxFault}
 use Rattle.html_tree_image.specs.Image.{is_too_large}
 use Rattle.html_tree_image.specs.declared.image.ImageFault.{ImageFault}
 use Rattle.html_tree_image.specs.declared.image.ImageFault.TheVariants as image
 use Rattle.html_ffi.specs.declared.answer.Answer.{Answer}
 use Rattle.html_ffi.specs.declared.answer.Answer.TheVariants.{Done, NotUtf8, TooShort, Memory, TooLarge, TableNotUtf8}
 use Rattle.html_ffi.specs.declared.answer.Answer.TheVariants.{TableLine, TableName, TableDuplicate, TableValue}
+use Rattle.html_ffi.specs.declared.answer.Answer.TheVariants.{SelectorNotUtf8, Selector}
 use Rattle.html_ffi.specs.declared.answer.Failure.{Failure}
 
 -- ANSWERS
@@ -33,6 +38,8 @@ number_of TableLine = 17
 number_of TableName = 18
 number_of TableDuplicate = 19
 number_of TableValue = 20
+number_of SelectorNotUtf8 = 32
+number_of Selector = 33
 
 abbrev pub failure : Answer → ℕ → Failure
 failure answer at = record { answer = answer; at = at }
@@ -49,6 +56,11 @@ failure_of normal.Refused = failure Memory 0
 abbrev pub image_failure_of : ImageFault → Failure
 image_failure_of image.Memory = failure Memory 0
 image_failure_of image.TooLarge = failure TooLarge 0
+
+-- of a text of selectors
+abbrev pub selector_failure_of : SelectorError → Failure
+selector_failure_of errors.Memory = failure Memory 0
+selector_failure_of (errors.Syntax fault at) = failure Selector at
 
 -- of the rows of a table
 abbrev pub row_failure_of : TableFault → Failure
@@ -85,6 +97,19 @@ Fails file page TableLine at = HasBadLine file at
 Fails file page TableName at = HasBadRow file (table.BadName at)
 Fails file page TableDuplicate at = HasBadRow file (table.Duplicate at)
 Fails file page TableValue at = HasBadRow file (table.BadValue at)
+Fails file page SelectorNotUtf8 at = ⊥
+Fails file page Selector at = ⊥
+
+-- A text is no selectors: the first fault is at this place, in characters.
+pub record IsNoSelector (text : List ℕ) (at : ℕ) : Type 0 where
+  pub fault : SyntaxFault
+  pub is : parsed (chars text) ≡ Err (record { fault = fault; at = at })
+
+-- the same of a call that takes a text of selectors too
+abbrev pub FailsToSelect : (file selector page : List ℕ) → Answer → ℕ → Type 0
+FailsToSelect file selector page SelectorNotUtf8 at = IsValidUpTo selector at
+FailsToSelect file selector page Selector at = IsNoSelector selector at
+FailsToSelect file selector page answer at = Fails file page answer at
 
 -- why there is no image of a forest, whatever page has it as its document
 abbrev pub FailsOver : Forest → Answer → ℕ → Type 0
@@ -104,9 +129,11 @@ IsPut text old new TableLine = ⊥
 IsPut text old new TableName = ⊥
 IsPut text old new TableDuplicate = ⊥
 IsPut text old new TableValue = ⊥
+IsPut text old new SelectorNotUtf8 = ⊥
+IsPut text old new Selector = ⊥
 
--- What an answer says: of a text that `Makes` says is the one that is asked for, or of why there is none, and then `None`
-module _ (Makes : List ℕ → Type 0) (None : Type 0) (file page : List ℕ) (at : ℕ) (old new : List ℕ) where
+-- What an answer says: of a text that `Makes` says is the one that is asked for, or of why there is none, and then `None`.
+module _ (Makes : List ℕ → Type 0) (None : Type 0) (Why : Answer → Type 0) (old new : List ℕ) where
   -- The text stands in front of the room, of which nothing else changed.
   pub record IsWritten : Type 0 where
     pub text : List ℕ
@@ -122,7 +149,7 @@ module _ (Makes : List ℕ → Type 0) (None : Type 0) (file page : List ℕ) (a
 
   -- There is no text, and nothing changed.
   pub record HasNone (answer : Answer) : Type 0 where
-    pub why : Fails file page answer at
+    pub why : Why answer
     pub none : None
     pub same : new ≡ old
 
@@ -137,6 +164,8 @@ module _ (Makes : List ℕ → Type 0) (None : Type 0) (file page : List ℕ) (a
   Means TableName = HasNone TableName
   Means TableDuplicate = HasNone TableDuplicate
   Means TableValue = HasNone TableValue
+  Means SelectorNotUtf8 = HasNone SelectorNotUtf8
+  Means Selector = HasNone Selector
 
 -- The number that C is told is that of an answer, which says this.
 pub record Tells (Says : Answer → Type 0) (number : ℕ) : Type 0 where

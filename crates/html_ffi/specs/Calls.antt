@@ -1,6 +1,6 @@
 -- The texts that calls make of a page, by the table of references that a file's bytes hold.
 use Rattle.std.specs.Prelude.{◌≡◌, ℕ, false, List, [], length, Some}
-use Rattle.std.specs.Str.{chars}
+use Rattle.std.specs.Str.{IsUtf8, chars}
 use Rattle.markup.specs.Forest.{Forest}
 use Rattle.markup.specs.TreeLaws.{with_errors}
 use Rattle.html_clean.specs.Ready.{IsTextAndLinks}
@@ -13,8 +13,9 @@ use Rattle.html_normal.specs.Normal.{IsNormalised}
 use Rattle.html_normal.specs.declared.report.Report.{Report}
 use Rattle.html_plain.specs.Grammar.{is_plain_forest}
 use Rattle.html_tokens.specs.Table.{Row}
-use Rattle.html_tree_image.specs.Image.{image_of}
-use Rattle.html_ffi.specs.Answers.{Means}
+use Rattle.html_select.specs.Found.{IsFound}
+use Rattle.html_tree_image.specs.Image.{image_of, words}
+use Rattle.html_ffi.specs.Answers.{Fails, FailsToSelect, Means}
 use Rattle.html_ffi.specs.Reports.{cleaned_of, nothing_at, nothing_cleaned_at, report_of}
 use Rattle.html_ffi.specs.declared.answer.Answer.{Answer}
 use Rattle.html_ffi.specs.declared.report.FigCleaned.{FigCleaned}
@@ -40,6 +41,31 @@ pub record IsTreeImage (file page bytes : List ℕ) (told : Report) : Type 0 whe
   pub document : Forest
   pub input : IsDocument rows page document
   pub image : bytes ≡ image_of (with_errors told.errors document)
+  pub plain : told.plain ≡ is_plain_forest document
+  pub quirks : told.quirks ≡ document.quirks
+  pub errors : CountsErrors rows false (chars page) told.errors
+
+-- Bytes are the numbers of the nodes that selectors select in a forest, in tree order.
+pub record IsSelected (selector : List ℕ) (f : Forest) (bytes : List ℕ) : Type 0 where
+  pub found : List ℕ
+  pub is_found : IsFound (chars selector) f 0 found
+  pub numbers : bytes ≡ words found
+
+-- Bytes are the numbers of what selectors select in a forest, and this is told of it.
+pub record IsToldToo (selector : List ℕ) (f : Forest) (bytes : List ℕ) (told : Report) : Type 0 where
+  pub selected : IsSelected selector f bytes
+  pub plain : told.plain ≡ is_plain_forest f
+  pub quirks : told.quirks ≡ f.quirks
+  pub errors : told.errors ≡ f.errors
+
+-- Bytes are the numbers of what selectors select in a page's document, and this is told of the page.
+pub record IsSelection (selector file page bytes : List ℕ) (told : Report) : Type 0 where
+  pub rows : List Row
+  pub table : IsTableFile file (Some []) rows
+  pub document : Forest
+  pub input : IsDocument rows page document
+  pub utf8 : IsUtf8 selector
+  pub selected : IsSelected selector (with_errors told.errors document) bytes
   pub plain : told.plain ≡ is_plain_forest document
   pub quirks : told.quirks ≡ document.quirks
   pub errors : CountsErrors rows false (chars page) told.errors
@@ -75,8 +101,14 @@ pub record IsReportedClean (Is : (file page text : List ℕ) → Cleaned → Typ
 
 -- what an answer says of the table's bytes, the page, the room before and after the call, and the report
 abbrev pub MeansText : (Is : (file page text : List ℕ) → Report → Type 0) → (file page old new : List ℕ) → FigReport → Answer → Type 0
-MeansText Is file page old new report = Means (IsReported Is file page report) (report ≡ nothing_at report.at) file page report.at old new
+MeansText Is file page old new report = Means (IsReported Is file page report) (report ≡ nothing_at report.at)
+    (λ answer. Fails file page answer report.at) old new
 
 abbrev pub MeansCleaned : (Is : (file page text : List ℕ) → Cleaned → Type 0) → (file page old new : List ℕ) → FigCleaned → Answer → Type 0
 MeansCleaned Is file page old new report = Means (IsReportedClean Is file page report)
-    (report ≡ nothing_cleaned_at report.at) file page report.at old new
+    (report ≡ nothing_cleaned_at report.at) (λ answer. Fails file page answer report.at) old new
+
+-- the same of a call that takes selectors too
+abbrev pub MeansSelection : (file selector page old new : List ℕ) → FigReport → Answer → Type 0
+MeansSelection file selector page old new report = Means (IsReported (IsSelection selector) file page report)
+    (report ≡ nothing_at report.at) (λ answer. FailsToSelect file selector page answer report.at) old new

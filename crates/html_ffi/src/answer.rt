@@ -1,9 +1,11 @@
 //! What a call answers.
 ghost use Rattle.std.specs.Prelude.{◌≡◌, ℕ, List};
-ghost use Rattle.html_ffi.specs.Answers.{Fails, failure_of, image_failure_of, number_of, row_failure_of, table_failure_of};
+ghost use Rattle.html_ffi.specs.Answers.{Fails, failure_of, image_failure_of, number_of, row_failure_of};
+ghost use Rattle.html_ffi.specs.Answers.{selector_failure_of, table_failure_of};
 ghost use Rattle.html_ffi.specs.declared.answer.Answer.TheVariants.{Memory};
 
 use html_normal::{NormalFault, TableFault, TableFileFault};
+use html_selector_text::SelectorError;
 use html_tree_image::ImageFault;
 use std::alloc::{AllocError, AllocFailed};
 
@@ -30,6 +32,10 @@ pub enum Answer {
     TableDuplicate,
     /// A row of the table has a value that is no character.
     TableValue,
+    /// The selectors are not UTF-8.
+    SelectorNotUtf8,
+    /// The text is no selectors.
+    Selector,
 }
 
 impl Answer {
@@ -48,6 +54,8 @@ impl Answer {
             Answer::TableName => 18,
             Answer::TableDuplicate => 19,
             Answer::TableValue => 20,
+            Answer::SelectorNotUtf8 => 32,
+            Answer::Selector => 33,
         }
     }
 }
@@ -153,6 +161,20 @@ impl From<ImageFault> for Failure {
             ImageFault::TooLarge => Failure {
                 answer: Answer::TooLarge,
                 at: 0,
+            },
+        }
+    }
+}
+
+impl From<SelectorError> for Failure {
+    ghost from_gives = { λ error made. made ≡ selector_failure_of error };
+
+    fn from(error: SelectorError) -> Failure {
+        match error {
+            SelectorError::Memory => no_memory(),
+            SelectorError::Syntax { at, .. } => Failure {
+                answer: Answer::Selector,
+                at: at as u64,
             },
         }
     }

@@ -3,7 +3,7 @@
 
 ghost use Rattle.std.specs.Prelude.{◌≡◌, length};
 ghost use Rattle.html_ffi.specs.Answers.{Tells};
-ghost use Rattle.html_ffi.specs.Calls.{IsCleanDocument, IsCleanFragment, IsNormalText, IsTreeImage, MeansCleaned, MeansText};
+ghost use Rattle.html_ffi.specs.Calls.{IsCleanDocument, IsCleanFragment, IsNormalText, IsTreeImage, MeansCleaned, MeansSelection, MeansText};
 
 mod answer;
 mod clean;
@@ -11,6 +11,7 @@ mod normal;
 mod page;
 mod report;
 mod room;
+mod select;
 mod table;
 #[cfg(test)]
 mod tests;
@@ -20,6 +21,7 @@ use clean::{clean_document_by, clean_fragment_by};
 use html_standard_references::STANDARD_ROWS;
 use normal::normalise_by;
 use report::{FigCleaned, FigReport};
+use select::select_by;
 use std::alloc::Global;
 use tree::tree_by;
 
@@ -79,6 +81,30 @@ pub extern "C" fn fig_tree_with(
     ensures same_room { length output.new ≡ length output.old }
 {
     tree_by(alloc, table, page, output, report).number()
+}
+
+/// Writes the numbers of the nodes that the selectors of `selector` select in `page`'s document to `output`, in tree order, each in four
+/// bytes, as the image of the tree names them (Selectors Level 4). By the Standard's table of references.
+#[unsafe(no_mangle)]
+pub extern "C" fn fig_select(
+    alloc: Global,
+    selector: &[u8],
+    page: &[u8],
+    output: &mut [u8],
+    report: &mut FigReport,
+) -> u32
+    ensures answer { Tells (MeansSelection STANDARD_ROWS.now selector.now page.now output.old output.new report.new) result }
+    ensures same_room { length output.new ≡ length output.old }
+{
+    select_by(
+        alloc,
+        STANDARD_ROWS.as_bytes(),
+        selector,
+        page,
+        output,
+        report,
+    )
+    .number()
 }
 
 /// Writes what the ready policy keeps of `page`, as a fragment in a `div`, to `output`.

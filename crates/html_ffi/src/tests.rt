@@ -2,19 +2,21 @@
 
 use crate::report::{FigCleaned, FigReport};
 use crate::{
-    fig_clean, fig_clean_document, fig_normalise, fig_normalise_with, fig_tree, fig_tree_with,
+    fig_clean, fig_clean_document, fig_normalise, fig_normalise_with, fig_select, fig_tree,
+    fig_tree_with,
 };
 use std::alloc::Global;
 
 /// The room that each call is given.
 const ROOM: usize = 400;
 
-/// A call whose report is on a page: its table, if it takes one, and the page.
+/// A call whose report is on a page: its table or its selectors, if it takes one, and the page.
 enum Page {
     Normal(&'static [u8]),
     NormalWith(&'static [u8], &'static [u8]),
     Tree(&'static [u8]),
     TreeWith(&'static [u8], &'static [u8]),
+    Select(&'static [u8], &'static [u8]),
 }
 
 /// The answer, and what the report has: `at`, the number of the quirks mode, and whether the document is plain; and what is written.
@@ -64,6 +66,14 @@ const PAGES: &[(Page, Seen)] = &[
     (Page::Tree(b"<!DOCTYPE html>"), (0, 0, 0, 1, IMAGE)),
     (Page::TreeWith(b"x", b"a"), (17, 1, 0, 0, b"")),
     (Page::Tree(b"a\xC0"), (1, 1, 0, 0, b"")),
+    (
+        Page::Select(b"p + p, body > :first-child", b"<!DOCTYPE html><p>a<p>b"),
+        (0, 0, 0, 1, b"\x05\0\0\0\x07\0\0\0"),
+    ),
+    (Page::Select(b"ul", b"<!DOCTYPE html>"), (0, 0, 0, 1, b"")),
+    (Page::Select(b"p >", b"<p>"), (33, 3, 0, 0, b"")),
+    (Page::Select(b"p\xFF", b"<p>"), (32, 1, 0, 0, b"")),
+    (Page::Select(b"p", b"a\xFF"), (1, 1, 0, 0, b"")),
 ];
 
 /// A call whose report is on a page that was cleaned.
@@ -115,6 +125,7 @@ fn call(alloc: Global, page: &Page, output: &mut [u8], report: &mut FigReport) -
         Page::NormalWith(table, page) => fig_normalise_with(alloc, table, page, output, report),
         Page::Tree(page) => fig_tree(alloc, page, output, report),
         Page::TreeWith(table, page) => fig_tree_with(alloc, table, page, output, report),
+        Page::Select(selector, page) => fig_select(alloc, selector, page, output, report),
     }
 }
 

@@ -55,7 +55,7 @@ fn told_image(alloc: Global, forest: &Forest) -> Result<(Vec<u8>, Report), Failu
 }
 
 /// The document of a page.
-fn document_of(alloc: Global, table: References, page: &[u8]) -> Result<Forest, Failure>
+pub(crate) fn document_of(alloc: Global, table: References, page: &[u8]) -> Result<Forest, Failure>
     ensures ok { IfOk result (λ forest. IsRead table false page.now (Some []) (with_errors 0 forest) forest.errors) }
     ensures err { IfErr result (λ failure. (file : List ℕ) → Fails file page.now failure.answer failure.at) }
 {

@@ -9,3 +9,4 @@ mod nodes;
 mod words;
 
 pub use image::{ImageFault, tree_image};
+pub use words::node_words;

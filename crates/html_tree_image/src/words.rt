@@ -1,11 +1,11 @@
 //! Numbers in an image.
-ghost use Rattle.std.specs.Prelude.{◌≡◌, ◌++◌, OnOk};
+ghost use Rattle.std.specs.Prelude.{◌≡◌, ◌++◌, IfOk, OnOk};
 ghost use Rattle.html_tree_image.specs.Image;
 ghost use Rattle.html_tree_image.specs.Image.{namespace_number, word};
 
 use html_forest::NodeId;
 use markup::{KnownNamespace, Namespace};
-use std::alloc::AllocError;
+use std::alloc::{AllocError, Global};
 
 // Adds the low 32 bits of a number.
 #[tactic(auto, unfolding(crate::specs::Image::word))]
@@ -49,4 +49,15 @@ pub(crate) fn number_of(namespace: &Namespace) -> usize
         Some(KnownNamespace::Xmlns) => 6,
         None => 7,
     }
+}
+
+/// The numbers of nodes, as an image names them: a word for each.
+pub fn node_words(alloc: Global, nodes: &[NodeId]) -> Result<Vec<u8>, AllocError>
+    ensures { IfOk result (λ bytes. bytes.items ≡ Image.words nodes.now) }
+{
+    let mut bytes = Vec::new(alloc);
+    for node in nodes {
+        push_word(&mut bytes, node.number())?;
+    }
+    Ok(bytes)
 }
