@@ -51,14 +51,15 @@ export declare class Node {
 }
 
 export declare class Document extends Node {
-  /** Makes a document of its image. */
+  /** Makes a document of its image alone, in which nothing can be selected. */
   constructor(image: Uint8Array);
   /** The bytes of the image (docs/TREE_IMAGE.md), which another process or language may read. */
   readonly image: Uint8Array;
   readonly errors: number;
   readonly quirks: Quirks;
-  /** The node of a number. */
-  node(number: number): Node;
+  /** The elements that CSS selectors select (Selectors Level 4), in tree order: the page is read once more for it. A TypeError where the
+   * page isn't known, or was read by a table. */
+  select(selectors: Page): Node[];
   /** The document element. */
   readonly root: Node | null;
 }
@@ -84,8 +85,6 @@ export interface Cleaned {
 export declare function normalise(page: Page, table?: Page): Normal;
 /** The document of a page. */
 export declare function parse(page: Page, table?: Page): Document;
-/** The elements of a page that CSS selectors select (Selectors Level 4), in tree order. */
-export declare function select(selectors: Page, page: Page): Node[];
 /** What the ready policy keeps of a page, read as what stands in a `div`. */
 export declare function clean(page: Page): Cleaned;
 /** The same of a page that is read as a document. */

@@ -96,15 +96,15 @@ export function normalise(page, table) {
   }));
 }
 
-export function parse(page, table) {
-  return byTable('fig_tree', page, table, 4, (image) => new Document(image.slice()));
+// The numbers of the nodes that selectors select in the document of a page.
+function selected(selectors, page) {
+  return call('fig_select', [bytesOf(selectors), page], 256, 16, (output) => new Uint32Array(output.slice().buffer));
 }
 
-export function select(selectors, page) {
+export function parse(page, table) {
   const bytes = bytesOf(page);
-  const numbers = call('fig_select', [bytesOf(selectors), bytes], 256, 16, (output) => new Uint32Array(output.slice().buffer));
-  const document = parse(bytes);
-  return Array.from(numbers, (number) => document.node(number));
+  const select = table === undefined ? (selectors) => selected(selectors, bytes) : undefined;
+  return byTable('fig_tree', bytes, table, 4, (image) => new Document(image.slice(), select));
 }
 
 function cleaned(name, page) {

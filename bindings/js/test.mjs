@@ -1,6 +1,6 @@
 // test.mjs ROWS: the rows that all bindings are tested with, and what no row says. Prints how many passed and failed.
 import { readFileSync } from 'node:fs';
-import { Document, Fault, clean, cleanDocument, normalise, parse, select } from 'figpliers';
+import { Document, Fault, clean, cleanDocument, normalise, parse } from 'figpliers';
 
 let passed = 0;
 let failed = 0;
@@ -48,7 +48,7 @@ function called(name, table, page) {
     }
     if (name === 'select') {
       // the table of a row is its selectors
-      const found = select(table, page);
+      const found = parse(page).select(table);
       return [0, numbers(normalise(page)), Buffer.from(Uint32Array.from(found, (it) => it.number).buffer)];
     }
     const told = normalise(...words);
@@ -81,8 +81,9 @@ const [template] = odd.elements('template');
 check(template.children.length === 0 && template.contents.text() === 'f' && template.text() === '', 'the contents of a template');
 check(template.previous.isSame(p) && template.next.data === 'g' && odd.root.lastChild.lastChild.data === '?h', 'siblings');
 check(new Document(odd.image.slice()).elements('p')[0].text() === 'd', 'an image that was handed on');
+check(odd.select('p > *')[0].isSame(svg), 'what is selected');
 check(clean('<b onclick=x>a</b><script>b</script>').text === '<b>a</b>', 'what is kept');
-for (const [wrong, kind] of [[() => parse(1), TypeError], [() => new Document(new Uint8Array(40)), TypeError]]) {
+for (const [wrong, kind] of [[() => parse(1), TypeError], [() => new Document(odd.image).select('p'), TypeError], [() => new Document(new Uint8Array(40)), TypeError]]) {
   try {
     wrong();
     check(false, 'a wrong argument');

@@ -177,19 +177,23 @@ export class Node {
 
 export class Document extends Node {
   #image;
+  #selected;
 
-  constructor(bytes) {
+  // `selected` gives the numbers of what selectors select.
+  constructor(bytes, selected) {
     const image = new Image(bytes);
     super(image, 0);
     this.#image = image;
+    this.#selected = selected;
+  }
+
+  select(selectors) {
+    if (!this.#selected) throw new TypeError("nothing can be selected in this document: its page isn't known, or was read by a table");
+    return Array.from(this.#selected(selectors), (number) => new Node(this.#image, number));
   }
 
   get image() {
     return this.#image.bytes;
-  }
-
-  node(number) {
-    return new Node(this.#image, number);
   }
 
   get errors() {

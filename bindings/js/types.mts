@@ -1,5 +1,5 @@
 // What the types allow: compiled by tsc, never run.
-import { Attribute, Cleaned, Document, Fault, Node, Normal, Quirks, clean, cleanDocument, normalise, parse, select } from 'figpliers';
+import { Attribute, Cleaned, Document, Fault, Node, Normal, Quirks, clean, cleanDocument, normalise, parse } from 'figpliers';
 
 const page: Document = parse('<a href=/b>c</a>', 'x; 41');
 const hrefs: (string | null)[] = page.elements('a').map((it: Node) => it.attribute('href'));
@@ -10,8 +10,8 @@ for (const node of page.walk()) {
 const normal: Normal = normalise(new Uint8Array([60]));
 const quirks: Quirks = new Document(page.image).quirks;
 const kept: Cleaned[] = [clean('a'), cleanDocument('b')];
-const items: Node[] = select('ul > li', '<ul><li>a</ul>');
+const items: Node[] = page.select('ul > li');
 const at = (fault: unknown): number => (fault instanceof Fault ? fault.at : -1);
-console.log(hrefs, normal.text, normal.plain, quirks, kept, items[0].number, page.node(0).kind, at(null));
+console.log(hrefs, normal.text, normal.plain, quirks, kept, items.length, page.number, at(null));
 // @ts-expect-error a page is no number
 parse(1);

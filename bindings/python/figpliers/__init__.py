@@ -33,7 +33,6 @@ __all__ = [
     "element",
     "normalise",
     "parse",
-    "select",
 ]
 __version__ = "0.1.0"
 
@@ -166,19 +165,15 @@ def normalise(page: Page, table: Optional[Page] = None) -> Tuple[str, Report]:
 
 def parse(page: Page, table: Optional[Page] = None) -> Document:
     """The document of a page. `table` is as in `normalise`. Raises Fault or MemoryError."""
-    image, _ = _by(_tree, _tree_with, page, table, 16, 1024)
-    return Document(image)
-
-
-def select(selectors: Page, page: Page) -> List[Node]:
-    """The elements of a page that CSS selectors select (Selectors Level 4), in tree order. Raises Fault or MemoryError.
-
-    >>> [item.text() for item in select("ul > li:nth-child(2)", "<ul><li>a<li>b</ul>")]
-    ['b']
-    """
     page = _bytes(page)
+    image, _ = _by(_tree, _tree_with, page, table, 16, 1024)
+    return Document(image, None if table is not None else lambda selectors: _selected(selectors, page))
+
+
+def _selected(selectors: str, page: bytes) -> List[int]:
+    """The numbers of the nodes that selectors select in the document of a page."""
     numbers, _ = _with_room(_select, [_bytes(selectors), page], 256, _Report())
-    return parse(page)._nodes(number for (number,) in struct.iter_unpack("<I", numbers))
+    return [number for (number,) in struct.iter_unpack("<I", numbers)]
 
 
 def element(page: Page, table: Optional[Page] = None) -> Element:

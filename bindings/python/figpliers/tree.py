@@ -12,7 +12,7 @@
 """
 import struct
 from collections.abc import Mapping
-from typing import Iterable, Iterator, List, Optional, Tuple
+from typing import Callable, Iterable, Iterator, List, Optional, Tuple
 
 _NO_NODE = 0xFFFFFFFF
 _HEADER = 32
@@ -235,15 +235,33 @@ class Node:
 
 
 class Document(Node):
-    """The document of a page: node 0 of its image."""
+    """The document of a page: node 0 of its image.
 
-    __slots__ = ()
+    ``parse`` makes one of a page. ``Document(image)`` makes one of an image alone, in which nothing can be selected.
+    """
 
-    def __init__(self, data: bytes) -> None:
+    __slots__ = ("_selected",)
+
+    def __init__(self, data: bytes, selected: Optional[Callable[[str], Iterable[int]]] = None) -> None:
         super().__init__(_Image(data), 0)
+        self._selected = selected
 
-    def _nodes(self, numbers: Iterable[int]) -> List[Node]:
-        return [Node(self._image, number) for number in numbers]
+    def select(self, selectors: str) -> List[Node]:
+        """The elements that CSS selectors select (Selectors Level 4), in tree order: the page is read once more for it.
+
+        Raises Fault where the text is no selectors, and TypeError where only the image is known, or the page has a table of its own.
+
+        >>> from figpliers import parse
+        >>> [item.text() for item in parse("<ul><li>a<li>b</ul>").select("ul > li:nth-child(2)")]
+        ['b']
+        """
+        if self._selected is None:
+            raise TypeError("nothing can be selected in this document: its page isn't known, or was read by a table")
+        return [Node(self._image, number) for number in self._selected(selectors)]
+
+    def select_one(self, selectors: str) -> Optional[Node]:
+        """The first element that selectors select. Raises as `select`."""
+        return next(iter(self.select(selectors)), None)
 
     @property
     def image(self) -> bytes:

@@ -45,7 +45,7 @@ def called(name, table, page):
         words = (page, table) if name.endswith("_with") else (page,)
         if name == "select":
             # the table of a row is its selectors
-            nodes = figpliers.select(table, page)
+            nodes = figpliers.parse(page).select(table)
             report = figpliers.normalise(page)[1]
             numbers = f"{'+' if report.errors else 0},0,{('no', 'limited', 'yes').index(report.quirks)},{int(report.plain)}"
             return 0, numbers, b"".join(node._number.to_bytes(4, "little") for node in nodes)
@@ -99,12 +99,18 @@ check(list(odd.elements("svg", figpliers.NAMESPACES[3])[0].attrs.items()) == [("
 [template] = odd.elements("template")
 check(template.children == [] and template.contents.text() == "e" and template.text() == "", "the contents of a template")
 check(odd.text() == "d" and odd.root.last_child.last_child.data == "?f", "texts")
+check(odd.select_one("svg|title").text() == "d" and odd.select_one("p") is None, "the first that is selected")
+try:
+    figpliers.Document(odd.image).select("p")
+    check(False, "selectors on an image alone")
+except TypeError:
+    check(True, "")
 check(template.attrs == {} and not template.contents.parent and template.next.kind == "comment", "nodes beside a template")
 top = figpliers.element("<!DOCTYPE html><p id=a>b<svg><path/></svg>c")
 check(top.find("body/p").get("id") == "a", "an element")
 check(top.find("body/p/{http://www.w3.org/2000/svg}svg").tail == "c", "an element of SVG")
 check(len(figpliers.element("<p>" * 1000).find("body")) == 1000, "many elements of etree")
-for module, examples in ((figpliers, 6), (figpliers.tree, 6)):
+for module, examples in ((figpliers, 5), (figpliers.tree, 8)):
     outcome = doctest.testmod(module)
     check(outcome.failed == 0 and outcome.attempted == examples, f"the examples of {module.__name__}")
 if "FIGPLIERS_LAYOUT" in os.environ:

@@ -91,6 +91,8 @@ pub enum Fault {
     SelectorNotUtf8 { at: u64 },
     /// The text is no selectors; so many characters stand before the first fault.
     Selector { at: u64 },
+    /// Selectors were asked in a document that was read by a table of its own.
+    OwnTable,
     /// An answer of a later library.
     Other { answer: u32, at: u64 },
 }
@@ -126,6 +128,7 @@ impl fmt::Display for Fault {
             Fault::TableValue { row } => write!(f, "row {row} of the table has a value that is no character"),
             Fault::SelectorNotUtf8 { at } => write!(f, "the selectors are not UTF-8 at byte {at}"),
             Fault::Selector { at } => write!(f, "the selectors are wrong at character {at}"),
+            Fault::OwnTable => write!(f, "nothing can be selected in a document with a table of its own"),
             Fault::Other { answer, at } => write!(f, "answer {answer} at {at}"),
         }
     }
@@ -249,29 +252,19 @@ pub fn normalise_with(table: impl AsRef<[u8]>, page: impl AsRef<[u8]>) -> Result
 pub fn parse(page: impl AsRef<[u8]>) -> Result<Document, Fault> {
     let page = page.as_ref();
     let (image, _) = by_standard(sys::fig_tree, page, tree_guess(page))?;
-    Ok(Document::new(image))
+    Ok(Document::new(image, Some(page)))
 }
 
-/// The same by a table of references, as [`normalise_with`] has it.
+/// The same by a table of references, as [`normalise_with`] has it. Nothing can be selected in such a document.
 pub fn parse_with(table: impl AsRef<[u8]>, page: impl AsRef<[u8]>) -> Result<Document, Fault> {
     let page = page.as_ref();
     let (image, _) = by_table(sys::fig_tree_with, table.as_ref(), page, tree_guess(page))?;
-    Ok(Document::new(image))
+    Ok(Document::new(image, None))
 }
 
-/// The numbers of the nodes of a page's tree that CSS selectors select (Selectors Level 4), in tree order: [`Document::node`] of the
-/// same page has the nodes.
-///
-/// ```
-/// let page = "<ul><li>a<li>b</ul>";
-/// let found = figpliers::select("ul > li:nth-child(2)", page)?;
-/// assert_eq!(figpliers::parse(page)?.node(found[0]).text(), "b");
-/// # Ok::<(), figpliers::Fault>(())
-/// ```
-///
-/// Errors: as of [`normalise`]; [`Fault::Selector`] where the text is no selectors.
-pub fn select(selectors: impl AsRef<[u8]>, page: impl AsRef<[u8]>) -> Result<Vec<u32>, Fault> {
-    let (bytes, _) = by_table(sys::fig_select, selectors.as_ref(), page.as_ref(), 256)?;
+/// The numbers of the nodes that selectors select in the document of a page.
+fn selected(selectors: &[u8], page: &[u8]) -> Result<Vec<u32>, Fault> {
+    let (bytes, _) = by_table(sys::fig_select, selectors, page, 256)?;
     Ok(bytes.chunks_exact(4).map(|it| u32::from_le_bytes(it.try_into().expect("four bytes"))).collect())
 }
 

@@ -1,6 +1,6 @@
 //! The tree of a page, read from its image (`docs/TREE_IMAGE.md`).
 
-use crate::Quirks;
+use crate::{Fault, Quirks};
 use std::fmt;
 
 const NO_NODE: u32 = u32::MAX;
@@ -19,6 +19,7 @@ const ATTRIBUTE: usize = 24;
 #[derive(Clone, PartialEq, Eq)]
 pub struct Document {
     image: Vec<u8>,
+    page: Option<Vec<u8>>,
 }
 
 /// A node of a tree.
@@ -87,8 +88,8 @@ fn text_at(image: &[u8], at: u32, length: u32) -> &str {
 }
 
 impl Document {
-    pub(crate) fn new(image: Vec<u8>) -> Document {
-        Document { image }
+    pub(crate) fn new(image: Vec<u8>, page: Option<&[u8]>) -> Document {
+        Document { image, page: page.map(<[u8]>::to_vec) }
     }
 
     /// The node of the document.
@@ -96,14 +97,22 @@ impl Document {
         Node { image: &self.image, number: 0 }
     }
 
-    /// The node of a number, as [`select`](crate::select) has it.
+    /// The elements that CSS selectors select (Selectors Level 4), in tree order. The page, which the document keeps, is read once more
+    /// for it.
     ///
-    /// # Panics
+    /// ```
+    /// let page = figpliers::parse("<ul><li>a<li>b</ul>")?;
+    /// let found = page.select("ul > li:nth-child(2)")?;
+    /// assert_eq!(found[0].text(), "b");
+    /// # Ok::<(), figpliers::Fault>(())
+    /// ```
     ///
-    /// If the document has no such node.
-    pub fn node(&self, number: u32) -> Node<'_> {
-        assert!((number as usize) < word(&self.image, 8) as usize / NODE, "the document has no node {number}");
-        Node { image: &self.image, number }
+    /// Errors: [`Fault::Selector`] where the text is no selectors; [`Fault::OwnTable`] in a document of
+    /// [`parse_with`](crate::parse_with); [`Fault::Memory`].
+    pub fn select(&self, selectors: impl AsRef<[u8]>) -> Result<Vec<Node<'_>>, Fault> {
+        let page = self.page.as_deref().ok_or(Fault::OwnTable)?;
+        let numbers = crate::selected(selectors.as_ref(), page)?;
+        Ok(numbers.into_iter().map(|number| Node { image: &self.image, number }).collect())
     }
 
     /// How many parse errors were counted: 0 in a page without any.
@@ -138,6 +147,11 @@ impl<'a> Node<'a> {
             NO_NODE => None,
             number => Some(Node { image: self.image, number }),
         }
+    }
+
+    /// Its number in the image; the document is 0.
+    pub fn number(self) -> u32 {
+        self.number
     }
 
     /// What it is.

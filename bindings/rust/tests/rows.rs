@@ -64,7 +64,8 @@ fn call(name: &str, table: &[u8], page: &[u8]) -> Result<(Vec<u8>, String), Faul
         "tree" => image_of(figpliers::parse(page)?, figpliers::normalise(page)?.1),
         "tree_with" => image_of(figpliers::parse_with(table, page)?, figpliers::normalise_with(table, page)?.1),
         "select" => {
-            let numbers = figpliers::select(table, page)?.into_iter().flat_map(u32::to_le_bytes).collect();
+            let document = figpliers::parse(page)?;
+            let numbers = document.select(table)?.into_iter().flat_map(|node| node.number().to_le_bytes()).collect();
             (numbers, told(figpliers::normalise(page)?.1))
         }
         "clean" => figpliers::clean(page).map(|(text, counts)| (text.into_bytes(), counted(counts)))?,
@@ -129,6 +130,8 @@ fn trees() {
     let svg = p.last_child().unwrap();
     let href = svg.attributes().next().unwrap();
     assert_eq!((svg.namespace(), href.name, href.value, href.namespace), (Namespace::Svg, "xlink:href", "e", Namespace::XLink));
+    assert_eq!(document.select("p > svg").unwrap(), [svg]);
+    assert_eq!(figpliers::parse_with("", "<p>").unwrap().select("p"), Err(Fault::OwnTable));
     let template = p.next_sibling().unwrap();
     assert_eq!((template.children().count(), template.text().as_str()), (0, ""));
     assert_eq!(template.contents().unwrap().text(), "f");
