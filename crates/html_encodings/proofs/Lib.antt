@@ -1,3 +1,4 @@
+pub mod AsciiBytes
 pub mod Texts
 pub mod Readings
 pub mod Scans

@@ -1,5 +1,5 @@
 -- Bytes that are looked through for a declaration.
-use Rattle.std.specs.Prelude.{ℕ, ◌-◌, Bool, true, false, not, ◌&&◌, ◌||◌, List, [], ◌∷◌, length, take, drop, ◌==◌, nat_le}
+use Rattle.std.specs.Prelude.{ℕ, ◌-◌, ◌≤◌, ◌<◌, Bool, true, false, not, ◌&&◌, ◌||◌, List, [], ◌∷◌, length, take, drop, ◌==◌, nat_le, slice_index}
 use Rattle.std.specs.List.{prefix_len, suffix_len}
 use Rattle.std.specs.Char.{is_ascii_whitespace, to_ascii_lowercase}
 use Rattle.html_encodings.specs.declared.scanning.Class.{Class}
@@ -14,6 +14,14 @@ has Value byte = not (is_ascii_whitespace byte || (byte == 62))
 has Content byte = not (is_ascii_whitespace byte || (byte == 59))
 has Control byte = nat_le byte 0x20
 has (Not one) byte = not (byte == one)
+
+-- whether a byte is not ASCII
+abbrev pub is_not_ascii : ℕ → Bool
+is_not_ascii byte = nat_le 128 byte
+
+-- the bytes between two places are ASCII
+abbrev pub AreAscii : List ℕ → ℕ → ℕ → Type 0
+AreAscii bytes from to = (k : ℕ) → from ≤ k → k < to → slice_index bytes k < 128
 
 -- the bytes of a class in front, and what follows them
 unfoldable pub front : Class → List ℕ → List ℕ

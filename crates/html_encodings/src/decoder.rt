@@ -1,10 +1,11 @@
 //! Decoders of an input that comes in pieces.
-ghost use Rattle.std.specs.Prelude.{◌≡◌, ◌∷◌, [], ◌++◌, ◌+◌, ◌-◌, ◌^◌, ◌<◌, ◌≤◌, IfOk, OnOk, OnErr, IsAscii, length, take, slice_index};
+ghost use Rattle.std.specs.Prelude.{◌≡◌, ◌∷◌, [], ◌++◌, ◌+◌, ◌-◌, ◌^◌, IfOk, OnOk, OnErr};
 ghost use Rattle.std.specs.String.{string_bytes};
 ghost use Rattle.html_encodings.specs.Emitted.{items};
 ghost use Rattle.html_encodings.specs.Handlers.{reading, utf8_of};
 ghost use Rattle.html_encodings.specs.Decoders.{after, decoding, Begins, CopiesRun, ReadsFront};
 
+use crate::ascii::ascii_prefix_len;
 use crate::emitted::Emitted;
 use crate::handler::Handler;
 use std::alloc::{AllocError, Global};
@@ -43,20 +44,6 @@ fn put_all(emitted: Emitted, text: &mut String) -> Result<(), AllocError>
         }
     }
     Ok(())
-}
-
-/// How many ASCII bytes stand in front.
-fn ascii_prefix_len(bytes: &[u8]) -> usize
-    ensures within { result ≤ length bytes.now }
-    ensures ascii { IsAscii (take result bytes.now) }
-    ensures longest { result < length bytes.now → 128 ≤ slice_index bytes.now result }
-{
-    for (i, byte) in bytes.iter().enumerate() {
-        if *byte >= 128 {
-            return i;
-        }
-    }
-    bytes.len()
 }
 
 /// Copies the ASCII bytes in front after a text, and says how many there are.

@@ -2,6 +2,7 @@
 //! (Encoding Standard).
 #![tactic(auto)]
 
+mod ascii;
 mod attributes;
 mod basic;
 mod declarations;
