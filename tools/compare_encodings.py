@@ -27,6 +27,10 @@ RUN = ["chromium", "--headless", "--no-sandbox", "--disable-gpu", "--virtual-tim
 # what lies far apart in the indexes, and what ends or begins a character of several bytes
 LIKELY = [0x00, 0x0E, 0x1B, 0x24, 0x28, 0x30, 0x39, 0x3C, 0x40, 0x41, 0x42, 0x49, 0x4A, 0x5C, 0x7E, 0x7F, 0x80, 0x81, 0x84, 0x8E]
 LIKELY += [0x8F, 0x90, 0xA0, 0xA1, 0xA4, 0xB0, 0xC2, 0xD8, 0xDC, 0xDF, 0xE0, 0xED, 0xE3, 0xEF, 0xF0, 0xF4, 0xFC, 0xFD, 0xFE, 0xFF]
+# where Chromium does otherwise than the Standard: bytes, and their text by the Standard
+OTHERWISE = [("big5", "8862", "\u00ca\u0304"), ("big5", "8864", "\u00ca\u030c"), ("big5", "88A3", "\u00ea\u0304")]
+OTHERWISE += [("big5", "88A5", "\u00ea\u030c"), ("euc-jp", "8FC200E0ED", "\ufffd\0\u743f")]
+OTHERWISE += [("iso-2022-jp", "1B24421B24", "\ufffd\ufffd"), ("iso-2022-jp", "1B2480DF", "\ufffd$\ufffd\ufffd")]
 SCRIPT = """<!doctype html><meta charset=utf-8><pre id=out></pre><script>
 const jobs = JSON.parse(atob("%s"));
 const labels = jobs.labels.map(label => { try { return new TextDecoder(label).encoding } catch (e) { return "-" } });
@@ -103,6 +107,8 @@ def main():
                 rows = rows_of(label, 200, chosen)
                 for row in chosen.sample(rows[:257], 12) + chosen.sample(rows[257:65793], 28) + chosen.sample(rows[65793:], 40):
                     out.write(row + "\n")
+                for _, bytes_, text in (known for known in OTHERWISE if known[0] == label):
+                    out.write(f"decode {label} {bytes_} {text.encode().hex().upper()}\n")
         return
     count = int(sys.argv[2]) if len(sys.argv) > 2 else 3000
     total = 0

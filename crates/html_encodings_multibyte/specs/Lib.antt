@@ -5,3 +5,4 @@ pub mod Japanese
 pub mod Iso2022Jp
 pub mod Every
 pub mod Texts
+pub mod Rows

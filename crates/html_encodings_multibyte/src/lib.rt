@@ -21,6 +21,7 @@ mod jis0212_index;
 mod modes;
 mod pairs;
 mod ranges_index;
+mod rows;
 mod shift_jis;
 mod shown;
 
@@ -31,4 +32,5 @@ pub use euc_kr::EucKr;
 pub use every::Every;
 pub use gb18030::Gb18030;
 pub use iso_2022_jp::{Iso2022Jp, Mode};
+pub use rows::{error_rows, escape_rows, index_rows, range_rows};
 pub use shift_jis::ShiftJis;
