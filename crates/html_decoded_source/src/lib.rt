@@ -1,6 +1,6 @@
 //! A source of bytes that decodes another, so that what reads UTF-8 reads any encoding.
 //!
-//! It has no tests yet.
+//! Tests: `html_decoded_pages_tests`.
 #![tactic(auto)]
 
 mod front;
