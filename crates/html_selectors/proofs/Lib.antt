@@ -3,6 +3,7 @@ mod Marks
 mod Listing
 mod Steps
 mod Within
+mod Finds
 mod Counts
 mod Numbering
 mod KindCounts

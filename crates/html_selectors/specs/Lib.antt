@@ -2,3 +2,4 @@ pub mod Columns
 pub mod Order
 pub mod Relatives
 pub mod Kinds
+pub mod Direct

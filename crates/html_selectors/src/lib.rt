@@ -4,7 +4,10 @@
 //! Tests: `selectors_tests`.
 #![tactic(auto)]
 
+mod asked;
 mod column;
+mod direct;
+mod each;
 mod keeping;
 mod kinds;
 mod lines;
@@ -14,6 +17,7 @@ mod places;
 mod selecting;
 mod types;
 
+pub use each::{Selected, select_each};
 pub use html_selector_matching::{Above, nodes_above};
 pub use page_index::Index;
 pub use selecting::{select_all, select_first};

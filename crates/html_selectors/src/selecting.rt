@@ -10,7 +10,10 @@ ghost use Rattle.selectors.specs.declared.selector.Combinator.TheVariants.{Child
 ghost use Rattle.html_selectors.specs.Columns.{at};
 ghost use Rattle.html_selectors.specs.Relatives.{first_of};
 
+use crate::asked::Asked;
 use crate::column::{drop_those, either, is_in, keep_those};
+use crate::direct::are_direct;
+use crate::each::select_each;
 use crate::keeping::{elements, keep_inside, keep_left, keep_nth_of, keep_right, keep_simples};
 use crate::lines::over;
 use crate::page_index::Index;
@@ -173,9 +176,9 @@ fn column_of_compound(
     Ok(column)
 }
 
-// The elements that one of the selectors selects.
+/// The elements that one of the selectors selects.
 #[cycle(columns)]
-fn selected(
+pub(crate) fn selected(
     index: &Index<'_>,
     scope: NodeId,
     selectors: &Selectors,
@@ -308,30 +311,6 @@ fn those_below(index: &Index<'_>, top: NodeId, column: &[bool]) -> Result<Vec<No
     Ok(found)
 }
 
-// The first of some nodes that is in a column.
-fn first_in(nodes: &[NodeId], column: &[bool]) -> Option<NodeId>
-    ensures { result ≡ find (at column.now) nodes.now }
-{
-    for id in nodes {
-        if is_in(column, *id) {
-            return Some(*id);
-        }
-    }
-    None
-}
-
-// The first of the nodes below a node that is in a column.
-fn first_below(forest: &Forest, top: NodeId, column: &[bool]) -> Option<NodeId>
-    ensures { result ≡ find (at column.now) (below forest.now top) }
-{
-    for id in nodes_below(forest, top) {
-        if is_in(column, id) {
-            return Some(id);
-        }
-    }
-    None
-}
-
 impl<'f> Index<'f> {
     /// The elements below a node that are selected, in tree order. `:scope` is that node, or where it is no element the first element
     /// in it.
@@ -353,8 +332,8 @@ impl<'f> Index<'f> {
         }
     }
 
-    /// The first of the elements below a node that are selected. `:scope`, time, memory and errors are as for
-    /// [`select_all`](Index::select_all).
+    /// The first of the elements below a node that are selected. `:scope` and errors are as for [`select_all`](Index::select_all), time and
+    /// memory as for [`select_each`](Index::select_each).
     pub fn select_first(
         &self,
         top: NodeId,
@@ -364,36 +343,33 @@ impl<'f> Index<'f> {
             ≡ find (selects.is_any selectors.now self.now.forest.now (scope_of self.now.forest.now top)) (below self.now.forest.now top)) }
         ensures fault { IfErr result (λ fault. fault ≡ Memory) }
     {
-        let column = selected(self, scope_of(self.forest, top), selectors)?;
-        match self.listed_below(top) {
-            Some(nodes) => Ok(first_in(nodes, column.as_slice())),
-            None => Ok(first_below(self.forest, top, column.as_slice())),
-        }
+        let mut each = self.select_each(top, selectors)?;
+        Ok(each.next())
     }
 
-    /// Whether an element is selected. `:scope` is the element itself. Time, memory and errors are as for
-    /// [`select_all`](Index::select_all).
+    /// Whether an element is selected. `:scope` is the element itself. Memory and errors are as for [`select_all`](Index::select_all); time
+    /// too, but for the selectors that [`select_each`](Index::select_each) names, of which it grows with their length alone.
     pub fn matches(&self, id: NodeId, selectors: &Selectors) -> Result<bool, ParseFault>
         ensures ok { IfOk result (λ is. is ≡ selects.is_any selectors.now self.now.forest.now id id) }
         ensures fault { IfErr result (λ fault. fault ≡ Memory) }
     {
-        let column = selected(self, id, selectors)?;
-        Ok(is_in(column.as_slice(), id))
+        let asked = Asked::new(self, id, selectors)?;
+        Ok(asked.is_selected(id))
     }
 
     /// The nearest of an element and those above it that is selected. `:scope` is the element. Time, memory and errors are as for
-    /// [`select_all`](Index::select_all).
+    /// [`matches`](Index::matches) of each of these, but that the page is searched once.
     pub fn closest(&self, id: NodeId, selectors: &Selectors) -> Result<Option<NodeId>, ParseFault>
         ensures ok { IfOk result (λ found. found
             ≡ find (selects.is_any selectors.now self.now.forest.now id) (id ∷ above self.now.forest.now id)) }
         ensures fault { IfErr result (λ fault. fault ≡ Memory) }
     {
-        let column = selected(self, id, selectors)?;
-        if is_in(column.as_slice(), id) {
+        let asked = Asked::new(self, id, selectors)?;
+        if asked.is_selected(id) {
             return Ok(Some(id));
         }
         for up in nodes_above(self.forest, id) {
-            if is_in(column.as_slice(), up) {
+            if asked.is_selected(up) {
                 return Ok(Some(up));
             }
         }
@@ -401,8 +377,26 @@ impl<'f> Index<'f> {
     }
 }
 
-/// The elements below a node that are selected, in tree order, by an [`Index`] that is made for it. `:scope` is that node, or where it is
-/// no element the first element in it.
+// The elements below a node that direct selectors select.
+fn select_directly(
+    alloc: Global,
+    forest: &Forest,
+    top: NodeId,
+    selectors: &Selectors,
+) -> Result<Vec<NodeId>, ParseFault>
+    ensures ok { IfOk result (λ found. found.items
+        ≡ filter (selects.is_any selectors.now forest.now (scope_of forest.now top)) (below forest.now top)) }
+    ensures fault { IfErr result (λ fault. fault ≡ Memory) }
+{
+    let mut found = Vec::new(alloc);
+    for id in select_each(alloc, forest, top, selectors)? {
+        found.push(id)?;
+    }
+    Ok(found)
+}
+
+/// The elements below a node that are selected, in tree order, by an [`Index`] that is made for it, if the selectors need one. `:scope` is
+/// that node, or where it is no element the first element in it.
 ///
 /// Errors: [`ParseFault::Memory`].
 pub fn select_all(
@@ -415,11 +409,14 @@ pub fn select_all(
         ≡ filter (selects.is_any selectors.now forest.now (scope_of forest.now top)) (below forest.now top)) }
     ensures fault { IfErr result (λ fault. fault ≡ Memory) }
 {
+    if are_direct(selectors) {
+        return select_directly(alloc, forest, top, selectors);
+    }
     let index = Index::new(alloc, forest)?;
     index.select_all(top, selectors)
 }
 
-/// The first of the elements below a node that are selected, by an [`Index`] that is made for it. `:scope` is as for [`select_all`].
+/// The first of the elements below a node that are selected, in time as for [`select_each`]. `:scope` is as for [`select_all`].
 ///
 /// Errors: [`ParseFault::Memory`].
 pub fn select_first(
@@ -432,6 +429,6 @@ pub fn select_first(
         ≡ find (selects.is_any selectors.now forest.now (scope_of forest.now top)) (below forest.now top)) }
     ensures fault { IfErr result (λ fault. fault ≡ Memory) }
 {
-    let index = Index::new(alloc, forest)?;
-    index.select_first(top, selectors)
+    let mut each = select_each(alloc, forest, top, selectors)?;
+    Ok(each.next())
 }

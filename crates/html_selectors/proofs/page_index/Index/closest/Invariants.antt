@@ -5,5 +5,5 @@ use Rattle.html_selector_matching.specs.Selects.{is_any}
 use Rattle.html_selectors.proofs.page_index.Index.closest.Given as goal
 
 abbrev pub invariant-loop-up : goal.invariant-loop-up
-invariant-loop-up l = find (is_any l.fn.selectors l.self.forest.now l.fn.id) (above l.self.forest.now l.fn.id)
-    ≡ find (is_any l.fn.selectors l.self.forest.now l.fn.id) l.up-iterator
+invariant-loop-up l = find (is_any l.fn.selectors l.fn.self.forest.now l.fn.id) (above l.fn.self.forest.now l.fn.id)
+    ≡ find (is_any l.fn.selectors l.fn.self.forest.now l.fn.id) l.up-iterator
