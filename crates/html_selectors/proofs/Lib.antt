@@ -4,6 +4,7 @@ mod Listing
 mod Steps
 mod Within
 mod Finds
+mod Beside
 mod Counts
 mod Numbering
 mod KindCounts

@@ -1,5 +1,5 @@
 //! Leaves in a column what stands, or is placed, as a selector asks.
-ghost use Rattle.std.specs.Prelude.{◌≡◌, ◌<◌, ◌&&◌, ◌||◌, ℕ, List, IfErr, IfOk, OnOk, cond, map, nat_lt, true};
+ghost use Rattle.std.specs.Prelude.{◌≡◌, ◌<◌, ◌&&◌, ◌||◌, ℕ, List, IfErr, IfOk, OnOk, Some, cond, map, nat_lt, true};
 ghost use Rattle.std.specs.Char.{to_ascii_lowercase};
 ghost use Rattle.std.specs.List.{list_all, list_any};
 ghost use Rattle.markup.specs.Forest.{data_of, element_name, node_count, parent_of};
@@ -16,7 +16,7 @@ ghost use Rattle.html_selectors.specs.Columns as columns;
 ghost use Rattle.html_selectors.specs.Columns.{at};
 
 use crate::column::{is_in, keep_those, refine};
-use crate::lines::{has_child, has_parent, over, under};
+use crate::lines::{has_child, has_parent, over, parents, under};
 use crate::page_index::Index;
 use crate::places::{place_at, places};
 use crate::types::places_of_type;
@@ -208,6 +208,34 @@ pub(crate) fn keep_left(
         }
         Combinator::SubsequentSibling => keep_beside(index, true, right, column),
     }
+}
+
+// Leaves in a column those nodes that are in another one or whose parent is in a third one.
+fn keep_near(forest: &Forest, own: &[bool], parents: &[bool], column: &mut Vec<bool>)
+    ensures { (n : ℕ) → at column.new.items n ≡ (at column.old.items n
+        && (at own.now n || list_any (at parents.now) (one_of (parent_of forest.now n)))) }
+{
+    refine(
+        column,
+        |id: NodeId| -> bool
+            ensures { result ≡ (at own.entry.now id || list_any (at parents.entry.now) (one_of (parent_of forest.entry.now id))) }
+        { is_in(own, id) || has_parent(forest, id, parents, &[]) },
+    );
+}
+
+/// The elements of a column, and those that have a parent in common with one of them.
+pub(crate) fn siblings(index: &Index<'_>, column: &[bool]) -> Result<Vec<bool>, ParseFault>
+    ensures elements { IfOk result (λ beside. (n : ℕ) → at beside.items n ≡ true → around.is_element index.now.forest.now n ≡ true) }
+    ensures own { IfOk result (λ beside. (n : ℕ) → at column.now n ≡ true → around.is_element index.now.forest.now n ≡ true
+        → at beside.items n ≡ true) }
+    ensures siblings { IfOk result (λ beside. (n m p : ℕ) → at column.now n ≡ true → parent_of index.now.forest.now n ≡ Some p
+        → parent_of index.now.forest.now m ≡ Some p → around.is_element index.now.forest.now m ≡ true → at beside.items m ≡ true) }
+    ensures fault { IfErr result (λ fault. fault ≡ Memory) }
+{
+    let parents = parents(index, column)?;
+    let mut beside = elements(index)?;
+    keep_near(index.forest, column, parents.as_slice(), &mut beside);
+    Ok(beside)
 }
 
 /// Leaves in a column those nodes that have the wanted place among those that are in another one.

@@ -5,7 +5,7 @@ ghost use Rattle.markup.specs.declared.fault.ParseFault.TheVariants.{Memory};
 ghost use Rattle.html_nodes.specs.Below.{below};
 ghost use Rattle.html_selector_matching.specs.Around.{above, is_element};
 ghost use Rattle.html_selector_matching.specs.Selects as selects;
-ghost use Rattle.html_selector_matching.specs.Selects.{goes_on, left_of, right_of, scope_of};
+ghost use Rattle.html_selector_matching.specs.Selects.{goes_on, is_nth_of, left_of, right_of, scope_of};
 ghost use Rattle.selectors.specs.declared.selector.Combinator.TheVariants.{Child, Descendant};
 ghost use Rattle.html_selectors.specs.Columns.{at};
 ghost use Rattle.html_selectors.specs.Relatives.{first_of};
@@ -14,14 +14,16 @@ use crate::asked::Asked;
 use crate::column::{drop_those, either, is_in, keep_those};
 use crate::direct::are_direct;
 use crate::each::select_each;
-use crate::keeping::{elements, keep_inside, keep_left, keep_nth_of, keep_right, keep_simples};
+use crate::keeping::{
+    elements, keep_inside, keep_left, keep_nth_of, keep_right, keep_simples, siblings,
+};
 use crate::lines::over;
 use crate::page_index::Index;
 use html_forest::{Forest, NodeId};
 use html_nodes::nodes_below;
 use html_selector_matching::{nodes_above, scope_of};
 use markup::ParseFault;
-use selectors::{Combinator, Complex, Compound, Relative, Selectors, Tests};
+use selectors::{Combinator, Complex, Compound, Nth, Relative, Selectors, Tests};
 use std::alloc::Global;
 
 // So many combinators of a selector are read from the right.
@@ -177,7 +179,6 @@ fn column_of_compound(
 }
 
 /// The elements that one of the selectors selects.
-#[cycle(columns)]
 pub(crate) fn selected(
     index: &Index<'_>,
     scope: NodeId,
@@ -275,12 +276,32 @@ fn keep_passing(
             keep_passing(index, scope, others, column)
         }
         Tests::NthOf(nth, selectors, others) => {
-            let those = selected(index, scope, selectors)?;
-            keep_nth_of(index, nth, those.as_slice(), column)?;
-            drop(those);
+            keep_nth(index, scope, nth, selectors, column)?;
             keep_passing(index, scope, others, column)
         }
     }
+}
+
+// Leaves in a column of elements those that selectors select, and that have the wanted place among their siblings that are. The selectors
+// are asked of these alone.
+#[cycle(columns)]
+fn keep_nth(
+    index: &Index<'_>,
+    scope: NodeId,
+    nth: &Nth,
+    selectors: &Selectors,
+    column: &mut Vec<bool>,
+) -> Result<(), ParseFault>
+    requires { (n : ℕ) → at column.old.items n ≡ true → is_element index.now.forest.now n ≡ true }
+    ensures ok { OnOk result ((n : ℕ) → at column.new.items n
+        ≡ (at column.old.items n && is_nth_of (λ m. selects.is_any selectors.now index.now.forest.now scope m) nth.now index.now.forest.now n)) }
+    ensures fault { IfErr result (λ fault. fault ≡ Memory) }
+{
+    index.forest.keeps();
+    let beside = siblings(index, column.as_slice())?;
+    let those = column_of(index, scope, selectors, beside.as_slice())?;
+    keep_nth_of(index, nth, those.as_slice(), column)?;
+    Ok(())
 }
 
 // Those of some nodes that are in a column.

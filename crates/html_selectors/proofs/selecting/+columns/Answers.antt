@@ -3,16 +3,17 @@ use Rattle.std.specs.Prelude.{◌&&◌, cond}
 use Rattle.std.specs.List.{list_all, list_any}
 use Rattle.html_nodes.specs.Below.{below}
 use Rattle.html_selector_matching.specs.Around.{is_element}
-use Rattle.html_selector_matching.specs.Selects.{goes_on, is_any, is_complex, is_compound, left_of, passes, right_of}
+use Rattle.html_selector_matching.specs.Selects.{goes_on, is_any, is_complex, is_compound, is_nth_of, left_of, passes, right_of}
 use Rattle.html_selector_matching.specs.Simples.{is_simple}
 use Rattle.selectors.specs.declared.selector.Combinator.TheVariants.{Child, Descendant}
 use Rattle.selectors.specs.declared.selector.Complex.{Complex}
 use Rattle.selectors.specs.declared.selector.Relative.{Relative}
 use Rattle.html_selectors.specs.Columns.{at}
 use Rattle.html_selectors.specs.Relatives.{first_of}
+use Rattle.html_selectors.proofs.Beside.{nth-beside}
 use Rattle.html_selectors.proofs.Lists.{any-same}
 use Rattle.html_selectors.proofs.Marks.{and-regroup}
-use Rattle.html_selectors.proofs.Within.{any-element, complex-element, elements-more, has-on, joined, over-left}
+use Rattle.html_selectors.proofs.Within.{agree, complex-element, elements-more, has-on, joined, over-left}
 use Rattle.html_selectors.proofs.selecting.+columns.Goals as goal
 
 pub column_inside-returns-clause-ok : goal.column_inside-returns-clause-ok
@@ -36,6 +37,23 @@ column_inside-returns-clause-ok t c =
     ∙ (ap (λ (l : List Bool). list_any (at l) (below f m)) c.as_slice.ensures.value
     ∙ over-left c.args.deep f c.keeps.ensures.is_forest old n m there among)))
 
+pub keep_nth-returns-clause-ok : goal.keep_nth-returns-clause-ok
+keep_nth-returns-clause-ok t c =
+    let f = c.args.index.now.forest.now in
+    let s = c.args.selectors.now in
+    let scope = c.args.scope in
+    let nth = c.args.nth.now in
+    let old = at c.args.column.now.items in
+    let those = at c.in_ok-those.those.items in
+    let beside = at c.in_ok-beside.beside.items in
+    λ n. c.in_ok-keep_nth_of.ensures.ok n
+    ∙ (ap (λ (l : List Bool). old n && is_nth_of (at l) nth f n) c.as_slice-3.ensures.value
+    ∙ agree (old n) (is_nth_of those nth f n) (is_nth_of (λ m. is_any s f scope m) nth f n)
+    (λ there. nth-beside s f c.keeps.ensures.is_forest scope nth n those beside
+    (λ m. c.in_ok-those.ensures.ok m ∙ ap (λ (l : List Bool). at l m && is_any s f scope m) c.as_slice-2.ensures.value)
+    (c.in_ok-beside.ensures.own n (ap (λ (l : List Bool). at l n) c.as_slice.ensures.value ∙ there) (c.requires n there))
+    (λ m p up down e. c.in_ok-beside.ensures.siblings n m p (ap (λ (l : List Bool). at l n) c.as_slice.ensures.value ∙ there) up down e)))
+
 pub column_left-returns-clause-ok : goal.column_left-returns-clause-ok
 column_left-returns-clause-ok t c =
     let f = c.args.index.now.forest.now in
@@ -47,14 +65,6 @@ column_left-returns-clause-ok t c =
     ∙ (ap (λ (l : List Bool). at l n && asked) c.as_slice.ensures.value
     ∙ (ap (λ b. b && asked) (c.in_ok-keep_left.ensures.ok n ∙ ap (λ b. b && follows) (c.in_ok-within.ensures.ok n))
     ∙ elements-more (is_element f n) follows (list_all (is_simple f scope n) compound.simples.items) (passes compound.tests f scope n)))
-
-pub selected-returns-clause-ok : goal.selected-returns-clause-ok
-selected-returns-clause-ok t c =
-    let f = c.args.index.now.forest.now in
-    let s = c.args.selectors.now in
-    λ n. c.in_ok-column.ensures.ok n
-    ∙ (ap (λ (l : List Bool). at l n && is_any s f c.args.scope n) c.as_slice.ensures.value
-    ∙ (ap (λ b. b && is_any s f c.args.scope n) (c.args.index.now.marked n) ∙ any-element s f c.args.scope n))
 
 pub selected_by_complex-returns-clause-ok : goal.selected_by_complex-returns-clause-ok
 selected_by_complex-returns-clause-ok t c =
