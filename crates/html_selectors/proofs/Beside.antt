@@ -1,9 +1,9 @@
 -- The place of a node among its siblings depends on the node and its siblings alone.
-use Rattle.std.proofs.Common.{◌≡◌, ℕ, Bool, true, false, List, [], ◌∷◌, Option, Some, None, inl, inr, refl, ap, sym, cond}
+use Rattle.std.proofs.Common.{◌≡◌, ℕ, Bool, true, false, List, [], ◌∷◌, Option, Some, None, inl, inr, refl, cond}
 use Rattle.std.specs.Prelude.{◌&&◌, ◌||◌, ◌==◌, filter}
 use Rattle.std.specs.List.{list_any}
 use Rattle.std.proofs.lemmas.Bool.{cases_Bool}
-use Rattle.markup.specs.Forest.{Forest, IsForest, children_of, is_among, parent_of, those_before}
+use Rattle.markup.specs.Forest.{Forest, IsForest, is_among, parent_of, those_before}
 use Rattle.markup.proofs.Children.{is_among-those_before}
 use Rattle.markup.proofs.WholeTrees.{among-first, among-later}
 use Rattle.html_selector_matching.specs.Around.{children_under, is_element, one_of, those_after}

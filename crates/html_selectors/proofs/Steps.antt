@@ -11,7 +11,7 @@ use Rattle.markup.specs.Forest.{Forest, IsForest, children_of, element_name, is_
 use Rattle.markup.proofs.Forests.{IsParent-from_child}
 use Rattle.markup.proofs.Parents.{is_among-parent}
 use Rattle.markup.proofs.WholeTrees.{among-first}
-use Rattle.html_nodes.specs.Below.{IsBelow, below, each_with_below, is_on}
+use Rattle.html_nodes.specs.Below.{IsBelow, below, is_on}
 use Rattle.html_nodes.specs.Below.IsBelow.{child, deeper}
 use Rattle.html_nodes.proofs.Distinct.{listed}
 use Rattle.html_nodes.proofs.Levels.{below-children}

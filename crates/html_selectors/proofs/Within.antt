@@ -1,5 +1,5 @@
 -- Selectors select elements only, so a column may be looked for among some elements.
-use Rattle.std.proofs.Common.{◌≡◌, ◌∙◌, ℕ, Bool, true, false, List, refl, ap}
+use Rattle.std.proofs.Common.{◌≡◌, ◌∙◌, ℕ, Bool, true, false, refl, ap}
 use Rattle.std.specs.Prelude.{◌&&◌, ◌||◌, cond, not}
 use Rattle.std.specs.List.{list_all, list_any}
 use Rattle.markup.specs.Forest.{Forest, IsForest, is_among}

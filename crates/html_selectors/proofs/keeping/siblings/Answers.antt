@@ -1,4 +1,4 @@
-use Rattle.std.proofs.Common.{◌≡◌, ◌∙◌, ℕ, Bool, List, Some, true, ap, sym}
+use Rattle.std.proofs.Common.{◌∙◌, Bool, List, ap, sym}
 use Rattle.std.specs.Prelude.{◌&&◌, ◌||◌}
 use Rattle.std.specs.List.{list_any}
 use Rattle.markup.specs.Forest.{parent_of}

@@ -1,4 +1,4 @@
-use Rattle.std.proofs.Common.{◌≡◌, ◌∙◌, ◌-◌, ℕ, Bool, List, true, false, drop, ap, arith, refl, sym}
+use Rattle.std.proofs.Common.{◌≡◌, ◌∙◌, Bool, List, true, false, drop, ap, arith, refl, sym}
 use Rattle.std.specs.Prelude.{◌||◌}
 use Rattle.markup.specs.Forest.{children_of, is_among}
 use Rattle.html_selectors.specs.Columns.{at}

@@ -1,4 +1,4 @@
-use Rattle.std.proofs.Common.{◌≡◌, ◌∙◌, true, false, ap, arith, sym}
+use Rattle.std.proofs.Common.{◌≡◌, ◌∙◌, ap, arith, sym}
 use Rattle.html_selectors.specs.Columns.{at}
 use Rattle.html_selectors.proofs.Steps.{at-within, parents-pass, parents-step}
 use Rattle.html_selectors.proofs.lines.parents.Goals as goal

@@ -1,4 +1,4 @@
-use Rattle.std.proofs.Common.{◌≡◌, ◌∙◌, ℕ, List, Bool, ap, arith, sym}
+use Rattle.std.proofs.Common.{◌≡◌, ◌∙◌, List, Bool, ap, arith, sym}
 use Rattle.markup.specs.Forest.{node_count, parent_of}
 use Rattle.html_selectors.specs.Columns.{at}
 use Rattle.html_selectors.proofs.Counts.{beside-more, owned-by, unwanted-more, written, written-all, written-none}
