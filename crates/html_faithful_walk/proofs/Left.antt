@@ -102,27 +102,27 @@ module _ (scripting : Bool) (f : Forest) (tree : IsTree f) where
   }
 
   deeper : (old new : Walk) (n inner : ℕ) (behind : Option After) → inner_of f n ≡ children_of f inner
-      → descends f inner behind old.nodes old.levels new.nodes new.levels → nodes_left f new < nodes_left f (with_node n old)
+      → descends f n inner behind old.nodes old.levels new.nodes new.levels → nodes_left f new < nodes_left f (with_node n old)
   deeper old new n inner behind i d =
       let one = nodes-first f tree.forest tree.contents n old.nodes in
       let a : nodes_in f new.nodes ≡ nodes_in f (inner_of f n) = ap (nodes_in f) (d.0 ∙ sym i) in
       let b : waiting_nodes f new.levels ≡ waiting_nodes f old.levels + suc (nodes_in f old.nodes + nodes_in f old.nodes) =
-      ap (waiting_nodes f) d.1 ∙ waiting-more f old.levels (record { behind = behind; rest = old.nodes }) in
+      ap (waiting_nodes f) d.1 ∙ waiting-more f old.levels (record { node = n; behind = behind; rest = old.nodes }) in
       omega (arith, one, a, b)
 
   -- what is left of a walk once it went down
-  down : (old new : Walk) (inner : ℕ) (behind : Option After) → descends f inner behind old.nodes old.levels new.nodes new.levels
+  down : (old new : Walk) (n inner : ℕ) (behind : Option After) → descends f n inner behind old.nodes old.levels new.nodes new.levels
       → left scripting f new ≡ and_then (walk_at scripting new.stand
       (trees_before f (children_of f inner) (trees_by f behind old.nodes (trees_after f (reverse old.levels)))) new.spot)
       (λ p. ended_by scripting f behind old.nodes (trees_after f (reverse old.levels)) (λ p. above old p) p)
-  down old new inner behind d =
+  down old new n inner behind d =
       ap₂ (λ ns ls. and_then (walk_at scripting new.stand (trees_before f ns (trees_after f ls)) new.spot)
       (λ p. levels_left scripting f ls p)) d.0
-      (ap reverse d.1 ∙ reverse-last old.levels (record { behind = behind; rest = old.nodes }))
+      (ap reverse d.1 ∙ reverse-last old.levels (record { node = n; behind = behind; rest = old.nodes }))
 
   pub children-taken : (old new : Walk) (n : ℕ) (about : forest.NodeData) → data_of f n ≡ about → inner_of f n ≡ children_of f n
       → ((inner : Trees → Trees) (rest : Trees) → node_before about inner rest ≡ inner rest)
-      → new.stand ≡ old.stand → new.spot ≡ old.spot → descends f n None old.nodes old.levels new.nodes new.levels
+      → new.stand ≡ old.stand → new.spot ≡ old.spot → descends f n n None old.nodes old.levels new.nodes new.levels
       → IsTaken scripting f n old new true
   children-taken old new n about d i same e k descent = record {
     ends =
@@ -131,7 +131,7 @@ module _ (scripting : Bool) (f : Forest) (tree : IsTree f) where
         ∙ (ap (λ ns. and_then (walk_at scripting old.stand (trees_before f ns (longer old)) old.spot) (λ p. above old p)) i
         ∙ (ap₂ (λ (stand : Stand) (spot : Spot). and_then (walk_at scripting stand (trees_before f (children_of f n) (longer old)) spot)
         (λ p. above old p)) (sym e) (sym k)
-        ∙ sym (down old new n None descent))));
+        ∙ sym (down old new n n None descent))));
     less = λ on. deeper old new n n None i descent;
   }
 
@@ -148,7 +148,7 @@ module _ (scripting : Bool) (f : Forest) (tree : IsTree f) where
   pub element-taken : (old new : Walk) (n inner : ℕ) (name : QualName) (attributes : List Attribute)
       (template integration_point goes_on : Bool) → data_of f n ≡ forest.NodeData.Element name attributes template integration_point
       → inner_of f n ≡ children_of f inner
-      → IsElementTaken scripting f inner name attributes template old new goes_on → IsTaken scripting f n old new goes_on
+      → IsElementTaken scripting f n inner name attributes template old new goes_on → IsTaken scripting f n old new goes_on
   element-taken old new n inner name attributes template integration_point false d i h = record {
     ends = node-left old n _ d ∙ ap (λ o. and_then o (λ p. above old p)) (h (trees_before f (inner_of f n) Nothing) (longer old));
     less = λ on. absurd cc;
@@ -160,7 +160,7 @@ module _ (scripting : Bool) (f : Forest) (tree : IsTree f) where
         ∙ (around-then new.stand new.spot h.0 (trees_before f (inner_of f n) Nothing) (longer old) (λ p. above old p)
         ∙ (ap (λ ns. and_then (walk_at scripting new.stand (trees_before f ns Nothing) new.spot)
         (λ p. and_then (finish_by h.0.finishes p) (λ p. and_then (walk_at scripting (after_stand h.0.parent) (longer old) p) (λ p. above old p)))) i
-        ∙ sym (down old new inner (Some h.0) h.1.1))));
+        ∙ sym (down old new n inner (Some h.0) h.1.1))));
     less = λ on. deeper old new n inner (Some h.0) i h.1.1;
   }
 

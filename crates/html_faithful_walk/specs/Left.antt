@@ -59,18 +59,18 @@ abbrev pub left : Bool → Forest → Walk → Option Spot
 left scripting f w = and_then (walk_at scripting w.stand (trees_before f w.nodes (trees_after f (reverse w.levels))) w.spot)
     (λ p. levels_left scripting f (reverse w.levels) p)
 
--- what stands in a node comes next, and the rest waits
-abbrev pub descends : Forest → ℕ → Option After → List ℕ → List Level → List ℕ → List Level → Type 0
-descends f n behind nodes levels new_nodes new_levels = (new_nodes ≡ children_of f n)
-    × (new_levels ≡ levels ++ record { behind = behind; rest = nodes } ∷ [])
+-- what stands in a node, or in its contents, comes next, and the rest waits
+abbrev pub descends : Forest → (n inner : ℕ) → Option After → List ℕ → List Level → List ℕ → List Level → Type 0
+descends f n inner behind nodes levels new_nodes new_levels = (new_nodes ≡ children_of f inner)
+    × (new_levels ≡ levels ++ record { node = n; behind = behind; rest = nodes } ∷ [])
 
 -- the walk goes on in an element, or ends
-abbrev pub IsElementTaken : Bool → Forest → ℕ → QualName → List Attribute → Bool → Walk → Walk → Bool → Type 0
-IsElementTaken scripting f n name attributes template old new false =
+abbrev pub IsElementTaken : Bool → Forest → (n inner : ℕ) → QualName → List Attribute → Bool → Walk → Walk → Bool → Type 0
+IsElementTaken scripting f n inner name attributes template old new false =
     Opens scripting name attributes template old.stand old.spot new.stand new.spot None
-IsElementTaken scripting f n name attributes template old new true = (after : After)
+IsElementTaken scripting f n inner name attributes template old new true = (after : After)
     × (Opens scripting name attributes template old.stand old.spot new.stand new.spot (Some after)
-    × descends f n (Some after) old.nodes old.levels new.nodes new.levels)
+    × descends f n inner (Some after) old.nodes old.levels new.nodes new.levels)
 
 -- where some nodes end, their element does, and those that waited after it come next; or these come next
 abbrev pub IsAscent : Option After → Walk → Walk → Bool → Type 0

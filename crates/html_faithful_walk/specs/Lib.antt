@@ -1,4 +1,5 @@
 pub mod Checks
 pub mod Left
+pub mod Reasons
 pub mod Steps
 pub mod Walking

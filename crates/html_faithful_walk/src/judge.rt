@@ -31,7 +31,7 @@ pub(crate) struct Judge<'a> {
 }
 
 /// Whether a name is `html`.
-fn is_html(name: &str) -> bool
+pub(crate) fn is_html(name: &str) -> bool
     ensures { result ≡ bytes_eq (chars name.now) (codes "html") }
 {
     name == "html"

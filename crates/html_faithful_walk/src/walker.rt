@@ -1,5 +1,5 @@
 //! The walk over the nodes of a forest in the order in which they stand.
-ghost use Rattle.std.specs.Prelude.{◌≡◌, ◌∷◌, ◌++◌, [], Bool, IfErr, IfOk, None, OnOk, true};
+ghost use Rattle.std.specs.Prelude.{◌≡◌, ◌∷◌, ◌++◌, [], Bool, IfErr, IfOk, None, OnOk, is_none, true};
 ghost use Rattle.markup.specs.Forest.{children_of};
 ghost use Rattle.markup.specs.Named.{IsTree};
 ghost use Rattle.markup.specs.Trees.{Nothing};
@@ -27,6 +27,8 @@ use std::mem;
 /// Nodes that wait while those before them are walked.
 #[derive(Drop)]
 pub(crate) struct Level<'a> {
+    /// What those before them stand in.
+    pub node: NodeId,
     /// What comes just before them; none where they stand where those before them end.
     pub behind: Option<After<'a>>,
     /// The nodes.
@@ -43,46 +45,49 @@ pub(crate) struct Nodes<'a> {
 }
 
 impl<'a> Nodes<'a> {
-    /// What stands in a node comes next, and the nodes that would have come wait.
+    /// What stands in a node, or in its contents, comes next, and the nodes that would have come wait.
     fn descend(
         &mut self,
         forest: &'a Forest,
-        id: NodeId,
+        node: NodeId,
+        inner: NodeId,
         behind: Option<After<'a>>,
     ) -> Result<(), ParseFault>
-        ensures rest { OnOk result (self.new.rest ≡ children_of forest.now id) }
+        ensures rest { OnOk result (self.new.rest ≡ children_of forest.now inner) }
         ensures waiting { OnOk result (self.new.waiting.items ≡ self.old.waiting.items ++ record {
+          node = node;
           behind = behind.entry;
           rest = self.old.rest;
         } ∷ []) }
         ensures fault { IfErr result (λ fault. fault ≡ Memory) }
     {
         self.waiting.reserve(1)?;
-        let rest = mem::replace(&mut self.rest, forest.children(id));
-        self.waiting.push_reserved(Level { behind, rest });
+        let rest = mem::replace(&mut self.rest, forest.children(inner));
+        self.waiting.push_reserved(Level { node, behind, rest });
         Ok(())
     }
 }
 
-/// An element comes, what stands in it in this node; answers whether its start tag is read as it is written.
+/// An element comes, and where its children are; answers whether its start tag is read as it is written.
 fn take_element<'a>(
     judge: &mut Judge<'a>,
     nodes: &mut Nodes<'a>,
     forest: &'a Forest,
     alloc: Global,
     scripting: bool,
+    node: NodeId,
     inner: NodeId,
     name: &'a QualName,
     attrs: AttributesRef<'_>,
     template: bool,
 ) -> Result<bool, ParseFault>
-    ensures ok { IfOk result (λ goes_on. IsElementTaken scripting forest.now inner name.now (attributes attrs.entry) template
+    ensures ok { IfOk result (λ goes_on. IsElementTaken scripting forest.now node inner name.now (attributes attrs.entry) template
         (walk_of judge.old nodes.old) (walk_of judge.new nodes.new) goes_on) }
     ensures fault { IfErr result (λ fault. fault ≡ Memory) }
 {
     match judge.element(alloc, scripting, name, attrs, template)? {
         Some(after) => {
-            nodes.descend(forest, inner, Some(after))?;
+            nodes.descend(forest, node, inner, Some(after))?;
             Ok(true)
         }
         None => Ok(false),
@@ -120,7 +125,7 @@ fn take<'a>(
                 ..
             },
         ) => take_element(
-            judge, nodes, forest, alloc, scripting, id, name, attrs, false,
+            judge, nodes, forest, alloc, scripting, id, id, name, attrs, false,
         ),
         Some(
             NodeData::Element {
@@ -130,7 +135,7 @@ fn take<'a>(
                 ..
             },
         ) => take_element(
-            judge, nodes, forest, alloc, scripting, contents, name, attrs, true,
+            judge, nodes, forest, alloc, scripting, id, contents, name, attrs, true,
         ),
         Some(NodeData::ProcessingInstruction { .. }) => Ok(false),
         Some(NodeData::Document) => take_children(nodes, forest, id),
@@ -145,11 +150,11 @@ fn take_children<'a>(
     forest: &'a Forest,
     id: NodeId,
 ) -> Result<bool, ParseFault>
-    ensures ok { IfOk result (λ goes_on. (goes_on ≡ true) × descends forest.now id None nodes.old.rest nodes.old.waiting.items
+    ensures ok { IfOk result (λ goes_on. (goes_on ≡ true) × descends forest.now id id None nodes.old.rest nodes.old.waiting.items
         nodes.new.rest nodes.new.waiting.items) }
     ensures fault { IfErr result (λ fault. fault ≡ Memory) }
 {
-    nodes.descend(forest, id, None)?;
+    nodes.descend(forest, id, id, None)?;
     Ok(true)
 }
 
@@ -165,7 +170,7 @@ fn go_on<'a>(
     ensures waiting { nodes.new.waiting ≡ nodes.old.waiting }
     ensures fault { IfErr result (λ fault. fault ≡ Memory) }
 {
-    let Level { behind, rest } = level;
+    let Level { behind, rest, .. } = level;
     nodes.rest = rest;
     match behind {
         Some(after) => judge.leave(alloc, after),
@@ -192,6 +197,19 @@ fn ends(judge: &Judge<'_>, alloc: Global) -> Result<bool, ParseFault>
     Ok(judge.may_end(alloc)? && is_end_mode(judge.made.spot.mode))
 }
 
+/// The document, where it may not end here.
+fn unended(judge: &Judge<'_>, alloc: Global, document: NodeId) -> Result<Option<NodeId>, ParseFault>
+    ensures ok { IfOk result (λ node. (scripting : Bool)
+        → is_at_end (walk_at scripting judge.now.stand Nothing (spot_of judge.now.made.spot)) ≡ is_none node) }
+    ensures fault { IfErr result (λ fault. fault ≡ Memory) }
+{
+    if ends(judge, alloc)? {
+        Ok(None)
+    } else {
+        Ok(Some(document))
+    }
+}
+
 /// The spot where the root stands, if no doctype is before it.
 fn first_spot(alloc: Global, scripting: bool) -> Spot
     ensures { spot_of result ≡ first_spot scripting BeforeHtml Quirks }
@@ -207,16 +225,17 @@ fn first_spot(alloc: Global, scripting: bool) -> Spot
     }
 }
 
-/// Whether the nodes in a node, which is the document, are read as they are written, where scripts run or do not.
-pub(crate) fn is_faithful(
-    forest: &Forest,
+/// The first node that is not read as it is written, where scripts run or do not: the first of whose start something else is read, or of
+/// whose end; the document, where it may not end there.
+pub(crate) fn first_unfaithful(
     alloc: Global,
+    forest: &Forest,
     scripting: bool,
     document: NodeId,
-) -> Result<bool, ParseFault>
+) -> Result<Option<NodeId>, ParseFault>
     requires tree { IsTree forest.now }
     requires document { document ≡ 0 }
-    ensures ok { IfOk result (λ faithful. faithful ≡ is_faithful_forest scripting forest.now) }
+    ensures ok { IfOk result (λ node. is_none node ≡ is_faithful_forest scripting forest.now) }
     ensures fault { IfErr result (λ fault. fault ≡ Memory) }
 {
     let mut judge = Judge {
@@ -236,16 +255,17 @@ pub(crate) fn is_faithful(
         match nodes.rest.next() {
             Some(id) => {
                 if !take(&mut judge, &mut nodes, forest, alloc, scripting, id)? {
-                    return Ok(false);
+                    return Ok(Some(id));
                 }
             }
             None => match nodes.waiting.pop() {
                 Some(level) => {
+                    let node = level.node;
                     if !go_on(&mut judge, &mut nodes, alloc, level)? {
-                        return Ok(false);
+                        return Ok(Some(node));
                     }
                 }
-                None => return ends(&judge, alloc),
+                None => return unended(&judge, alloc, document),
             },
         }
     }

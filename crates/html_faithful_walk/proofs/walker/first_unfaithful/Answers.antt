@@ -5,7 +5,7 @@ use Rattle.html_faithful.specs.Walk.{is_at_end}
 use Rattle.html_faithful_judge.specs.Spots.{spot_of}
 use Rattle.html_faithful_walk.specs.Left.{walk_of}
 use Rattle.html_faithful_walk.proofs.Left.{ascended, ascent-less, ended, first, kept, none-left, stopped}
-use Rattle.html_faithful_walk.proofs.walker.is_faithful.Goals as goal
+use Rattle.html_faithful_walk.proofs.walker.first_unfaithful.Goals as goal
 
 pub loop-id-init : goal.loop-id-init
 loop-id-init c =
@@ -34,8 +34,8 @@ loop-id-preserved c =
 
 pub returns-in-None-pop-clause-ok : goal.returns-in-None-pop-clause-ok
 returns-in-None-pop-clause-ok c =
-    IfOk-weaker c.ends.result _ _
+    IfOk-weaker c.unended.result _ _
     (λ b h. sym (h c.args.scripting) ∙ (sym (ap is_at_end (ended c.args.scripting c.args.forest.now c.requires.tree
     (walk_of c.loop-id.judge c.loop-id.nodes) c.in-None.ensures.steps.0
     (none-left c.loop-id.nodes.waiting.items (sym c.loop-id.nodes.waiting.ok.0 ∙ c.in-None-pop.ensures.cases.0)))) ∙ c.loop-id.invariant))
-    c.ends.ensures.ok
+    c.unended.ensures.ok
