@@ -57,7 +57,8 @@ fn push_header(image: &mut Vec<u8>, forest: &Forest, parts: &Parts) -> Result<()
         number_of(forest.quirks()),
     ];
     push_words(image, &numbers)?;
-    image.extend_from_slice(&forest.error_count().to_le_bytes())
+    image.extend_from_slice(&forest.error_count().to_le_bytes())?;
+    Ok(())
 }
 
 // Whether a part is too long.
