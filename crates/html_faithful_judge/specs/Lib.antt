@@ -1,3 +1,4 @@
+pub mod Contexts
 pub mod Mades
 pub mod Rows
 pub mod Spots

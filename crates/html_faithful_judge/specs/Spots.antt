@@ -8,12 +8,7 @@ use Rattle.html_rules.specs.Sets.{is_among, names_of}
 use Rattle.html_rules.specs.State.{Open, is_in}
 use Rattle.html_rules.specs.declared.tag_set.TagSet.TheVariants as set
 use Rattle.html_faithful.specs.Spots.{Spot, is_marked}
-use Rattle.html_faithful_judge.specs.declared.spot.Context.{Context}
 use Rattle.html_faithful_judge.specs.declared.spot.Spot as declared
-
--- elements of the stack are numbered as they were opened
-abbrev pub number_of : ℕ → ℕ
-number_of n = n
 
 -- the spot of the definitions
 abbrev pub spot_of : declared.Spot → Spot
@@ -27,30 +22,6 @@ spot_of s = record {
   quirks_mode = s.quirks_mode;
   scripting = s.scripting;
 }
-
--- whether an element is listed as an `a`
-abbrev pub is_listed_a : Open → Bool
-is_listed_a x = is_in set.FormattingEnd x && bytes_eq x.name (codes "a")
-
--- what open elements are asked together, with one more element open
-abbrev pub with_element : Open → Context → Context
-with_element x c = record {
-  form = choose (is_in set.Form x && not c.in_template) (λ _. Some x.number) (λ _. c.form);
-  in_template = is_in set.Template x || c.in_template;
-  lists_a = choose (is_marked x) (λ _. false)
-      (λ _. choose (is_listed_a x) (λ _. true) (λ _. c.lists_a));
-  link_open = choose (is_marked x) (λ _. false) (λ _. choose (is_in set.A x) (λ _. true) (λ _. c.link_open));
-  ends_with_body = is_in set.BodyEnd x && c.ends_with_body;
-}
-
--- what open elements are asked together
-abbrev pub context_of : List Open → Context
-context_of [] = record { form = None; in_template = false; lists_a = false; link_open = false; ends_with_body = true }
-context_of (x ∷ xs) = with_element x (context_of xs)
-
--- whether no item before an element would be closed
-abbrev pub bars_items : Open → Bool
-bars_items x = is_in set.SpecialTag x && not (is_in set.AddressDivP x)
 
 -- whether the rules of HTML take a token in an element, where no sink says that HTML may stand in it
 abbrev pub is_html_at : Open → Token → Bool

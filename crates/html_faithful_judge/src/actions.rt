@@ -41,7 +41,11 @@ impl Made {
     pub(crate) fn close_p(&mut self, token: &NamedToken<'_>) -> bool
         ensures { does table.CloseP (token_of token.now.content) (made_as self.old) ≡ provided result (made_as self.new) }
     {
-        if self.spot.stack.in_scope(TagSet::ButtonScope, TagSet::P) {
+        if self
+            .spot
+            .as_stack()
+            .in_scope(TagSet::ButtonScope, TagSet::P)
+        {
             self.close_in(TagSet::P, token)
         } else {
             true
@@ -169,7 +173,7 @@ impl Made {
     {
         self.spot.mode = self
             .spot
-            .stack
+            .as_stack()
             .reset_insertion_mode(self.spot.has_head, None);
     }
     /// The frameset-ok flag is cleared, unless the token's text is white space.

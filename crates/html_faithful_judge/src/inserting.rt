@@ -241,7 +241,7 @@ impl Made {
         ensures ok { IfOk result (λ goes_on. does table.InsertForeign (token_of token.now.content) (made_as self.old) ≡ provided goes_on (made_as self.new)) }
         ensures fault { IfErr result (λ fault. fault ≡ Memory) }
     {
-        match (token.start_tag(), self.spot.stack.open_elems().last()) {
+        match (token.start_tag(), self.spot.as_stack().open_elems().last()) {
             (Some(tag), Some(node)) => {
                 let namespace = node.name.namespace(alloc)?;
                 let name = adjust_tag_name(alloc, node.name.kind(), tag.name.copy(alloc)?)?;

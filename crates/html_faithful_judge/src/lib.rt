@@ -4,10 +4,12 @@
 mod acting;
 mod actions;
 mod characters;
+pub mod context;
 mod inserting;
 pub mod made;
 mod making;
 mod names;
+pub mod open;
 mod rows;
 pub mod spot;
 mod texts;

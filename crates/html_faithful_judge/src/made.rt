@@ -134,7 +134,7 @@ impl Made {
         ensures fault { IfErr result (λ fault. fault ≡ Memory) }
     {
         let element = ElementName::new(alloc, namespace, name)?;
-        let number = self.spot.stack.open_elems().len();
+        let number = self.spot.as_stack().open_elems().len();
         self.spot.stack.push(OpenElement {
             handle: NodeId::new(number),
             name: element,
@@ -169,7 +169,7 @@ impl Made {
     pub(crate) fn ends_current(&self, token: &NamedToken<'_>) -> bool
         ensures { result ≡ ends_current (token_of token.now.content) (made_as self.now).spot.path }
     {
-        match (token.content, self.spot.stack.open_elems().last()) {
+        match (token.content, self.spot.as_stack().open_elems().last()) {
             (Content::Tag(tag), Some(element)) => {
                 tag.kind == TagKind::EndTag && element.name.is_named_any_case(&tag.name)
             }
@@ -181,8 +181,7 @@ impl Made {
     fn pop(&mut self)
         ensures { made_as self.new ≡ popped (made_as self.old) }
     {
-        let count = self.spot.stack.open_elems().len();
-        self.spot.stack.truncate(count.saturating_sub(1));
+        self.spot.stack.pop();
     }
 
     /// The current node, which passes a test or does not, is closed by its own end tag, if nothing was put or closed yet.

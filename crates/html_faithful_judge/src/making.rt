@@ -80,7 +80,8 @@ impl Made {
         ensures { result ≡ may_go_on (token_of token.now.content) (made_as self.now) }
     {
         self.is_untouched()
-            && (!self.spot.is_foreign(token) && !self.spot.stack.has_open(TagSet::AnnotationXml))
+            && (!self.spot.is_foreign(token)
+                && !self.spot.as_stack().has_open(TagSet::AnnotationXml))
     }
 
     /// The token is taken again in another mode, if it may.

@@ -1,7 +1,8 @@
 //! Which row of a table a token takes where a node stands (HTML Standard, section 13.2.6).
-ghost use Rattle.std.specs.Prelude.{◌≡◌, slice_get};
+ghost use Rattle.std.specs.Prelude.{◌≡◌, drop, slice_get};
 ghost use Rattle.html_rules.specs.Conditions.{holds};
 ghost use Rattle.html_rules.specs.Rules.{first_fit, fits};
+ghost use Rattle.html_rules.specs.State.{State};
 ghost use Rattle.html_modes.specs.Tables.{condition_of, row_lent, row_of};
 ghost use Rattle.html_faithful.specs.Spots.{hollow};
 ghost use Rattle.html_faithful_judge.specs.Rows.{rows_in};
@@ -9,8 +10,10 @@ ghost use Rattle.html_faithful_judge.specs.Spots.{spot_of};
 ghost use Rattle.html_faithful_judge.specs.Tokens.{IsNamed, token_of};
 
 use crate::spot::Spot;
-use crate::tokens::NamedToken;
-use html_modes::{Action, Class, Conclusion, Condition, Row, row_at, rows_of_foreign_content};
+use crate::tokens::{Content, NamedToken};
+use html_modes::{
+    Action, Class, Conclusion, Condition, Row, row_at, rows_before, rows_of_foreign_content,
+};
 use html_rules::InsertionMode;
 
 /// Whose rows are gone through.
@@ -40,6 +43,23 @@ fn row_in(table: Table, place: usize) -> Option<&'static Row>
     }
 }
 
+impl NamedToken<'_> {
+    /// How many rows of a table are passed over, since none of them is for the token. Only those of tags in the modes are noted.
+    fn rows_passed(&self, table: Table) -> usize
+        requires { IsNamed self.now }
+        ensures { (s : State) → first_fit (drop result (rows_in table)) (token_of self.now.content) s
+            ≡ first_fit (rows_in table) (token_of self.now.content) s }
+    {
+        match table {
+            Table::Mode(mode) => match self.content {
+                Content::Tag(tag) => rows_before(mode, tag.kind, self.class.known),
+                _ => 0,
+            },
+            Table::Foreign => 0,
+        }
+    }
+}
+
 impl Spot {
     /// Whether a row is for a token.
     fn fits(&self, row: &Row, token: &NamedToken<'_>) -> bool
@@ -54,7 +74,7 @@ impl Spot {
         requires { IsNamed token.now }
         ensures { row_of result.now ≡ first_fit (rows_in table) (token_of token.now.content) (hollow (spot_of self.now)) }
     {
-        let mut place = 0;
+        let mut place = token.rows_passed(table);
         while let Some(row) = row_in(table, place) {
             if self.fits(row, token) {
                 return row;

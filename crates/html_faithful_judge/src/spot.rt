@@ -9,15 +9,18 @@ ghost use Rattle.html_rules.specs.Formatting.{last_named};
 ghost use Rattle.html_rules.specs.Names.{Html};
 ghost use Rattle.html_rules.specs.Stack.{has_open, in_scope, item_name, without_current};
 ghost use Rattle.html_rules.specs.State.{current_is, is_in, is_named};
-ghost use Rattle.html_rules.specs.declared.tag_set.TagSet.TheVariants.{BodyEnd, DefaultScope, Template};
+ghost use Rattle.html_rules.specs.declared.tag_set.TagSet.TheVariants.{BodyEnd, DdDt, DefaultScope, Li, Template};
 ghost use Rattle.html_modes.specs.Tables.{condition_of};
 ghost use Rattle.html_names.specs.Classes.{IsClassOf};
 ghost use Rattle.html_stack.specs.Stacks.{opens_of, open_of};
 ghost use Rattle.html_faithful.specs.Listing.{link_open};
 ghost use Rattle.html_faithful.specs.Spots.{entries_of, form_of, hollow, is_marked};
-ghost use Rattle.html_faithful_judge.specs.Spots.{bars_items, context_of, is_foreign_in, is_html_at, is_listed_a, number_of, spot_of, with_element};
+ghost use Rattle.html_faithful_judge.specs.Contexts.{context_of, number_of};
+ghost use Rattle.html_faithful_judge.specs.Spots.{is_foreign_in, is_html_at, spot_of};
 ghost use Rattle.html_faithful_judge.specs.Tokens.{IsNamed, token_of};
 
+use crate::context::{Context, bars_items};
+use crate::open::OpenElements;
 use crate::tokens::{Content, NamedToken};
 use html_forest::{Forest, NodeId};
 use html_modes::Condition;
@@ -35,7 +38,7 @@ pub struct Spot {
     /// The mode that comes back after the text of an element.
     pub orig_mode: Option<InsertionMode>,
     /// What the node stands in, each numbered by how many it stands in, and the template insertion modes. Nothing is listed.
-    pub stack: Stack<Forest>,
+    pub stack: OpenElements,
     /// Whether there is a head element.
     pub has_head: bool,
     /// The frameset-ok flag.
@@ -44,128 +47,6 @@ pub struct Spot {
     pub quirks_mode: QuirksMode,
     /// Whether scripts run.
     pub scripting: bool,
-}
-
-/// What open elements are asked together.
-#[derive(Clone, Copy)]
-pub struct Context {
-    /// The form element pointer.
-    pub form: Option<NodeId>,
-    /// Whether a template is open.
-    pub in_template: bool,
-    /// Whether the list of active formatting elements has an `a` since the last marker.
-    pub lists_a: bool,
-    /// Whether an `a` is open since the last marked element.
-    pub link_open: bool,
-    /// Whether all may be open where the body ends.
-    pub ends_with_body: bool,
-}
-
-/// Whether a text is `a`.
-fn is_a(text: &str) -> bool
-    ensures { result ≡ bytes_eq (chars text.now) (codes "a") }
-{
-    text == "a"
-}
-
-/// Whether an element begins a list of formatting elements of its own (HTML Standard, section 13.2.4.3).
-pub fn is_marked(element: &OpenElement<NodeId>) -> bool
-    ensures { (node : ℕ → ℕ) → result ≡ is_marked (open_of node element.now) }
-{
-    element.name.is_in(TagSet::AppletMarqueeObject)
-        || element.name.is_in(TagSet::TdTh)
-        || element.name.is_in(TagSet::Caption)
-        || element.name.is_in(TagSet::Template)
-}
-
-/// Whether an element is listed as an `a`.
-fn is_listed_a(element: &OpenElement<NodeId>) -> bool
-    ensures { (node : ℕ → ℕ) → result ≡ is_listed_a (open_of node element.now) }
-{
-    element.name.is_in(TagSet::FormattingEnd) && is_a(element.name.as_str())
-}
-
-impl Context {
-    /// What is asked where nothing is open.
-    fn new() -> Context
-        ensures { result ≡ context_of [] }
-    {
-        Context {
-            form: None,
-            in_template: false,
-            lists_a: false,
-            link_open: false,
-            ends_with_body: true,
-        }
-    }
-
-    /// The form element pointer, with one more element open.
-    fn form_with(self, element: &OpenElement<NodeId>) -> Option<NodeId>
-        ensures { result ≡ (with_element (open_of number_of element.now) self).form }
-    {
-        if element.name.is_in(TagSet::Form) && !self.in_template {
-            Some(element.handle)
-        } else {
-            self.form
-        }
-    }
-
-    /// Whether an `a` is listed since the last marker, with one more element open.
-    fn lists_a_with(self, element: &OpenElement<NodeId>) -> bool
-        ensures { result ≡ (with_element (open_of number_of element.now) self).lists_a }
-    {
-        if is_marked(element) {
-            false
-        } else if is_listed_a(element) {
-            true
-        } else {
-            self.lists_a
-        }
-    }
-
-    /// Whether an `a` is open since the last marked element, with one more element open.
-    fn link_open_with(self, element: &OpenElement<NodeId>) -> bool
-        ensures { result ≡ (with_element (open_of number_of element.now) self).link_open }
-    {
-        if is_marked(element) {
-            false
-        } else if element.name.is_in(TagSet::A) {
-            true
-        } else {
-            self.link_open
-        }
-    }
-
-    /// The same, with one more element open.
-    fn with(self, element: &OpenElement<NodeId>) -> Context
-        ensures { result ≡ with_element (open_of number_of element.now) self }
-    {
-        Context {
-            form: self.form_with(element),
-            in_template: element.name.is_in(TagSet::Template) || self.in_template,
-            lists_a: self.lists_a_with(element),
-            link_open: self.link_open_with(element),
-            ends_with_body: element.name.is_in(TagSet::BodyEnd) && self.ends_with_body,
-        }
-    }
-}
-
-/// What open elements are asked together.
-fn gather(elements: &[OpenElement<NodeId>]) -> Context
-    ensures { result ≡ context_of (opens_of number_of elements.now) }
-{
-    let mut context = Context::new();
-    for element in elements {
-        context = context.with(element);
-    }
-    context
-}
-
-/// Whether no item before an element would be closed: whether it is special, and is no `address`, `div` or `p`.
-fn bars_items(element: &OpenElement<NodeId>) -> bool
-    ensures { (node : ℕ → ℕ) → result ≡ bars_items (open_of node element.now) }
-{
-    element.name.is_in(TagSet::SpecialTag) && !element.name.is_in(TagSet::AddressDivP)
 }
 
 /// Whether an item of a set would be closed: whether one is open, and no special element but `address`, `div` and `p` stands before it.
@@ -309,7 +190,14 @@ impl Spot {
     fn open(&self) -> &[OpenElement<NodeId>]
         ensures { opens_of number_of result.now ≡ self.now.stack.open_elems }
     {
-        self.stack.open_elems()
+        self.as_stack().open_elems()
+    }
+
+    /// The open elements and the template insertion modes.
+    pub fn as_stack(&self) -> &Stack<Forest>
+        ensures { result.now ≡ self.now.stack }
+    {
+        self.stack.as_stack()
     }
 
     /// What the open elements are asked together.
@@ -319,27 +207,28 @@ impl Spot {
         ensures lists_a { result.lists_a ≡ is_some (last_named (codes "a") (entries_of self.now.stack.open_elems)) }
         ensures link_open { result.link_open ≡ link_open self.now.stack.open_elems }
         ensures ends_with_body { result.ends_with_body ≡ list_all (is_in BodyEnd) self.now.stack.open_elems }
+        ensures closes_li { result.closes_li ≡ is_some (item_name Li self.now.stack.open_elems) }
+        ensures closes_dd { result.closes_dd ≡ is_some (item_name DdDt self.now.stack.open_elems) }
     {
-        gather(self.open())
+        self.stack.context()
     }
 
     /// What the open elements but the current node are asked together.
     pub fn context_below(&self) -> Context
         ensures { result ≡ context_of (without_current self.now.stack.open_elems) }
     {
-        let open = self.open();
-        let count = open.len();
-        if count == 0 {
-            return Context::new();
-        }
-        gather(&open[..count - 1])
+        self.stack.context_below()
     }
 
     /// Whether an item of a set would be closed.
     pub(crate) fn has_item(&self, items: TagSet) -> bool
         ensures { result ≡ is_some (item_name items self.now.stack.open_elems) }
     {
-        has_item(self.open(), items)
+        match items {
+            TagSet::Li => self.context().closes_li,
+            TagSet::DdDt => self.context().closes_dd,
+            _ => has_item(self.open(), items),
+        }
     }
 
     /// Whether the current node is in a set.
@@ -361,7 +250,7 @@ impl Spot {
     pub fn is_any_open(&self) -> bool
         ensures { result ≡ is_nonempty self.now.stack.open_elems }
     {
-        !self.stack.open_elems().is_empty()
+        !self.open().is_empty()
     }
 
     /// Whether there is a current node that is not in a set.
@@ -409,7 +298,7 @@ impl Spot {
     fn ends_in_html(&self, name: &LocalName) -> bool
         ensures { result ≡ is_as_in_mode (foreign_end name.now (hollow (spot_of self.now))) }
     {
-        self.stack.ends_in_html(name)
+        self.as_stack().ends_in_html(name)
     }
 
     /// Whether the rules of foreign content hold for a token.
@@ -438,12 +327,13 @@ impl Spot {
             Condition::CurrentIs(set) => self.current_is(*set),
             Condition::CurrentIsToken => self.current_is_named(token.class, token.name),
             Condition::RootAlone => self.is_root_alone(),
-            Condition::SecondIsBody => self.stack.body_elem().is_some(),
-            Condition::TemplateOpen => self.stack.has_open(TagSet::Template),
-            Condition::HasTemplateModes => !self.stack.template_modes().is_empty(),
-            Condition::InScope(scope, set) => self.stack.in_scope(*scope, *set),
+            Condition::SecondIsBody => self.as_stack().body_elem().is_some(),
+            Condition::TemplateOpen => self.as_stack().has_open(TagSet::Template),
+            Condition::HasTemplateModes => !self.as_stack().template_modes().is_empty(),
+            Condition::InScope(scope, set) => self.as_stack().in_scope(*scope, *set),
             Condition::TokenInScope(scope) => {
-                self.stack.in_scope_named(*scope, token.class, token.name)
+                self.as_stack()
+                    .in_scope_named(*scope, token.class, token.name)
             }
             Condition::HasFormElem => self.context().form.is_some(),
             Condition::FormElemInScope => self.is_form_in_scope(),
@@ -452,7 +342,7 @@ impl Spot {
             Condition::TypeHidden => token.is_type_hidden(),
             Condition::FontAttributes => token.has_font_attributes(),
             Condition::EndsInHtml => self.ends_in_html(token.name),
-            Condition::ForeignEndError => self.stack.is_foreign_end_error(token.name),
+            Condition::ForeignEndError => self.as_stack().is_foreign_end_error(token.name),
         }
     }
 }

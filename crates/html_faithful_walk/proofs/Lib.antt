@@ -1,3 +1,4 @@
+mod AnyText
 mod Checked
 mod Inside
 mod Left

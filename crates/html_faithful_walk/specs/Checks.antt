@@ -7,7 +7,7 @@ use Rattle.html_rules.specs.State.{Open, current_is, is_in}
 use Rattle.html_rules.specs.declared.tag_set.TagSet.TheVariants as set
 use Rattle.html_faithful.specs.Harmless.{Change, EntryLeft, EntryPushed, FormChange, FormForgotten, FormKept, FormSet}
 use Rattle.html_faithful.specs.Harmless.{MarkerLeft, MarkerPushed, Unchanged}
-use Rattle.html_faithful_judge.specs.Spots.{context_of}
+use Rattle.html_faithful_judge.specs.Contexts.{context_of}
 use Rattle.html_faithful_walk.specs.declared.checks.Closing.{Closing}
 
 -- what is asked of the current node

@@ -7,6 +7,10 @@ use Rattle.html_tokens.specs.declared.tags.Tag.{Tag}
 use Rattle.html_tokens.specs.declared.tags.TagKind.TheVariants.{StartTag}
 use Rattle.html_tokens.specs.declared.token.Token.TheVariants.{TagToken}
 use Rattle.html_rules.specs.Choice.{choose}
+use Rattle.html_rules.specs.ForeignContent.{is_html_element}
+use Rattle.html_rules.specs.State.{current_is}
+use Rattle.html_rules.specs.declared.insertion_mode.InsertionMode.{InsertionMode}
+use Rattle.html_rules.specs.declared.insertion_mode.InsertionMode.TheVariants as mode
 use Rattle.html_faithful.specs.Checks.{is_kept_so}
 use Rattle.html_faithful.specs.Forms.{lowered, told_attribute}
 use Rattle.html_faithful.specs.Harmless.{Made, and_then, made_of}
@@ -42,6 +46,18 @@ is_started name attributes tag p made =
 abbrev pub is_character_walked : ℕ → Spot → Spot → Bool → Type 0
 is_character_walked c old new goes_on = (cs : List ℕ)
     → text_walked (c ∷ cs) old ≡ choose goes_on (λ _. text_walked cs new) (λ _. None)
+
+-- whether every text is put in the current node in a mode, and changes nothing else: in raw text, and in the body once no frameset may come
+abbrev pub takes_text : InsertionMode → Bool → Bool
+takes_text mode.Text frameset_ok = true
+takes_text mode.InBody frameset_ok = not frameset_ok
+takes_text mode.InCell frameset_ok = not frameset_ok
+takes_text mode.InCaption frameset_ok = not frameset_ok
+takes_text m frameset_ok = false
+
+-- and at a spot
+abbrev pub takes_any_text : Spot → Bool
+takes_any_text p = takes_text p.mode p.frameset_ok && current_is is_html_element p.path
 
 -- the start tag of an element, as it is read
 abbrev pub start_of : QualName → List Attribute → Tag

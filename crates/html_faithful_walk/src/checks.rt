@@ -101,7 +101,7 @@ impl Closing {
 fn is_named(spot: &Spot, name: &LocalName) -> bool
     ensures { result ≡ current_is (λ x. bytes_eq name.now x.name) spot.now.stack.open_elems }
 {
-    match spot.stack.open_elems().last() {
+    match spot.as_stack().open_elems().last() {
         Some(element) => is_same(name.as_str(), element.name.as_str()),
         None => false,
     }

@@ -42,7 +42,7 @@ impl Parent {
     {
         match self {
             Parent::Document => !spot.is_any_open(),
-            Parent::Root => spot.is_root_alone() && !spot.stack.has_open(TagSet::Template),
+            Parent::Root => spot.is_root_alone() && !spot.as_stack().has_open(TagSet::Template),
             Parent::Current => true,
         }
     }

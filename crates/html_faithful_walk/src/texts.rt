@@ -4,9 +4,11 @@ ghost use Rattle.std.specs.Str.{chars};
 ghost use Rattle.markup.specs.declared.fault.ParseFault.TheVariants.{Memory};
 ghost use Rattle.html_faithful.specs.Spots.{Spot as HarmlessSpot};
 ghost use Rattle.html_faithful.specs.Walk.{begins_with_line_feed, comment_put, is_current, is_plain, is_text, is_text_put, text_put, text_walked, waits_at};
+ghost use Rattle.html_rules.specs.ForeignContent.{is_html_element};
+ghost use Rattle.html_rules.specs.State.{current_is};
 ghost use Rattle.html_faithful_judge.specs.Mades.{made_as, put_as};
 ghost use Rattle.html_faithful_judge.specs.Spots.{spot_of};
-ghost use Rattle.html_faithful_walk.specs.Steps.{is_character_walked, is_comment_made, is_text_made, parent_of, spot_if};
+ghost use Rattle.html_faithful_walk.specs.Steps.{is_character_walked, is_comment_made, is_text_made, parent_of, spot_if, takes_any_text, takes_text};
 
 use crate::checks::is_kept_open;
 use crate::parents::Parent;
@@ -83,6 +85,34 @@ fn is_character_put(made: &Made, no_name: &LocalName) -> bool
     is_kept_open(made, no_name)
 }
 
+/// Whether the current node is HTML's.
+fn is_in_html(spot: &Spot) -> bool
+    ensures { result ≡ current_is is_html_element spot.now.stack.open_elems }
+{
+    match spot.as_stack().open_elems().last() {
+        Some(element) => element.name.is_html(),
+        None => false,
+    }
+}
+
+/// Whether every text is put in the current node in a mode, and changes nothing else: as in the body, once no frameset may come.
+fn takes_text(mode: InsertionMode, frameset_ok: bool) -> bool
+    ensures { result ≡ takes_text mode frameset_ok }
+{
+    match mode {
+        InsertionMode::Text => true,
+        InsertionMode::InBody | InsertionMode::InCell | InsertionMode::InCaption => !frameset_ok,
+        _ => false,
+    }
+}
+
+/// Whether every text is put in the current node, and changes nothing else.
+fn takes_any_text(spot: &Spot) -> bool
+    ensures { result ≡ takes_any_text (spot_of spot.now) }
+{
+    takes_text(spot.mode, spot.frameset_ok) && is_in_html(spot)
+}
+
 /// A character is put in the current node; answers whether it is, and nothing else is done. The name is empty.
 fn put_character(
     made: &mut Made,
@@ -94,6 +124,9 @@ fn put_character(
     ensures ok { IfOk result (λ goes_on. is_character_walked c (spot_of made.old.spot) (spot_of made.new.spot) goes_on) }
     ensures fault { IfErr result (λ fault. fault ≡ Memory) }
 {
+    if takes_any_text(&made.spot) {
+        return Ok(true);
+    }
     let token = NamedToken {
         content: Content::Character(c),
         name: no_name,
@@ -116,6 +149,9 @@ fn walk_text(
     ensures ok { IfOk result (λ goes_on. text_walked (chars text.now) (spot_of made.old.spot) ≡ spot_if goes_on (spot_of made.new.spot)) }
     ensures fault { IfErr result (λ fault. fault ≡ Memory) }
 {
+    if takes_any_text(&made.spot) {
+        return Ok(true);
+    }
     let mut goes_on = true;
     for c in text.chars() {
         if goes_on {

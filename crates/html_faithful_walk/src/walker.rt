@@ -16,10 +16,10 @@ use crate::judge::Judge;
 use crate::parents::Parent;
 use crate::stand::{After, Inside, Stand};
 use html_faithful_judge::made::Made;
+use html_faithful_judge::open::OpenElements;
 use html_faithful_judge::spot::Spot;
 use html_forest::{AttributesRef, Children, Forest, NodeData, NodeId};
 use html_rules::InsertionMode;
-use html_stack::Stack;
 use markup::{ParseFault, QualName, QuirksMode};
 use std::alloc::Global;
 use std::mem;
@@ -217,7 +217,7 @@ fn first_spot(alloc: Global, scripting: bool) -> Spot
     Spot {
         mode: InsertionMode::BeforeHtml,
         orig_mode: None,
-        stack: Stack::new(alloc),
+        stack: OpenElements::new(alloc),
         has_head: false,
         frameset_ok: true,
         quirks_mode: QuirksMode::Quirks,

@@ -4,7 +4,7 @@ use Rattle.html_rules.specs.Stack.{in_scope}
 use Rattle.html_rules.specs.declared.tag_set.TagSet.TheVariants.{DefaultScope}
 use Rattle.html_stack.specs.Stacks.{open_of}
 use Rattle.html_stack.proofs.WalksBack.{IsWalked-end, walk-at, walk-none, walk-on}
-use Rattle.html_faithful_judge.specs.Spots.{number_of}
+use Rattle.html_faithful_judge.specs.Contexts.{number_of}
 use Rattle.html_faithful_judge.proofs.spot.is_number_in_scope.Goals as goal
 
 pub loop-i-init : goal.loop-i-init

@@ -1,6 +1,7 @@
 use Rattle.std.proofs.Common.{◌≡◌, ℕ, Bool, true, false, cond, ap, is_some, refl, sym}
 use Rattle.std.specs.Prelude.{Some, None}
 use Rattle.html_rules.specs.Reset.{reset_insertion_mode}
+use Rattle.html_stack.specs.Stacks.{Stacked}
 use Rattle.html_faithful.specs.Harmless.{at_mode}
 use Rattle.html_faithful.specs.Spots.{hollow}
 use Rattle.html_faithful_judge.specs.Mades.{made_as}
@@ -15,4 +16,5 @@ pub returns : goal.returns
 unfolding reset_insertion_mode
 returns c t =
     ap (λ mode. Some (at_mode mode (made_as c.args.self.now)))
-    (sym (c.reset_insertion_mode-self.ensures (hollow (spot_of c.args.self.now.spot)) refl refl (head-is c.args.self.now.spot.has_head) tt))
+    (sym (c.reset_insertion_mode-self.ensures (hollow (spot_of c.args.self.now.spot)) (ap (λ (s : Stacked). s.open_elems) (sym c.as_stack.ensures))
+    (ap (λ (s : Stacked). s.template_modes) (sym c.as_stack.ensures)) (head-is c.args.self.now.spot.has_head) tt))

@@ -15,7 +15,7 @@ pub loop-row-smaller : goal.loop-row-smaller
 loop-row-smaller c = omega (arith, slice_get_within (rows_in c.args.table) c.loop-row.place _ (sym c.in-Some.ensures))
 
 pub loop-row-init : goal.loop-row-init
-loop-row-init c = refl
+loop-row-init c = sym (c.rows_passed-place.ensures (hollow (spot_of c.args.self.now)))
 
 pub returns-then-fits : goal.returns-then-fits
 returns-then-fits c =

@@ -1,7 +1,8 @@
 use Rattle.std.proofs.Common.{◌∙◌, ap, sym}
 use Rattle.html_rules.specs.State.{current_is}
 use Rattle.html_faithful_judge.proofs.Foreign.{foreign-is}
-use Rattle.html_faithful_judge.specs.Spots.{is_foreign_in, number_of, spot_of}
+use Rattle.html_faithful_judge.specs.Contexts.{number_of}
+use Rattle.html_faithful_judge.specs.Spots.{is_foreign_in, spot_of}
 use Rattle.html_faithful_judge.specs.Tokens.{token_of}
 use Rattle.html_faithful_judge.proofs.spot.Spot.is_foreign.Goals as goal
 

@@ -2,7 +2,7 @@ use Rattle.std.proofs.Common.{◌∙◌, ap, refl, codes}
 use Rattle.std.specs.Str.{bytes_eq, chars}
 use Rattle.std.proofs.lemmas.Str.{IsUtf8-from_ascii}
 use Rattle.markup.proofs.Plain.{IsAscii-plain, bytes_eq-chars, chars-plain}
-use Rattle.html_faithful_judge.proofs.spot.is_a.Goals as goal
+use Rattle.html_faithful_judge.proofs.context.is_a.Goals as goal
 
 pub returns : goal.returns
 returns c =

@@ -1,6 +1,6 @@
 use Rattle.std.proofs.Common.{refl}
-use Rattle.html_faithful_judge.specs.Spots.{number_of}
-use Rattle.html_faithful_judge.proofs.spot.Context.link_open_with.Goals as goal
+use Rattle.html_faithful_judge.specs.Contexts.{number_of}
+use Rattle.html_faithful_judge.proofs.context.Context.link_open_with.Goals as goal
 
 pub returns-then-is_marked : goal.returns-then-is_marked
 returns-then-is_marked c = rw (← c.if-is_marked.ensures number_of) refl

@@ -1,0 +1,54 @@
+-- Where every text is put in the current node, and changes nothing else.
+use Rattle.std.proofs.Common.{◌≡◌, ◌∙◌, ℕ, Bool, true, false, List, [], ◌∷◌, Some, None, refl, sym, true≢false}
+use Rattle.std.proofs.lemmas.Bool.{and_parts}
+use Rattle.html_tokens.specs.declared.token.Token.TheVariants.{CharacterTokens}
+use Rattle.html_rules.specs.Choice.{choose}
+use Rattle.html_rules.specs.ForeignContent.{is_foreign, is_foreign_at, is_html_element}
+use Rattle.html_rules.specs.Modes.Foreign.{in_foreign_content}
+use Rattle.html_rules.specs.Rules.{rows}
+use Rattle.html_rules.specs.State.{Open, adjusted_by, current_is}
+use Rattle.html_rules.specs.declared.insertion_mode.InsertionMode.{InsertionMode}
+use Rattle.html_rules.specs.declared.insertion_mode.InsertionMode.TheVariants as mode
+use Rattle.html_faithful.specs.Harmless.{TextHere, by_rows, made_of, nothing_yet}
+use Rattle.html_faithful.specs.Spots.{Spot, hollow}
+use Rattle.html_faithful.specs.Walk.{text_walked}
+use Rattle.html_faithful.proofs.Waiting.{at-html}
+use Rattle.html_faithful_walk.specs.Steps.{is_character_walked, takes_any_text, takes_text}
+
+own-by : (p : Spot) (c : ℕ) (xs : List Open) → current_is is_html_element xs ≡ true
+    → is_foreign_at (hollow p) (adjusted_by None xs) (CharacterTokens (c ∷ [])) ≡ false
+own-by p c [] h = absurd (true≢false (sym h))
+own-by p c (x ∷ xs) h = at-html (hollow p) x (CharacterTokens (c ∷ [])) h
+
+-- a character in HTML is not in foreign content
+own-text : (p : Spot) (c : ℕ) → current_is is_html_element p.path ≡ true → is_foreign (hollow p) (CharacterTokens (c ∷ [])) ≡ false
+unfolding is_foreign
+own-text p c h = own-by p c p.path h
+
+character-by : (m : InsertionMode) (ok : Bool) (p : Spot) (c : ℕ) (b : Bool) → takes_text m ok ≡ true → b ≡ false
+    → by_rows 4 (choose b (λ _. in_foreign_content) (λ _. rows m)) (CharacterTokens (c ∷ []))
+    (nothing_yet (record p { mode = m; frameset_ok = ok }))
+    ≡ Some (record (nothing_yet (record p { mode = m; frameset_ok = ok })) { put = Some TextHere })
+unfolding by_rows rows
+character-by mode.Text ok p c b h e = rw e refl
+character-by mode.InBody false p c b h e = rw e refl
+character-by mode.InBody true p c b h e = absurd (true≢false (sym h))
+character-by mode.InCell false p c b h e = rw e refl
+character-by mode.InCell true p c b h e = absurd (true≢false (sym h))
+character-by mode.InCaption false p c b h e = rw e refl
+character-by mode.InCaption true p c b h e = absurd (true≢false (sym h))
+character-by m ok p c b h e = absurd (true≢false (sym h))
+
+character-put : (p : Spot) (c : ℕ) → takes_text p.mode p.frameset_ok ≡ true → current_is is_html_element p.path ≡ true
+    → made_of (CharacterTokens (c ∷ [])) p ≡ Some (record (nothing_yet p) { put = Some TextHere })
+unfolding made_of
+character-put p c h k = character-by p.mode p.frameset_ok p c (is_foreign (hollow p) (CharacterTokens (c ∷ []))) h (own-text p c k)
+
+pub character-stays : (p : Spot) (c : ℕ) → takes_any_text p ≡ true → is_character_walked c p p true
+character-stays p c h cs =
+    let k = and_parts (takes_text p.mode p.frameset_ok) (current_is is_html_element p.path) h in
+    rw (character-put p c k.0 k.1) refl
+
+pub text-stays : (p : Spot) (text : List ℕ) → takes_any_text p ≡ true → text_walked text p ≡ Some p
+text-stays p [] h = refl
+text-stays p (c ∷ cs) h = character-stays p c h cs ∙ text-stays p cs h
