@@ -7,6 +7,10 @@
 Each page below has COUNT elements (5,000 by default), then twice, four and eight times as many; and each selector is made longer on a page of
 COUNT elements. A row has milliseconds, the best of ROUNDS (5 by default), and how many times as long the largest takes as the smallest. The
 status is 1 where eight times as much takes more than 24 times as long.
+
+With 0 for ROUNDS a row has millions of instructions instead, which are the same on a busy machine: of a search with an index that is there,
+one with an index that is made, and the listing of what is found, without the page's parsing. It needs valgrind. The status is 1 where eight
+times as much takes more than 12 times as many.
 """
 
 import re
@@ -59,29 +63,46 @@ def seconds(program, page, selectors, rounds):
     return best
 
 
-def show(what, selector, times):
-    """A row of the table; whether it grows too fast."""
+def instructions(program, page, selectors):
+    """The thousands of millions of instructions that each selector takes on a page."""
+    with tempfile.TemporaryDirectory() as folder:
+        path = Path(folder) / "page.html"
+        path.write_text("<!doctype html><title>t</title><body>" + page)
+        counts = []
+        for words in [[], *[[selector] for selector in selectors]]:
+            run = ["valgrind", "--tool=callgrind", "--callgrind-out-file=/dev/null", program, str(path), *words]
+            done = subprocess.run(run, capture_output=True, text=True, check=True)
+            counts.append(int(re.search(r"Collected : (\d+)", done.stderr)[1]))
+        return [(count - counts[0]) / 1e9 for count in counts[1:]]
+
+
+def show(what, selector, times, most):
+    """A row of the table; whether it grows more than so many times."""
     growth = times[-1] / times[0]
     print(f"| {what} | `{selector}` | {', '.join(f'{1000 * t:.2f}' for t in times)} | {growth:.1f} |", flush=True)
-    return growth > 24
+    return growth > most
 
 
 def main():
     program = sys.argv[1]
     count = int(sys.argv[2]) if len(sys.argv) > 2 else 5000
     rounds = int(sys.argv[3]) if len(sys.argv) > 3 else 5
-    sizes = [count, 2 * count, 4 * count, 8 * count]
+    unit, most = ("ms", 24) if rounds else ("millions of instructions", 12)
+
+    def taken(page, selectors):
+        return seconds(program, page, selectors, rounds) if rounds else instructions(program, page, selectors)
+
     too_fast = 0
-    print("| Page | Selector | ms | growth |\n|---|---|---|---|")
+    print(f"| Page | Selector | {unit} | growth |\n|---|---|---|---|")
     for what, page, selectors in PAGES:
-        rows = zip(*[seconds(program, page(size), selectors, rounds) for size in sizes])
+        rows = zip(*[taken(page(size), selectors) for size in (count, 2 * count, 4 * count, 8 * count)])
         for selector, times in zip(selectors, rows):
-            too_fast += show(what, selector, times)
-    print("\n| Page | Selector of 10, 20, 40 and 80 parts | ms | growth |\n|---|---|---|---|")
+            too_fast += show(what, selector, times, most)
+    print(f"\n| Page | Selector of 10, 20, 40 and 80 parts | {unit} | growth |\n|---|---|---|---|")
     for what, element, selectors in LENGTHS:
-        rows = zip(*[seconds(program, element * count, [make(parts) for _, make in selectors], rounds) for parts in (10, 20, 40, 80)])
+        rows = zip(*[taken(element * count, [make(parts) for _, make in selectors]) for parts in (10, 20, 40, 80)])
         for (name, _), times in zip(selectors, rows):
-            too_fast += show(what, name, times)
+            too_fast += show(what, name, times, most)
     return 1 if too_fast else 0
 
 
