@@ -1,10 +1,13 @@
-//! The program `figpliers`: parse errors, trees, links, texts, elements and normal texts of HTML pages.
+//! The program `figpliers`: parse errors, trees, links, texts, Markdown, elements and normal texts of HTML pages.
 //!
 //! What it does is `figpliers_program`; here it gets its words, its files and its streams.
 #![tactic(auto)]
 
+mod output;
+
 use figpliers::{StdSource, StdTarget, Target};
-use figpliers_program::{HostFiles, PageFault, Verdict, obey, report};
+use figpliers_program::{Disk, PageFault, Verdict, obey, report, report_unwritten};
+use output::Output;
 use std::env;
 use std::io::{BufWriter, ErrorKind};
 use std::process::ExitCode;
@@ -23,16 +26,17 @@ fn words(rt: &HostRuntime) -> Result<Vec<String>, PageFault> {
     }
 }
 
-/// Does what the program was started for, and hands on what the writer still holds.
+/// Does what the program was started for, and hands on what the writer still holds. Where what reads standard output has closed it, the
+/// program is done.
 fn serve<Errors: Target>(rt: &HostRuntime, errors: &mut Errors) -> Result<Verdict, PageFault> {
     let words = words(rt)?;
     let Ok(buffer) = BufWriter::new(rt.alloc(), rt.stdout()) else {
         return Err(PageFault::Memory);
     };
-    let mut output = StdTarget::new(buffer);
+    let mut output = Output::new(buffer);
     let mut input = StdSource::new(rt.stdin());
-    let files = HostFiles::new(rt);
-    let verdict = obey(
+    let files = Disk::new(rt);
+    let mut verdict = obey(
         rt.alloc(),
         words.as_slice(),
         &files,
@@ -40,10 +44,16 @@ fn serve<Errors: Target>(rt: &HostRuntime, errors: &mut Errors) -> Result<Verdic
         &mut output,
         errors,
     );
-    match output.flush() {
-        Ok(()) => Ok(verdict),
-        Err(_) => Err(PageFault::Write),
+    if output.flush().is_err() {
+        verdict = Verdict::Unwritten;
     }
+    if verdict == Verdict::Unwritten {
+        if output.is_closed() {
+            return Ok(Verdict::Fine);
+        }
+        report_unwritten(errors);
+    }
+    Ok(verdict)
 }
 
 fn main(rt: HostRuntime) -> ExitCode {

@@ -1,5 +1,6 @@
 //! The words after the program's name.
 
+use crate::linking::Listing;
 use crate::selecting::Show;
 use clap::error::ErrorKind;
 use clap::{Arg, ArgAction, ArgMatches, Command, Error};
@@ -14,7 +15,9 @@ pub enum Job {
     /// Its tree is written line by line; of a fragment, in an element of this name.
     Tree { fragment: Option<String> },
     /// Its links are listed.
-    Links,
+    Links { listing: Listing },
+    /// It is written as Markdown.
+    Markdown,
     /// Its text is written.
     Text,
     /// Its normal text is written.
@@ -135,6 +138,53 @@ fn tree<'a>(alloc: Global) -> Result<Command<'a>, AllocError> {
     over_pages(alloc, "tree", about, ArgAction::Set)?.arg(fragment)
 }
 
+/// The command `links`.
+fn links<'a>(alloc: Global) -> Result<Command<'a>, AllocError> {
+    let base = Arg::new(alloc, "base")
+        .long("base")
+        .value_name("URL")
+        .action(ArgAction::Set)
+        .help("Print absolute links, relative to this URL where the page has no base of its own");
+    let anchors = Arg::new(alloc, "anchors")
+        .long("anchors")
+        .action(ArgAction::SetTrue)
+        .help("Print links to a place in the page itself too");
+    let kinds = Arg::new(alloc, "kind")
+        .long("kind")
+        .action(ArgAction::SetTrue)
+        .conflicts_with("json")?
+        .help("Print the attribute before each link: href, src, srcset, action, data or poster");
+    let json = Arg::new(alloc, "json")
+        .long("json")
+        .action(ArgAction::SetTrue)
+        .help("Print an object of JSON for each link: its file, its kind, its element and its URL");
+    let with_names = Arg::new(alloc, "with-filename")
+        .short('H')
+        .long("with-filename")
+        .action(ArgAction::SetTrue)
+        .conflicts_with("no-filename")?
+        .help("Print the name of the file before each link, as where there are several files");
+    let without_names = Arg::new(alloc, "no-filename")
+        .short('h')
+        .long("no-filename")
+        .action(ArgAction::SetTrue)
+        .help("Print no names of files");
+    let help = Arg::new(alloc, "help")
+        .long("help")
+        .action(ArgAction::Help)
+        .help("Print help");
+    let about = "List where pages lead, in href, src, srcset, action, data and poster";
+    over_pages(alloc, "links", about, ArgAction::Append)?
+        .disable_help_flag(true)
+        .arg(base)?
+        .arg(anchors)?
+        .arg(kinds)?
+        .arg(json)?
+        .arg(with_names)?
+        .arg(without_names)?
+        .arg(help)
+}
+
 /// The command line of the program.
 fn command_line<'a>(alloc: Global) -> Result<Command<'a>, AllocError> {
     let errors = over_pages(
@@ -143,10 +193,10 @@ fn command_line<'a>(alloc: Global) -> Result<Command<'a>, AllocError> {
         "List the parse errors of pages, as FILE:LINE: CODE; status 1 where there is one",
         ArgAction::Append,
     )?;
-    let links = over_pages(
+    let markdown = over_pages(
         alloc,
-        "links",
-        "List where pages lead: each href of a, area and link, and each src",
+        "markdown",
+        "Print pages as Markdown: CommonMark, with tables as GitHub's",
         ArgAction::Append,
     )?;
     let text = over_pages(
@@ -163,24 +213,49 @@ fn command_line<'a>(alloc: Global) -> Result<Command<'a>, AllocError> {
     )?;
     Command::new(alloc, "figpliers")
         .version("0.1.0")
-        .about("Parse errors, trees, links, texts, elements and normal texts of HTML pages")
+        .propagate_version(true)
+        .bin_name("figpliers")?
+        .about(
+            "Parse errors, trees, links, texts, Markdown, elements and normal texts of HTML pages",
+        )
         .after_help(
             "Status: 0 done; 1 a page has parse errors, or no element was selected; 2 a fault",
         )
         .subcommand_required(true)
         .subcommand(errors)?
         .subcommand(tree(alloc)?)?
-        .subcommand(links)?
+        .subcommand(links(alloc)?)?
+        .subcommand(markdown)?
         .subcommand(text)?
         .subcommand(select(alloc)?)?
         .subcommand(normal)
 }
 
-/// The element in which a fragment is read, where one is named.
+/// The element in which a fragment is read, where one is named; the names of HTML elements are in lower case.
 fn fragment_of(alloc: Global, matches: &ArgMatches<'_>) -> Result<Option<String>, AllocError> {
     match matches.get_str("fragment") {
-        Some(name) => Ok(Some(String::from_str(alloc, name)?)),
+        Some(name) => {
+            let mut name = String::from_str(alloc, name)?;
+            name.make_ascii_lowercase();
+            Ok(Some(name))
+        }
         None => Ok(None),
+    }
+}
+
+/// Whether a tag may have that name (HTML Standard, section 13.2.5.8).
+fn is_name(name: &str) -> bool {
+    name.starts_with(|c: char| c.is_ascii_alphabetic())
+        && !name.contains(|c: char| c.is_ascii_whitespace() || matches!(c, '/' | '>' | '\0'))
+}
+
+/// Whether a fragment is to be read in an element of a name that none has.
+fn has_no_name(job: &Job) -> bool {
+    match job {
+        Job::Tree {
+            fragment: Some(name),
+        } => !is_name(name.as_str()),
+        _ => false,
     }
 }
 
@@ -201,6 +276,31 @@ fn show_of(alloc: Global, matches: &ArgMatches<'_>) -> Result<Show, AllocError> 
     }
 }
 
+/// Whether the name of the file is printed, where that is said.
+fn names_of(matches: &ArgMatches<'_>) -> Option<bool> {
+    if matches.get_flag("with-filename") {
+        Some(true)
+    } else if matches.get_flag("no-filename") {
+        Some(false)
+    } else {
+        None
+    }
+}
+
+/// How links are printed.
+fn listing_of(alloc: Global, matches: &ArgMatches<'_>) -> Result<Listing, AllocError> {
+    Ok(Listing {
+        base: match matches.get_str("base") {
+            Some(base) => Some(String::from_str(alloc, base)?),
+            None => None,
+        },
+        anchors: matches.get_flag("anchors"),
+        kinds: matches.get_flag("kind"),
+        json: matches.get_flag("json"),
+        names: names_of(matches),
+    })
+}
+
 /// What a command of that name does.
 fn job_of(alloc: Global, name: &str, matches: &ArgMatches<'_>) -> Result<Option<Job>, AllocError> {
     match name {
@@ -208,7 +308,10 @@ fn job_of(alloc: Global, name: &str, matches: &ArgMatches<'_>) -> Result<Option<
         "tree" => Ok(Some(Job::Tree {
             fragment: fragment_of(alloc, matches)?,
         })),
-        "links" => Ok(Some(Job::Links)),
+        "links" => Ok(Some(Job::Links {
+            listing: listing_of(alloc, matches)?,
+        })),
+        "markdown" => Ok(Some(Job::Markdown)),
         "text" => Ok(Some(Job::Text)),
         "normal" => Ok(Some(Job::Normal)),
         "select" => Ok(Some(Job::Select {
@@ -277,6 +380,12 @@ pub fn read_words(alloc: Global, words: &[String]) -> Result<Asked, Error> {
         return Err(command.error(
             ErrorKind::ValueValidation,
             "no encoding has the label that was given",
+        )?);
+    }
+    if has_no_name(&asked.job) {
+        return Err(command.error(
+            ErrorKind::ValueValidation,
+            "no element has the name that was given for --fragment",
         )?);
     }
     Ok(asked)

@@ -1,9 +1,12 @@
 //! What is said on standard error, and by the status.
+ghost use Rattle.std.specs.Prelude.{◌≡◌, ◌++◌, ◌∷◌, [], Bool, codes, is_err};
+ghost use Rattle.html_normal_program.specs.Streams.{IsPut};
+ghost use Rattle.figpliers_program.specs.Verdicts.{Tells, fault_line, fault_words, graver, open_words, status_of, verdict_of};
+ghost use Rattle.figpliers_program.specs.Faults.{normal_fault_of, serialize_fault_of, text_fault_of};
+ghost use Rattle.figpliers_program.specs.declared.faults.PageFault.TheVariants.{Memory, Write};
 
-use figpliers::{
-    DeviceFault, NormalFault, ParseFault, SerializeFault, Target, TextFault, write_whole,
-};
-use itoa::Buffer;
+use figpliers::{DeviceFault, NormalFault, ParseFault, SerializeFault, Target, TextFault};
+use html_normal_program::{put, put_numbered};
 use std::alloc::AllocError;
 
 /// How a page went, or all pages.
@@ -15,23 +18,30 @@ pub enum Verdict {
     Fine,
     /// A page has parse errors, which were asked for.
     Errors,
-    /// A page was not read, or not all was written.
+    /// A page was not read.
     Fault,
+    /// Not all was written to standard output. Nothing more was read then, and nothing was said of it.
+    Unwritten,
 }
 
 impl Verdict {
     /// The status with which the program ends.
-    pub fn status(self) -> u8 {
+    pub fn status(self) -> u8
+        ensures { result ≡ status_of self }
+    {
         match self {
             Verdict::Fine => 0,
             Verdict::Nothing | Verdict::Errors => 1,
-            Verdict::Fault => 2,
+            Verdict::Fault | Verdict::Unwritten => 2,
         }
     }
 
-    /// Of two the one that matters more: a fault, errors, or that something was done.
-    pub fn and(self, other: Verdict) -> Verdict {
+    /// Of two the one that matters more: that not all was written, a fault, errors, or that something was done.
+    pub fn and(self, other: Verdict) -> Verdict
+        ensures { result ≡ graver self other }
+    {
         match (self, other) {
+            (Verdict::Unwritten, _) | (_, Verdict::Unwritten) => Verdict::Unwritten,
             (Verdict::Fault, _) | (_, Verdict::Fault) => Verdict::Fault,
             (Verdict::Errors, _) | (_, Verdict::Errors) => Verdict::Errors,
             (Verdict::Fine, _) | (_, Verdict::Fine) => Verdict::Fine,
@@ -40,13 +50,24 @@ impl Verdict {
     }
 }
 
+/// Why a file can't be opened.
+#[derive(Clone, Copy, Debug, PartialEq, Eq)]
+pub enum Why {
+    /// There is none of that name.
+    Missing,
+    /// It may not be read.
+    Forbidden,
+    /// For another reason.
+    Other,
+}
+
 /// Why nothing, or not all, was made of a page, or of all.
 #[derive(Clone, Copy, Debug, PartialEq, Eq)]
 pub enum PageFault {
     /// Its longest front that is UTF-8 has `at` bytes.
     NotUtf8 { at: u64 },
-    /// There is no such file, or it is not to be read.
-    Open,
+    /// It can't be opened.
+    Open { why: Why },
     /// A read failed.
     Read,
     /// A write to standard output failed.
@@ -58,12 +79,16 @@ pub enum PageFault {
 }
 
 impl From<AllocError> for PageFault {
+    ghost from_gives = { λ _ made. made ≡ Memory };
+
     fn from(_fault: AllocError) -> PageFault {
         PageFault::Memory
     }
 }
 
 impl From<TextFault> for PageFault {
+    ghost from_gives = { λ fault made. made ≡ text_fault_of fault };
+
     fn from(fault: TextFault) -> PageFault {
         match fault {
             TextFault::NotUtf8 { at } => PageFault::NotUtf8 { at },
@@ -75,6 +100,8 @@ impl From<TextFault> for PageFault {
 
 /// No text is refused, so what is no other fault is out of memory.
 impl From<NormalFault> for PageFault {
+    ghost from_gives = { λ fault made. made ≡ normal_fault_of fault };
+
     fn from(fault: NormalFault) -> PageFault {
         match fault {
             NormalFault::NotUtf8 { at } => PageFault::NotUtf8 { at },
@@ -86,12 +113,16 @@ impl From<NormalFault> for PageFault {
 }
 
 impl From<ParseFault> for PageFault {
+    ghost from_gives = { λ _ made. made ≡ Memory };
+
     fn from(_fault: ParseFault) -> PageFault {
         PageFault::Memory
     }
 }
 
 impl From<SerializeFault> for PageFault {
+    ghost from_gives = { λ fault made. made ≡ serialize_fault_of fault };
+
     fn from(fault: SerializeFault) -> PageFault {
         match fault {
             SerializeFault::Memory => PageFault::Memory,
@@ -100,19 +131,24 @@ impl From<SerializeFault> for PageFault {
     }
 }
 
-/// Writes words.
-fn put<Errors: Target>(errors: &mut Errors, words: &str) -> Result<(), DeviceFault> {
-    write_whole(errors, words.as_bytes())
+/// Why a file can't be opened, in words.
+fn open_words(why: Why) -> &'static str
+    ensures { result.now ≡ open_words why }
+{
+    match why {
+        Why::Missing => "cannot be opened: no such file",
+        Why::Forbidden => "cannot be opened: permission denied",
+        Why::Other => "cannot be opened",
+    }
 }
 
 /// Writes what a fault is.
-fn put_fault<Errors: Target>(errors: &mut Errors, fault: PageFault) -> Result<(), DeviceFault> {
+fn put_fault<Errors: Target>(errors: &mut Errors, fault: PageFault) -> Result<(), DeviceFault>
+    ensures { IsPut (fault_words fault) (Errors.written errors.old) (Errors.written errors.new) (is_err result) }
+{
     match fault {
-        PageFault::NotUtf8 { at } => {
-            put(errors, "not UTF-8 at byte ")?;
-            put(errors, Buffer::new().format(at))
-        }
-        PageFault::Open => put(errors, "cannot be opened"),
+        PageFault::NotUtf8 { at } => put_numbered(errors, "not UTF-8 at byte ", at),
+        PageFault::Open { why } => put(errors, open_words(why)),
         PageFault::Read => put(errors, "cannot be read"),
         PageFault::Write => put(errors, "standard output cannot be written"),
         PageFault::Words => put(errors, "an argument is not UTF-8"),
@@ -120,20 +156,54 @@ fn put_fault<Errors: Target>(errors: &mut Errors, fault: PageFault) -> Result<()
     }
 }
 
+/// Writes what a fault is, and the end of the line.
+fn put_end<Errors: Target>(errors: &mut Errors, fault: PageFault) -> Result<(), DeviceFault>
+    ensures { IsPut (fault_words fault ++ 10 ∷ []) (Errors.written errors.old) (Errors.written errors.new) (is_err result) }
+{
+    put_fault(errors, fault)?;
+    put(errors, "\n")
+}
+
+/// Writes what stands after a name.
+fn put_rest<Errors: Target>(errors: &mut Errors, fault: PageFault) -> Result<(), DeviceFault>
+    ensures { IsPut (codes ": " ++ (fault_words fault ++ 10 ∷ [])) (Errors.written errors.old) (Errors.written errors.new)
+        (is_err result) }
+{
+    put(errors, ": ")?;
+    put_end(errors, fault)
+}
+
 /// Writes a line: a name, and what went wrong with it.
 fn put_line<Errors: Target>(
     errors: &mut Errors,
     name: &str,
     fault: PageFault,
-) -> Result<(), DeviceFault> {
+) -> Result<(), DeviceFault>
+    ensures { IsPut (fault_line name.now fault) (Errors.written errors.old) (Errors.written errors.new) (is_err result) }
+{
     put(errors, name)?;
-    put(errors, ": ")?;
-    put_fault(errors, fault)?;
-    put(errors, "\n")
+    put_rest(errors, fault)
 }
 
-/// Writes to standard error what went wrong with a page, or with the program itself.
-pub fn report<Errors: Target>(errors: &mut Errors, name: &str, fault: PageFault) -> Verdict {
-    let _ = put_line(errors, name, fault);
-    Verdict::Fault
+/// Writes to standard error what went wrong with a page, or with the program itself. Of a failed write to standard output nothing is said,
+/// since what reads it may have had enough: who called the program tells that by its verdict.
+pub fn report<Errors: Target>(errors: &mut Errors, name: &str, fault: PageFault) -> Verdict
+    ensures verdict { result ≡ verdict_of fault }
+    ensures line { Tells name.now fault (Errors.written errors.old) (Errors.written errors.new) }
+{
+    match fault {
+        PageFault::Write => Verdict::Unwritten,
+        _ => {
+            let _ = put_line(errors, name, fault);
+            Verdict::Fault
+        }
+    }
+}
+
+/// Writes to standard error that not all was written to standard output.
+pub fn report_unwritten<Errors: Target>(errors: &mut Errors)
+    ensures { (failed : Bool) × IsPut (fault_line (codes "figpliers") Write)
+        (Errors.written errors.old) (Errors.written errors.new) failed }
+{
+    let _ = put_line(errors, "figpliers", PageFault::Write);
 }

@@ -1,108 +1,23 @@
 //! What is made of pages.
+ghost use Rattle.std.specs.Prelude.{◌≡◌, map};
+ghost use Rattle.std.specs.String.{string_bytes};
+ghost use Rattle.figpliers.specs.Puts.{told_by};
+ghost use Rattle.figpliers_program.specs.Jobs.{ArePagesDone, IsRefused, IsRun, IsWritten};
+ghost use Rattle.figpliers_program.specs.Outcome.{AreDone, IsPageDone};
+ghost use Rattle.figpliers_program.specs.declared.faults.Verdict.TheVariants.{Fault, Nothing};
 
 use crate::command::{Asked, Job};
+use crate::commands::{errors, fragment_tree, normal, text, tree, write_markdown};
 use crate::faults::{PageFault, Verdict, report};
+use crate::files::Files;
+use crate::linking::list_links;
 use crate::pages::read_page;
 use crate::selecting::select_in;
-use crate::writing::put;
 use figpliers::{
-    DeviceFault, Exact, Forest, MemReader, NodeId, References, SelectorError, Selectors, Source,
-    SyntaxFault, Target, document, fragment, inner_text, links_below, normalise, noted_document,
-    parse_selectors, standard, write_tree, write_whole,
+    DeviceFault, References, SelectorError, Selectors, Source, SyntaxFault, Target,
+    parse_selectors, standard, write_whole,
 };
-use html_normal_program::Opener;
 use std::alloc::Global;
-
-/// Lists the parse errors of a page.
-fn errors<W: Target>(
-    alloc: Global,
-    table: References,
-    name: &str,
-    page: String,
-    writer: &mut W,
-) -> Result<Verdict, PageFault> {
-    let noted = noted_document(alloc, table, page)?;
-    for error in &noted.errors {
-        let line = error.line;
-        let message = error.message.as_str();
-        let words = format!(in alloc; "{name}:{line}: {message}\n")?;
-        put(writer, words.as_str())?;
-    }
-    if noted.errors.is_empty() {
-        Ok(Verdict::Fine)
-    } else {
-        Ok(Verdict::Errors)
-    }
-}
-
-/// The node in which what a fragment has stands, or else the document.
-fn top(forest: &Forest, is_fragment: bool) -> NodeId {
-    match forest.first_child(forest.document()) {
-        Some(root) if is_fragment => root,
-        _ => forest.document(),
-    }
-}
-
-/// Writes the tree of a page.
-fn tree<W: Target>(
-    alloc: Global,
-    table: References,
-    around: Option<&str>,
-    page: String,
-    writer: &mut W,
-) -> Result<Verdict, PageFault> {
-    let forest = match around {
-        Some(name) => fragment(alloc, table, name, page)?,
-        None => document(alloc, table, page)?,
-    };
-    let top = top(&forest, around.is_some());
-    write_tree(alloc, &forest, top, writer)?;
-    Ok(Verdict::Fine)
-}
-
-/// Lists the links of a page.
-fn links<W: Target>(
-    alloc: Global,
-    table: References,
-    page: String,
-    writer: &mut W,
-) -> Result<Verdict, PageFault> {
-    let forest = document(alloc, table, page)?;
-    let found = links_below(alloc, &forest, forest.document())?;
-    for link in &found {
-        put(writer, link.as_str())?;
-        put(writer, "\n")?;
-    }
-    Ok(Verdict::Fine)
-}
-
-/// Writes the text of a page as it is rendered, with a line feed at its end.
-fn text<W: Target>(
-    alloc: Global,
-    table: References,
-    page: String,
-    writer: &mut W,
-) -> Result<Verdict, PageFault> {
-    let forest = document(alloc, table, page)?;
-    let text = inner_text(alloc, &forest, forest.document())?;
-    put(writer, text.as_str())?;
-    if !text.as_str().ends_with('\n') {
-        put(writer, "\n")?;
-    }
-    Ok(Verdict::Fine)
-}
-
-/// Writes the normal text of a page.
-fn normal<W: Target>(
-    alloc: Global,
-    table: References,
-    page: String,
-    writer: &mut W,
-) -> Result<Verdict, PageFault> {
-    let mut reader = MemReader::new(page.into_bytes(), 4096, None);
-    normalise(alloc, &mut reader, writer, table, Exact::default())?;
-    Ok(Verdict::Fine)
-}
 
 /// What is asked for, with what it takes for all pages.
 #[derive(Drop)]
@@ -120,43 +35,47 @@ fn run_job<W: Target>(
     name: &str,
     page: String,
     writer: &mut W,
-) -> Result<Verdict, PageFault> {
+) -> Result<Verdict, PageFault>
+    ensures { IsWritten work.now.table.now work.now.asked.now.job name.now (string_bytes page)
+        (told_by W.written W.failures writer.old) result (told_by W.written W.failures writer.new) }
+{
     let Ok(table) = work.table.copy(alloc) else {
         return Err(PageFault::Memory);
     };
+    let has_several = work.asked.files.len() > 1;
     match &work.asked.job {
         Job::Errors => errors(alloc, table, name, page, writer),
-        Job::Tree { fragment: None } => tree(alloc, table, None, page, writer),
+        Job::Tree { fragment: None } => tree(alloc, table, page, writer),
         Job::Tree {
-            fragment: Some(name),
-        } => tree(alloc, table, Some(name.as_str()), page, writer),
-        Job::Links => links(alloc, table, page, writer),
+            fragment: Some(element),
+        } => fragment_tree(alloc, table, element.as_str(), page, writer),
+        Job::Links { listing } => list_links(
+            alloc,
+            table,
+            listing,
+            name,
+            has_several,
+            page,
+            writer,
+        ),
+        Job::Markdown => write_markdown(alloc, table, page, writer),
         Job::Text => text(alloc, table, page, writer),
         Job::Normal => normal(alloc, table, page, writer),
-        Job::Select { show, .. } => {
-            let has_several = work.asked.files.len() > 1;
-            select_in(
-                alloc,
-                table,
-                work.selectors,
-                show,
-                name,
-                has_several,
-                page,
-                writer,
-            )
-        }
+        Job::Select { show, .. } => select_in(
+            alloc,
+            table,
+            work.selectors,
+            show,
+            name,
+            has_several,
+            page,
+            writer,
+        ),
     }
 }
 
 /// Does with the page of that name what is asked for.
-fn run_page<
-    File: Source + Drop,
-    Opens: Opener<File>,
-    Input: Source,
-    Output: Target,
-    Errors: Target,
->(
+fn run_page<File: Source + Drop, Opens: Files<File>, Input: Source, Output: Target, Errors: Target>(
     alloc: Global,
     work: &Work<'_>,
     name: &str,
@@ -164,7 +83,11 @@ fn run_page<
     input: &mut Input,
     output: &mut Output,
     errors: &mut Errors,
-) -> Verdict {
+) -> Verdict
+    ensures { IsPageDone (Opens.files opener.now) work.now.asked.now.reading (IsWritten work.now.table.now work.now.asked.now.job) name.now
+        (Input.left input.old) (Input.left input.new) (told_by Output.written Output.failures output.old)
+        (told_by Output.written Output.failures output.new) (Errors.written errors.old) (Errors.written errors.new) result }
+{
     let page = match read_page(alloc, opener, input, name, &work.asked.reading) {
         Ok(page) => page,
         Err(fault) => return report(errors, name, fault),
@@ -175,23 +98,56 @@ fn run_page<
     }
 }
 
-/// Does with each page what is asked for; a page that is not read does not keep the others from it.
-fn run_all<File: Source + Drop, Opens: Opener<File>, Input: Source, Output: Target, Errors: Target>(
+/// Does with the page of each file what is asked for; a page that is not read does not keep the others from it, and a failed
+/// write does.
+fn run_files<
+    File: Source + Drop,
+    Opens: Files<File>,
+    Input: Source,
+    Output: Target,
+    Errors: Target,
+>(
     alloc: Global,
     work: &Work<'_>,
     opener: &Opens,
     input: &mut Input,
     output: &mut Output,
     errors: &mut Errors,
-) -> Verdict {
+) -> Verdict
+    ensures { AreDone (Opens.files opener.now) work.now.asked.now.reading (IsWritten work.now.table.now work.now.asked.now.job)
+        (map string_bytes work.now.asked.now.files.items) Nothing
+        (Input.left input.old) (Input.left input.new) (told_by Output.written Output.failures output.old)
+        (told_by Output.written Output.failures output.new) (Errors.written errors.old) (Errors.written errors.new) result }
+{
+    let mut verdict = Verdict::Nothing;
+    for name in &work.asked.files {
+        let page = run_page(alloc, work, name.as_str(), opener, input, output, errors);
+        verdict = verdict.and(page);
+        if let Verdict::Unwritten = verdict {
+            return Verdict::Unwritten;
+        }
+    }
+    verdict
+}
+
+/// Does with each page what is asked for.
+fn run_all<File: Source + Drop, Opens: Files<File>, Input: Source, Output: Target, Errors: Target>(
+    alloc: Global,
+    work: &Work<'_>,
+    opener: &Opens,
+    input: &mut Input,
+    output: &mut Output,
+    errors: &mut Errors,
+) -> Verdict
+    ensures { ArePagesDone (Opens.files opener.now) work.now.asked.now.reading (IsWritten work.now.table.now work.now.asked.now.job)
+        (map string_bytes work.now.asked.now.files.items)
+        (Input.left input.old) (Input.left input.new) (told_by Output.written Output.failures output.old)
+        (told_by Output.written Output.failures output.new) (Errors.written errors.old) (Errors.written errors.new) result }
+{
     if work.asked.files.is_empty() {
         return run_page(alloc, work, "-", opener, input, output, errors);
     }
-    let mut verdict = Verdict::Nothing;
-    for name in &work.asked.files {
-        verdict = verdict.and(run_page(alloc, work, name, opener, input, output, errors));
-    }
-    verdict
+    run_files(alloc, work, opener, input, output, errors)
 }
 
 /// Writes what is wrong with a selector, with a mark under the place.
@@ -212,18 +168,38 @@ fn put_syntax_fault<Errors: Target>(
     write_whole(errors, b"^\n")
 }
 
+/// Writes why a text is no selectors.
+fn report_text<Errors: Target>(
+    alloc: Global,
+    errors: &mut Errors,
+    selector: &str,
+    error: SelectorError,
+) -> Verdict
+    ensures { result ≡ Fault }
+{
+    match error {
+        SelectorError::Syntax { fault, at } => {
+            let _ = put_syntax_fault(alloc, errors, selector, fault, at);
+            Verdict::Fault
+        }
+        SelectorError::Memory => report(errors, "figpliers", PageFault::Memory),
+    }
+}
+
 /// Writes why there are no selectors.
 fn report_selector<Errors: Target>(
     alloc: Global,
     errors: &mut Errors,
     job: &Job,
     error: SelectorError,
-) -> Verdict {
-    if let (Job::Select { selector, .. }, SelectorError::Syntax { fault, at }) = (job, error) {
-        let _ = put_syntax_fault(alloc, errors, selector.as_str(), fault, at);
-        return Verdict::Fault;
+) -> Verdict
+    ensures verdict { result ≡ Fault }
+    ensures told { IsRefused job.now (Errors.written errors.old) (Errors.written errors.new) }
+{
+    match job {
+        Job::Select { selector, .. } => report_text(alloc, errors, selector.as_str(), error),
+        _ => report(errors, "figpliers", PageFault::Memory),
     }
-    report(errors, "figpliers", PageFault::Memory)
 }
 
 /// The selectors that are asked for; none, where another command was named.
@@ -235,14 +211,18 @@ fn selectors_of(alloc: Global, job: &Job) -> Result<Selectors, SelectorError> {
 }
 
 /// Does what is asked for.
-pub fn run<File: Source + Drop, Opens: Opener<File>, Input: Source, Output: Target, Errors: Target>(
+pub fn run<File: Source + Drop, Opens: Files<File>, Input: Source, Output: Target, Errors: Target>(
     alloc: Global,
     asked: &Asked,
     opener: &Opens,
     input: &mut Input,
     output: &mut Output,
     errors: &mut Errors,
-) -> Verdict {
+) -> Verdict
+    ensures { IsRun (Opens.files opener.now) asked.now (Input.left input.old) (Input.left input.new)
+        (told_by Output.written Output.failures output.old) (told_by Output.written Output.failures output.new)
+        (Errors.written errors.old) (Errors.written errors.new) result }
+{
     let selectors = match selectors_of(alloc, &asked.job) {
         Ok(selectors) => selectors,
         Err(error) => return report_selector(alloc, errors, &asked.job, error),

@@ -4,13 +4,17 @@
 #![tactic(auto)]
 
 mod command;
+mod commands;
 mod faults;
+mod files;
 mod jobs;
+mod linking;
 mod pages;
 mod program;
 mod selecting;
 mod writing;
 
-pub use faults::{PageFault, Verdict, report};
-pub use html_normal_program::{HostFiles, Opener};
+pub use faults::{PageFault, Verdict, Why, report, report_unwritten};
+pub use files::{Disk, Files};
+pub use html_normal_program::Opener;
 pub use program::obey;

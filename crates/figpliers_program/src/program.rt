@@ -1,52 +1,58 @@
 //! From words to what is written and the status.
+ghost use Rattle.std.specs.Prelude.{◌≡◌};
+ghost use Rattle.figpliers.specs.Puts.{told_by};
+ghost use Rattle.figpliers_program.specs.Jobs.{IsAnswered, IsOutcome};
 
 use crate::command::read_words;
 use crate::faults::{PageFault, Verdict, report};
+use crate::files::Files;
 use crate::jobs::run;
+use crate::writing::put;
 use clap::Error;
 use figpliers::{Source, Target, write_whole};
-use html_normal_program::Opener;
 use std::alloc::Global;
 
 /// Writes what is wrong with the words to standard error, or the help that was asked for to standard output.
-fn put_words<Output: Target, Errors: Target>(
+fn answer<Output: Target, Errors: Target>(
     alloc: Global,
     error: &Error,
     output: &mut Output,
     errors: &mut Errors,
-) -> Result<Verdict, PageFault> {
-    let text = format!(in alloc; "{error}")?;
+) -> Verdict
+    ensures { IsAnswered (told_by Output.written Output.failures output.old) (told_by Output.written Output.failures output.new)
+        (Errors.written errors.old) (Errors.written errors.new) result }
+{
+    let Ok(text) = format!(in alloc; "{error}") else {
+        return report(errors, "figpliers", PageFault::Memory);
+    };
     if error.use_stderr() {
         let _ = write_whole(errors, text.as_bytes());
-        return Ok(Verdict::Fault);
+        return Verdict::Fault;
     }
-    match write_whole(output, text.as_bytes()) {
-        Ok(()) => Ok(Verdict::Fine),
-        Err(_) => Err(PageFault::Write),
+    match put(output, text.as_str()) {
+        Ok(()) => Verdict::Fine,
+        Err(_) => Verdict::Unwritten,
     }
 }
 
 /// Does what the words ask for with which the program was started, the first of which is its name. Files are those that `opener` opens.
-pub fn obey<
-    File: Source + Drop,
-    Opens: Opener<File>,
-    Input: Source,
-    Output: Target,
-    Errors: Target,
->(
+///
+/// Of a failed write to standard output nothing is said on standard error: the verdict is [`Verdict::Unwritten`], and nothing more is
+/// read.
+pub fn obey<File: Source + Drop, Opens: Files<File>, Input: Source, Output: Target, Errors: Target>(
     alloc: Global,
     words: &[String],
     opener: &Opens,
     input: &mut Input,
     output: &mut Output,
     errors: &mut Errors,
-) -> Verdict {
-    let error = match read_words(alloc, words) {
-        Ok(asked) => return run(alloc, &asked, opener, input, output, errors),
-        Err(error) => error,
-    };
-    match put_words(alloc, &error, output, errors) {
-        Ok(verdict) => verdict,
-        Err(fault) => report(errors, "figpliers", fault),
+) -> Verdict
+    ensures { IsOutcome (Opens.files opener.now) (Input.left input.old) (Input.left input.new)
+        (told_by Output.written Output.failures output.old) (told_by Output.written Output.failures output.new)
+        (Errors.written errors.old) (Errors.written errors.new) result }
+{
+    match read_words(alloc, words) {
+        Ok(asked) => run(alloc, &asked, opener, input, output, errors),
+        Err(error) => answer(alloc, &error, output, errors),
     }
 }

@@ -1,7 +1,7 @@
 //! What is printed of the elements that selectors select.
 
 use crate::faults::{PageFault, Verdict};
-use crate::writing::put;
+use crate::writing::{put, put_file, put_string};
 use figpliers::{
     Forest, ForestNode, NodeId, References, Selectors, SerializeOpts, Target, TraversalScope,
     VecWriter, attribute_of, document, element_name, select_all, serialize, text_content,
@@ -38,33 +38,6 @@ fn put_html<W: Target>(
     Ok(())
 }
 
-/// Writes a character as it stands in a string of JSON (RFC 8259, section 7).
-fn put_escaped<W: Target>(alloc: Global, c: char, writer: &mut W) -> Result<(), PageFault> {
-    match c {
-        '"' => put(writer, "\\\""),
-        '\\' => put(writer, "\\\\"),
-        '\n' => put(writer, "\\n"),
-        _ if c < ' ' => {
-            let code = c as u32;
-            let escape = format!(in alloc; "\\u{code:04x}")?;
-            put(writer, escape.as_str())
-        }
-        _ => {
-            let mut bytes = [0u8; 4];
-            put(writer, c.encode_utf8(&mut bytes))
-        }
-    }
-}
-
-/// Writes a text as a string of JSON.
-fn put_string<W: Target>(alloc: Global, text: &str, writer: &mut W) -> Result<(), PageFault> {
-    put(writer, "\"")?;
-    for c in text.chars() {
-        put_escaped(alloc, c, writer)?;
-    }
-    put(writer, "\"")
-}
-
 /// The HTML of a node, in memory.
 fn html_of(alloc: Global, forest: &Forest, id: NodeId) -> Result<String, PageFault> {
     let mut written = VecWriter::new(alloc);
@@ -94,17 +67,6 @@ fn put_json<W: Target>(
     let html = html_of(alloc, forest, id)?;
     put_string(alloc, html.as_str(), writer)?;
     put(writer, "}")
-}
-
-/// Writes the name of the file, where there are several.
-fn put_file<W: Target>(file: Option<&str>, writer: &mut W) -> Result<(), PageFault> {
-    match file {
-        Some(file) => {
-            put(writer, file)?;
-            put(writer, ":")
-        }
-        None => Ok(()),
-    }
 }
 
 /// Writes what is printed of one element; of an attribute that it lacks nothing.

@@ -3,7 +3,7 @@
 ghost use Rattle.std.specs.Prelude.{None};
 
 use devices::{MemReader, MemWriter};
-use figpliers_program::{Opener, obey};
+use figpliers_program::{Files, Opener, Why, obey};
 use std::alloc::{AllocError, Global};
 use std::process::Abort;
 
@@ -14,6 +14,10 @@ const FILES: &[(&str, &[u8])] = &[
         b"<!DOCTYPE html><title>A</title><p>one <a href=x>two</a>",
     ),
     ("b.html", b"<p id=b>three</i>"),
+    (
+        "links.html",
+        b"<!DOCTYPE html><a href='a?b'></a><a href=#f></a><img src=i.png srcset='j.png 2x, k,l.png'><form action=/s></form><object data=d></object><video src=v poster=p></video><a href='../c'></a>",
+    ),
     ("latin.html", b"<!DOCTYPE html><p>caf\xE9"),
     ("korean.html", b"<!DOCTYPE html><p>\xC7\xD1\xB1\xB9"),
     (
@@ -41,6 +45,12 @@ impl Opener<MemReader> for Disk {
             }
         }
         None
+    }
+}
+
+impl Files<MemReader> for Disk {
+    fn why(&self, _name: &str) -> Why {
+        Why::Missing
     }
 }
 
@@ -147,6 +157,87 @@ const READING: &[(Run, Seen)] = &[
     ),
 ];
 
+/// The commands `markdown` and `links`.
+const LINKS: &[(Run, Seen)] = &[
+    (
+        Run {
+            words: &["markdown", "a.html", "-"],
+            input: b"<ul><li>*<b>a</b></ul>",
+            ..PLAIN
+        },
+        ("one [two](x)\n- \\*__a__\n", "", 0),
+    ),
+    (
+        Run {
+            words: &["links", "--kind", "links.html"],
+            ..PLAIN
+        },
+        (
+            "href a?b\nsrc i.png\nsrcset j.png\nsrcset k,l.png\naction /s\ndata d\nsrc v\nposter p\nhref ../c\n",
+            "",
+            0,
+        ),
+    ),
+    (
+        Run {
+            words: &[
+                "links",
+                "--base",
+                "http://x.org/d/e",
+                "--anchors",
+                "links.html",
+            ],
+            ..PLAIN
+        },
+        (
+            "http://x.org/d/a?b\nhttp://x.org/d/e#f\nhttp://x.org/d/i.png\nhttp://x.org/d/j.png\nhttp://x.org/d/k,l.png\nhttp://x.org/s\nhttp://x.org/d/d\nhttp://x.org/d/v\nhttp://x.org/d/p\nhttp://x.org/c\n",
+            "",
+            0,
+        ),
+    ),
+    (
+        Run {
+            words: &["links", "--base", "http://x.org/d/e"],
+            input: b"<base href='//y.org/'><base href=z><a href='a\n b'>c</a><a href='http://[/'>d</a>",
+            ..PLAIN
+        },
+        ("http://y.org/a%20b\nhttp://[/\n", "", 0),
+    ),
+    (
+        Run {
+            words: &["links", "-H", "a.html"],
+            ..PLAIN
+        },
+        ("a.html:x\n", "", 0),
+    ),
+    (
+        Run {
+            words: &["links", "-h", "a.html", "a.html"],
+            ..PLAIN
+        },
+        ("x\nx\n", "", 0),
+    ),
+    (
+        Run {
+            words: &["links", "--json", "--", "a.html"],
+            ..PLAIN
+        },
+        (
+            "{\"file\":\"a.html\",\"kind\":\"href\",\"element\":\"a\",\"url\":\"x\"}\n",
+            "",
+            0,
+        ),
+    ),
+    (
+        Run {
+            words: &["tree", "--fragment", "TR"],
+            input: b"<td>x",
+            ..PLAIN
+        },
+        ("| <td>\n|   \"x\"\n", "", 0),
+    ),
+];
+
 /// The command `select`.
 const SELECTING: &[(Run, Seen)] = &[
     (
@@ -211,7 +302,7 @@ const SELECTING: &[(Run, Seen)] = &[
             words: &["select", "em", "none.html"],
             ..PLAIN
         },
-        ("", "none.html: cannot be opened\n", 2),
+        ("", "none.html: cannot be opened: no such file\n", 2),
     ),
 ];
 
@@ -262,7 +353,11 @@ const FAULTS: &[(Run, Seen)] = &[
             words: &["links", "none.html", "a.html"],
             ..PLAIN
         },
-        ("x\n", "none.html: cannot be opened\n", 2),
+        (
+            "a.html:x\n",
+            "none.html: cannot be opened: no such file\n",
+            2,
+        ),
     ),
     (
         Run {
@@ -279,7 +374,15 @@ const FAULTS: &[(Run, Seen)] = &[
             output_fails: Some(1),
             ..PLAIN
         },
-        ("", "a.html: standard output cannot be written\n", 2),
+        ("", "", 2),
+    ),
+    (
+        Run {
+            words: &["links", "a.html", "none.html"],
+            output_fails: Some(1),
+            ..PLAIN
+        },
+        ("", "", 2),
     ),
     (
         Run {
@@ -296,6 +399,13 @@ const FAULTS: &[(Run, Seen)] = &[
         },
         ("figpliers 0.1.0\n", "", 0),
     ),
+    (
+        Run {
+            words: &["tree", "--version"],
+            ..PLAIN
+        },
+        ("figpliers-tree 0.1.0\n", "", 0),
+    ),
 ];
 
 /// What a run begins to write to standard error, and its status.
@@ -308,6 +418,11 @@ const REFUSALS: &[(&[&str], &str)] = &[
     (&["text", "--utf-8", "--lossy", "a.html"], "error: "),
     (&["select", "--text", "--count", "p", "a.html"], "error: "),
     (&["select"], "error: "),
+    (&["links", "-H", "-h", "a.html"], "error: "),
+    (
+        &["tree", "--fragment", "a b", "a.html"],
+        "error: no element has the name",
+    ),
     (&["neither"], "error: "),
     (&[], ""),
 ];
@@ -385,6 +500,11 @@ fn assert_seen(rt: &impl Abort, alloc: Global, rows: &[(Run, Seen)]) {
 #[test]
 fn pages_are_read(rt: HostRuntime) {
     assert_seen(&rt, rt.alloc(), READING);
+}
+
+#[test]
+fn links_and_markdown_are_written(rt: HostRuntime) {
+    assert_seen(&rt, rt.alloc(), LINKS);
 }
 
 #[test]

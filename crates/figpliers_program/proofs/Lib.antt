@@ -1,0 +1,6 @@
+mod Texts
+mod Notes
+mod Outcomes
+mod Printing
+mod Sources
+mod Told

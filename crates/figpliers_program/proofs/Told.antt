@@ -1,0 +1,25 @@
+-- What is told of faults, and how verdicts go together.
+use Rattle.std.proofs.Common.{◌≡◌, ℕ, Bool, List, Option, refl}
+use Rattle.html_normal_program.specs.Streams.{IsPut}
+use Rattle.figpliers_program.specs.Verdicts.{Tells, fault_line, verdict_of}
+use Rattle.figpliers_program.specs.declared.faults.PageFault.{PageFault}
+use Rattle.figpliers_program.specs.declared.faults.PageFault.TheVariants.{Memory, NotUtf8, Open, Read, Words, Write}
+use Rattle.figpliers_program.specs.declared.faults.Verdict.TheVariants.{Fault}
+
+-- what is told of a fault that is none of writing to standard output
+pub tells-other : (name : List ℕ) (fault : PageFault) (errors errors' : Option (List ℕ)) (failed : Bool) → (fault ≡ Write → ⊥)
+    → IsPut (fault_line name fault) errors errors' failed → Tells name fault errors errors'
+tells-other name Write errors errors' failed other put = absurd (other refl)
+tells-other name (NotUtf8 at) errors errors' failed other put = (failed, put)
+tells-other name (Open why) errors errors' failed other put = (failed, put)
+tells-other name Read errors errors' failed other put = (failed, put)
+tells-other name Words errors errors' failed other put = (failed, put)
+tells-other name Memory errors errors' failed other put = (failed, put)
+
+pub verdict-other : (fault : PageFault) → (fault ≡ Write → ⊥) → Fault ≡ verdict_of fault
+verdict-other Write other = absurd (other refl)
+verdict-other (NotUtf8 at) other = refl
+verdict-other (Open why) other = refl
+verdict-other Read other = refl
+verdict-other Words other = refl
+verdict-other Memory other = refl

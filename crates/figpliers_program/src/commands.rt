@@ -1,0 +1,161 @@
+//! What each command writes of a page.
+ghost use Rattle.std.specs.Prelude.{◌≡◌, ◌==◌, if◌then◌else◌};
+ghost use Rattle.std.specs.String.{string_bytes};
+ghost use Rattle.figpliers.specs.Forest.{children_of};
+ghost use Rattle.figpliers.specs.Puts.{told_by};
+ghost use Rattle.figpliers_program.specs.Faults.{memory_fault_of};
+ghost use Rattle.figpliers_program.specs.Pages.{ErrorsText, FragmentText, NormalText, RenderedText, TreeText, error_line, top_of};
+ghost use Rattle.figpliers_program.specs.Printing.{Prints, PrintsSome};
+ghost use Rattle.figpliers_program.specs.declared.faults.Verdict.TheVariants.{Errors, Fine};
+
+use crate::faults::{PageFault, Verdict};
+use crate::writing::{put, put_ended};
+use figpliers::{
+    Exact, Forest, MemReader, NodeId, NormalFault, References, Target, document, fragment,
+    inner_text, markdown, normalise, noted_document, write_tree,
+};
+use std::alloc::Global;
+
+/// Writes the text of a page as it is rendered, with a line feed at its end.
+pub fn text<W: Target>(
+    alloc: Global,
+    table: References,
+    page: String,
+    writer: &mut W,
+) -> Result<Verdict, PageFault>
+    ensures { PrintsSome (RenderedText table (string_bytes page)) (told_by W.written W.failures writer.old) result
+        (told_by W.written W.failures writer.new) }
+{
+    let forest = document(alloc, table, page)?;
+    let text = inner_text(alloc, &forest, forest.document())?;
+    put_ended(writer, text.as_str())?;
+    Ok(Verdict::Fine)
+}
+
+/// Writes a page as Markdown.
+pub fn write_markdown<W: Target>(
+    alloc: Global,
+    table: References,
+    page: String,
+    writer: &mut W,
+) -> Result<Verdict, PageFault>
+    ensures { PrintsSome (λ _ verdict. verdict ≡ Fine) (told_by W.written W.failures writer.old) result
+        (told_by W.written W.failures writer.new) }
+{
+    let forest = document(alloc, table, page)?;
+    let text = markdown(alloc, &forest, forest.document())?;
+    put(writer, text.as_str())?;
+    Ok(Verdict::Fine)
+}
+
+/// Writes the tree of a page.
+pub fn tree<W: Target>(
+    alloc: Global,
+    table: References,
+    page: String,
+    writer: &mut W,
+) -> Result<Verdict, PageFault>
+    ensures { PrintsSome (TreeText table (string_bytes page)) (told_by W.written W.failures writer.old) result
+        (told_by W.written W.failures writer.new) }
+{
+    let forest = document(alloc, table, page)?;
+    write_tree(alloc, &forest, forest.document(), writer)?;
+    Ok(Verdict::Fine)
+}
+
+/// The node in which the nodes of a fragment stand.
+fn top(forest: &Forest) -> NodeId
+    ensures { result ≡ top_of (children_of forest.now 0) }
+{
+    match forest.first_child(forest.document()) {
+        Some(root) => root,
+        None => forest.document(),
+    }
+}
+
+/// Writes the tree of a fragment in an element of that name.
+pub fn fragment_tree<W: Target>(
+    alloc: Global,
+    table: References,
+    element: &str,
+    page: String,
+    writer: &mut W,
+) -> Result<Verdict, PageFault>
+    ensures { PrintsSome (FragmentText table element.now (string_bytes page)) (told_by W.written W.failures writer.old) result
+        (told_by W.written W.failures writer.new) }
+{
+    let forest = fragment(alloc, table, element, page)?;
+    write_tree(alloc, &forest, top(&forest), writer)?;
+    Ok(Verdict::Fine)
+}
+
+/// What went wrong with a text that is read in memory, which has no fault of reading.
+fn fault_in_memory(fault: NormalFault) -> PageFault
+    ensures { result ≡ memory_fault_of fault }
+{
+    match fault {
+        NormalFault::Write => PageFault::Write,
+        _ => PageFault::Memory,
+    }
+}
+
+/// Writes the normal text of a page.
+pub fn normal<W: Target>(
+    alloc: Global,
+    table: References,
+    page: String,
+    writer: &mut W,
+) -> Result<Verdict, PageFault>
+    ensures { PrintsSome (NormalText table (string_bytes page)) (told_by W.written W.failures writer.old) result
+        (told_by W.written W.failures writer.new) }
+{
+    let mut reader = MemReader::new(page.into_bytes(), 4096, None);
+    match normalise(alloc, &mut reader, writer, table, Exact::default()) {
+        Ok(_) => Ok(Verdict::Fine),
+        Err(fault) => Err(fault_in_memory(fault)),
+    }
+}
+
+/// Writes the line of a parse error.
+fn put_error<W: Target>(
+    alloc: Global,
+    name: &str,
+    line: u64,
+    message: &str,
+    writer: &mut W,
+) -> Result<(), PageFault>
+    ensures { Prints (error_line name.now (line, message.now)) (told_by W.written W.failures writer.old) result
+        (told_by W.written W.failures writer.new) }
+{
+    let words = format!(in alloc; "{name}:{line}: {message}\n")?;
+    put(writer, words.as_str())
+}
+
+/// The verdict of a page with so many parse errors.
+fn verdict_of(count: u64) -> Verdict
+    ensures { result ≡ (if count == 0 then Fine else Errors) }
+{
+    if count == 0 {
+        Verdict::Fine
+    } else {
+        Verdict::Errors
+    }
+}
+
+/// Lists the parse errors of a page.
+pub fn errors<W: Target>(
+    alloc: Global,
+    table: References,
+    name: &str,
+    page: String,
+    writer: &mut W,
+) -> Result<Verdict, PageFault>
+    ensures { PrintsSome (ErrorsText table name.now (string_bytes page)) (told_by W.written W.failures writer.old) result
+        (told_by W.written W.failures writer.new) }
+{
+    let noted = noted_document(alloc, table, page)?;
+    for error in &noted.errors {
+        put_error(alloc, name, error.line, error.message.as_str(), writer)?;
+    }
+    Ok(verdict_of(noted.forest.error_count()))
+}

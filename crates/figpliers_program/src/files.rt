@@ -1,0 +1,52 @@
+//! The files with pages.
+
+use crate::faults::Why;
+use figpliers::{Source, StdSource};
+use html_normal_program::Opener;
+use std::fs::File;
+use std::io::ErrorKind;
+
+/// What opens files by their names, and says why it doesn't.
+pub trait Files<Opened: Source>: Opener<Opened> {
+    /// Why the file of that name can't be opened.
+    fn why(&self, name: &str) -> Why;
+}
+
+/// The files of the operating system.
+#[derive(Drop)]
+pub struct Disk<'a> {
+    rt: &'a HostRuntime,
+}
+
+impl Disk<'_> {
+    /// The files that a program may open.
+    pub fn new(rt: &HostRuntime) -> Disk<'_> {
+        Disk { rt }
+    }
+}
+
+impl Opener<StdSource<File>> for Disk<'_> {
+    ghost use Rattle.std.specs.Prelude.{None};
+
+    ghost files = { λ _ _. None };
+
+    fn open(&self, name: &str) -> Option<StdSource<File>> {
+        match File::open(self.rt, name) {
+            Ok(file) => Some(StdSource::new(file)),
+            Err(_) => None,
+        }
+    }
+}
+
+impl Files<StdSource<File>> for Disk<'_> {
+    fn why(&self, name: &str) -> Why {
+        match File::open(self.rt, name) {
+            Ok(_) => Why::Other,
+            Err(error) => match error.kind() {
+                ErrorKind::NotFound => Why::Missing,
+                ErrorKind::PermissionDenied => Why::Forbidden,
+                _ => Why::Other,
+            },
+        }
+    }
+}
