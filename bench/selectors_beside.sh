@@ -6,10 +6,10 @@
 #     wget http://deb.debian.org/debian/pool/main/l/lexbor/liblexbor-dev_3.0.1-1_amd64.deb
 #     dpkg -x liblexbor-dev_3.0.1-1_amd64.deb LEXBOR
 #
-# PAGE is made where none is given: 1 MB, as in bench/normal.sh. Both programs are built, and read the page and ask it each selector in
-# turns, ROUNDS times (20). A row has the least time of each, in microseconds, and ours as shares of lexbor's: with the making of an index,
-# as for a page that is asked once, and with an index that is kept. The status is 1 where the two find different numbers of elements, or a
-# share is more than 1.2 or 1. It needs python3 and cc.
+# PAGE is made where none is given: 1 MB, as in bench/normal.sh. Both programs are built, and read the page and ask it one selector, each
+# selector in a process of its own, in turns, ROUNDS times (20). A row has the least time of each, in microseconds, and ours as shares of
+# lexbor's: with the making of an index, as for a page that is asked once, and with an index that is kept. The status is 1 where the two find
+# different numbers of elements, or a share is more than 1.2 or 1. It needs python3 and cc.
 set -e
 top="$(cd "$(dirname "$0")/.." && pwd)"
 work=$(mktemp -d)
