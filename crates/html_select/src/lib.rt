@@ -9,6 +9,8 @@ ghost use Rattle.html_select.specs.Found.{IsFound};
 ghost use Rattle.html_selector_text.specs.Grammar.{parsed};
 ghost use Rattle.html_selector_text.specs.Results.{Fails};
 
+pub mod rows;
+
 use html_forest::{Forest, NodeId};
 use html_selector_text::{SelectorError, parse};
 use html_selectors::select_all;
