@@ -41,7 +41,8 @@ def capture(kit, crate, folder):
     words = rtlib.Crate(str(crate), rtlib.root_above(str(crate)), {}).words([])
     build = [rtlib.RATTLE, "build", *words, "--toolchain", str(tools), "--backend", "llvm", *rtlib.KEPT]
     subprocess.run([*build, "-o", str(folder / "library.a")], check=True)
-    subprocess.run([clang, "-x", "ir", "-S", "-emit-llvm", "-Xclang", "-disable-llvm-passes", folder / "kept", "-o", folder / "module.ll"], check=True)
+    as_text = [clang, "-x", "ir", "-S", "-emit-llvm", "-Xclang", "-disable-llvm-passes"]
+    subprocess.run([*as_text, folder / "kept", "-o", folder / "module.ll"], check=True)
 
 
 def retarget(source, made):
