@@ -34,7 +34,8 @@ extern "C" {
         table: *const u8, table_length: usize, page: *const u8, page_length: usize, output: *mut u8, room: usize, report: *mut FigReport,
     ) -> u32;
     pub fn fig_select(
-        selector: *const u8, selector_length: usize, page: *const u8, page_length: usize, output: *mut u8, room: usize, report: *mut FigReport,
+        selector: *const u8, selector_length: usize, page: *const u8, page_length: usize, output: *mut u8, room: usize,
+        report: *mut FigReport,
     ) -> u32;
     pub fn fig_clean(page: *const u8, page_length: usize, output: *mut u8, room: usize, report: *mut FigCleaned) -> u32;
     pub fn fig_clean_document(page: *const u8, page_length: usize, output: *mut u8, room: usize, report: *mut FigCleaned) -> u32;

@@ -3,7 +3,8 @@
 
 ghost use Rattle.std.specs.Prelude.{◌≡◌, length};
 ghost use Rattle.html_ffi.specs.Answers.{Tells};
-ghost use Rattle.html_ffi.specs.Calls.{IsCleanDocument, IsCleanFragment, IsNormalText, IsTreeImage, MeansCleaned, MeansSelection, MeansText};
+ghost use Rattle.html_ffi.specs.Calls.{IsCleanDocument, IsCleanFragment, IsNormalText, IsTreeImage};
+ghost use Rattle.html_ffi.specs.Calls.{MeansCleaned, MeansSelection, MeansText};
 
 mod answer;
 mod clean;

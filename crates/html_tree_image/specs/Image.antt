@@ -172,4 +172,5 @@ image_of f = header (length (nodes_of f)) (length (attributes_of f)) (length (te
 
 -- whether a part is longer than 32 bits can say
 abbrev pub is_too_large : Forest → Bool
-is_too_large f = nat_le (2 ^ 32) (length (nodes_of f)) || (nat_le (2 ^ 32) (length (attributes_of f)) || nat_le (2 ^ 32) (length (texts_of f)))
+is_too_large f = nat_le (2 ^ 32) (length (nodes_of f))
+    || (nat_le (2 ^ 32) (length (attributes_of f)) || nat_le (2 ^ 32) (length (texts_of f)))

@@ -52,7 +52,8 @@ fn push_attribute(
     attribute: &Attribute,
 ) -> Result<(), AllocError>
     ensures texts { OnOk result (texts.new.items ≡ texts.old.items ++ attribute_texts attribute.now) }
-    ensures record { OnOk result (records.new.items ≡ records.old.items ++ words (attribute_numbers (length texts.old.items) attribute.now)) }
+    ensures record { OnOk result (records.new.items ≡ records.old.items
+        ++ words (attribute_numbers (length texts.old.items) attribute.now)) }
 {
     let at = texts.len();
     let (prefix, name) = push_name(texts, &attribute.name)?;

@@ -160,7 +160,8 @@ fn push_element(
 // Adds what a node has.
 fn push_data(parts: &mut Parts, about: &NodeData<'_>) -> Result<(), AllocError>
     ensures nodes { OnOk result (parts.new.nodes.items ≡ parts.old.nodes.items
-        ++ words (extents (length parts.old.texts.items) (length parts.old.attributes.items) (contents_in about.now) (data_view about.now))) }
+        ++ words (extents (length parts.old.texts.items) (length parts.old.attributes.items) (contents_in about.now)
+        (data_view about.now))) }
     ensures attributes { OnOk result (parts.new.attributes.items ≡ parts.old.attributes.items
         ++ node_attributes (length parts.old.texts.items) (data_view about.now)) }
     ensures texts { OnOk result (parts.new.texts.items ≡ parts.old.texts.items ++ node_texts (data_view about.now)) }
