@@ -1,3 +1,5 @@
+mod Building
+mod Found
 mod Texts
 mod Notes
 mod Outcomes

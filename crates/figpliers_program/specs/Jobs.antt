@@ -6,6 +6,7 @@ use Rattle.figpliers.specs.Table.{Row}
 use Rattle.figpliers.specs.TableFile.{rows_of}
 use Rattle.html_normal_program.specs.Program.{Files}
 use Rattle.html_standard_references.specs.declared.rows.TheConstants.{STANDARD_ROWS}
+use Rattle.figpliers_program.specs.Asked.{AsksFor}
 use Rattle.figpliers_program.specs.Outcome.{AreDone, IsPageDone, Stream}
 use Rattle.figpliers_program.specs.Pages.{ErrorsText, FragmentText, NormalText, RenderedText, TreeText}
 use Rattle.figpliers_program.specs.Verdicts.{Tells}
@@ -60,8 +61,8 @@ IsAnswered out out' errors errors' Fine = (errors' ≡ errors) × ((text : List 
 IsAnswered out out' errors errors' Unwritten = (errors' ≡ errors) × ((text : List ℕ) × Broke out text out')
 IsAnswered out out' errors errors' verdict = ⊥
 
--- The outcome of the program, by the files, the bytes of standard input that are left before and after it, what standard output tells, and
--- the bytes that were written to standard error. Of how the words ask for it nothing is said.
-abbrev pub IsOutcome : Files → (left left' : Stream) (out out' : WriterView) (errors errors' : Stream) → Verdict → Type 0
-IsOutcome files left left' out out' errors errors' verdict = ((left' ≡ left) × IsAnswered out out' errors errors' verdict)
-    ⊎ ((asked : Asked) × IsRun files asked left left' out out' errors errors' verdict)
+-- The outcome of the program, by the files and the words, the bytes of standard input that are left before and after it, what standard
+-- output tells, and the bytes that were written to standard error.
+abbrev pub IsOutcome : Files → List (List ℕ) → (left left' : Stream) (out out' : WriterView) (errors errors' : Stream) → Verdict → Type 0
+IsOutcome files words left left' out out' errors errors' verdict = ((left' ≡ left) × IsAnswered out out' errors errors' verdict)
+    ⊎ ((asked : Asked) × AsksFor words asked × IsRun files asked left left' out out' errors errors' verdict)

@@ -1,3 +1,5 @@
+pub mod Asked
+pub mod CommandLine
 pub mod Faults
 pub mod Jobs
 pub mod Outcome

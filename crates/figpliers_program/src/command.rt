@@ -1,9 +1,19 @@
 //! The words after the program's name.
 
+ghost use Rattle.std.specs.Prelude.{◌≡◌, IfOk, IfSome, Some, [], codes, map, option_map, unwrap_or};
+ghost use Rattle.std.specs.Char.{to_ascii_lowercase};
+ghost use Rattle.std.specs.String.{string_bytes};
+ghost use Rattle.clap.specs.Matches.{found_of};
+ghost use Rattle.clap.specs.Simple.{subcommand_rows_of};
+ghost use Rattle.clap.specs.Walk.{all_of, first_of, rows_of};
+ghost use Rattle.figpliers_program.specs.Asked as spec;
+ghost use Rattle.figpliers_program.specs.Asked.{AsksFor, IsJob, IsListing, IsNaming, IsReading, IsSet, IsShow};
+
+use crate::command_line::command_line;
 use crate::linking::Listing;
 use crate::selecting::Show;
 use clap::error::ErrorKind;
-use clap::{Arg, ArgAction, ArgMatches, Command, Error};
+use clap::{ArgMatches, Error};
 use figpliers::encoding_of_label;
 use std::alloc::{AllocError, Global};
 
@@ -48,194 +58,41 @@ pub struct Asked {
     pub files: Vec<String>,
 }
 
-/// A command with the options of all commands that read pages, and the pages.
-fn reads_pages<'a>(
+/// A text of its own.
+fn copied(alloc: Global, text: &str) -> Result<Option<String>, AllocError>
+    ensures { IfOk result (λ found. option_map string_bytes found ≡ Some text.now) }
+{
+    Ok(Some(String::from_str(alloc, text)?))
+}
+
+/// The value of an option, where it is used.
+fn value_of(
     alloc: Global,
-    command: Command<'a>,
-    action: ArgAction,
-) -> Result<Command<'a>, AllocError> {
-    let encoding = Arg::new(alloc, "encoding")
-        .long("encoding")
-        .value_name("LABEL")
-        .action(ArgAction::Set)
-        .conflicts_with("utf-8")?
-        .conflicts_with("lossy")?
-        .help("Read pages in this encoding, unless they have a byte order mark");
-    let utf_8 = Arg::new(alloc, "utf-8")
-        .long("utf-8")
-        .action(ArgAction::SetTrue)
-        .conflicts_with("lossy")?
-        .help("Read pages as UTF-8, and refuse what is not");
-    let lossy = Arg::new(alloc, "lossy")
-        .long("lossy")
-        .action(ArgAction::SetTrue)
-        .help("Read pages as UTF-8, and what is not as U+FFFD");
-    let files = Arg::new(alloc, "files")
-        .value_name("FILE")
-        .action(action)
-        .help("HTML pages; standard input, where none is named or for the name -");
-    command.arg(encoding)?.arg(utf_8)?.arg(lossy)?.arg(files)
+    matches: &ArgMatches<'_>,
+    name: &str,
+) -> Result<Option<String>, AllocError>
+    ensures { IfOk result (λ found. option_map string_bytes found ≡ first_of name.now (rows_of (found_of matches.now))) }
+{
+    match matches.get_str(name) {
+        Some(value) => copied(alloc, value),
+        None => Ok(None),
+    }
 }
 
-/// A command over pages, with its options.
-fn over_pages<'a>(
-    alloc: Global,
-    name: &'a str,
-    about: &'a str,
-    action: ArgAction,
-) -> Result<Command<'a>, AllocError> {
-    reads_pages(alloc, Command::new(alloc, name).about(about), action)
-}
-
-/// The command `select`.
-fn select<'a>(alloc: Global) -> Result<Command<'a>, AllocError> {
-    let selector = Arg::new(alloc, "selector")
-        .value_name("SELECTOR")
-        .required(true)
-        .action(ArgAction::Set)
-        .help("Selectors as in CSS, such as 'ul > li:first-child, a[href^=http]'");
-    let text = Arg::new(alloc, "text")
-        .long("text")
-        .action(ArgAction::SetTrue)
-        .conflicts_with("attr")?
-        .conflicts_with("count")?
-        .conflicts_with("json")?
-        .help("Print the text in each element in place of its HTML");
-    let attribute = Arg::new(alloc, "attr")
-        .long("attr")
-        .value_name("NAME")
-        .action(ArgAction::Set)
-        .conflicts_with("count")?
-        .conflicts_with("json")?
-        .help("Print the value of this attribute of each element that has it");
-    let count = Arg::new(alloc, "count")
-        .long("count")
-        .action(ArgAction::SetTrue)
-        .conflicts_with("json")?
-        .help("Print how many elements there are");
-    let json = Arg::new(alloc, "json")
-        .long("json")
-        .action(ArgAction::SetTrue)
-        .help("Print an object of JSON for each element: its file, its name and its HTML");
-    let command = Command::new(alloc, "select")
-        .about("Print the elements of pages that selectors select; status 1 where there is none")
-        .arg(selector)?
-        .arg(text)?
-        .arg(attribute)?
-        .arg(count)?
-        .arg(json)?;
-    reads_pages(alloc, command, ArgAction::Append)
-}
-
-/// The command `tree`.
-fn tree<'a>(alloc: Global) -> Result<Command<'a>, AllocError> {
-    let fragment = Arg::new(alloc, "fragment")
-        .long("fragment")
-        .value_name("NAME")
-        .action(ArgAction::Set)
-        .help("Read the page as a fragment in an HTML element of this name");
-    let about = "Print the tree of a page, line by line, as the tests of html5lib do";
-    over_pages(alloc, "tree", about, ArgAction::Set)?.arg(fragment)
-}
-
-/// The command `links`.
-fn links<'a>(alloc: Global) -> Result<Command<'a>, AllocError> {
-    let base = Arg::new(alloc, "base")
-        .long("base")
-        .value_name("URL")
-        .action(ArgAction::Set)
-        .help("Print absolute links, relative to this URL where the page has no base of its own");
-    let anchors = Arg::new(alloc, "anchors")
-        .long("anchors")
-        .action(ArgAction::SetTrue)
-        .help("Print links to a place in the page itself too");
-    let kinds = Arg::new(alloc, "kind")
-        .long("kind")
-        .action(ArgAction::SetTrue)
-        .conflicts_with("json")?
-        .help("Print the attribute before each link: href, src, srcset, action, data or poster");
-    let json = Arg::new(alloc, "json")
-        .long("json")
-        .action(ArgAction::SetTrue)
-        .help("Print an object of JSON for each link: its file, its kind, its element and its URL");
-    let with_names = Arg::new(alloc, "with-filename")
-        .short('H')
-        .long("with-filename")
-        .action(ArgAction::SetTrue)
-        .conflicts_with("no-filename")?
-        .help("Print the name of the file before each link, as where there are several files");
-    let without_names = Arg::new(alloc, "no-filename")
-        .short('h')
-        .long("no-filename")
-        .action(ArgAction::SetTrue)
-        .help("Print no names of files");
-    let help = Arg::new(alloc, "help")
-        .long("help")
-        .action(ArgAction::Help)
-        .help("Print help");
-    let about = "List where pages lead, in href, src, srcset, action, data and poster";
-    over_pages(alloc, "links", about, ArgAction::Append)?
-        .disable_help_flag(true)
-        .arg(base)?
-        .arg(anchors)?
-        .arg(kinds)?
-        .arg(json)?
-        .arg(with_names)?
-        .arg(without_names)?
-        .arg(help)
-}
-
-/// The command line of the program.
-fn command_line<'a>(alloc: Global) -> Result<Command<'a>, AllocError> {
-    let errors = over_pages(
-        alloc,
-        "errors",
-        "List the parse errors of pages, as FILE:LINE: CODE; status 1 where there is one",
-        ArgAction::Append,
-    )?;
-    let markdown = over_pages(
-        alloc,
-        "markdown",
-        "Print pages as Markdown: CommonMark, with tables as GitHub's",
-        ArgAction::Append,
-    )?;
-    let text = over_pages(
-        alloc,
-        "text",
-        "Print the text of pages, without scripts and style sheets",
-        ArgAction::Append,
-    )?;
-    let normal = over_pages(
-        alloc,
-        "normal",
-        "Print the normal text of pages",
-        ArgAction::Append,
-    )?;
-    Command::new(alloc, "figpliers")
-        .version("0.1.0")
-        .propagate_version(true)
-        .bin_name("figpliers")?
-        .about(
-            "Parse errors, trees, links, texts, Markdown, elements and normal texts of HTML pages",
-        )
-        .after_help(
-            "Status: 0 done; 1 a page has parse errors, or no element was selected; 2 a fault",
-        )
-        .subcommand_required(true)
-        .subcommand(errors)?
-        .subcommand(tree(alloc)?)?
-        .subcommand(links(alloc)?)?
-        .subcommand(markdown)?
-        .subcommand(text)?
-        .subcommand(select(alloc)?)?
-        .subcommand(normal)
+/// Whether an option without a value is used.
+fn is_set(matches: &ArgMatches<'_>, name: &str) -> bool
+    ensures { IsSet (rows_of (found_of matches.now)) name.now result }
+{
+    matches.get_flag(name)
 }
 
 /// The element in which a fragment is read, where one is named; the names of HTML elements are in lower case.
-fn fragment_of(alloc: Global, matches: &ArgMatches<'_>) -> Result<Option<String>, AllocError> {
-    match matches.get_str("fragment") {
-        Some(name) => {
-            let mut name = String::from_str(alloc, name)?;
+fn fragment_of(alloc: Global, matches: &ArgMatches<'_>) -> Result<Option<String>, AllocError>
+    ensures { IfOk result (λ found. option_map string_bytes found
+        ≡ option_map (map to_ascii_lowercase) (first_of (codes "fragment") (rows_of (found_of matches.now)))) }
+{
+    match value_of(alloc, matches, "fragment")? {
+        Some(mut name) => {
             name.make_ascii_lowercase();
             Ok(Some(name))
         }
@@ -260,49 +117,75 @@ fn has_no_name(job: &Job) -> bool {
 }
 
 /// What is printed of the elements that are selected.
-fn show_of(alloc: Global, matches: &ArgMatches<'_>) -> Result<Show, AllocError> {
-    if matches.get_flag("text") {
+fn show_of(alloc: Global, matches: &ArgMatches<'_>) -> Result<Show, AllocError>
+    ensures { IfOk result (IsShow (rows_of (found_of matches.now))) }
+{
+    if is_set(matches, "text") {
         return Ok(Show::Text);
     }
-    if matches.get_flag("count") {
+    if is_set(matches, "count") {
         return Ok(Show::Count);
     }
-    if matches.get_flag("json") {
+    if is_set(matches, "json") {
         return Ok(Show::Json);
     }
-    match matches.get_str("attr") {
-        Some(name) => Ok(Show::Attribute(String::from_str(alloc, name)?)),
+    match value_of(alloc, matches, "attr")? {
+        Some(name) => Ok(Show::Attribute(name)),
         None => Ok(Show::Html),
     }
 }
 
 /// Whether the name of the file is printed, where that is said.
-fn names_of(matches: &ArgMatches<'_>) -> Option<bool> {
-    if matches.get_flag("with-filename") {
-        Some(true)
-    } else if matches.get_flag("no-filename") {
-        Some(false)
-    } else {
-        None
+fn names_of(matches: &ArgMatches<'_>) -> Option<bool>
+    ensures { IsNaming (rows_of (found_of matches.now)) result }
+{
+    if is_set(matches, "with-filename") {
+        return Some(true);
     }
+    if is_set(matches, "no-filename") {
+        return Some(false);
+    }
+    None
 }
 
 /// How links are printed.
-fn listing_of(alloc: Global, matches: &ArgMatches<'_>) -> Result<Listing, AllocError> {
+fn listing_of(alloc: Global, matches: &ArgMatches<'_>) -> Result<Listing, AllocError>
+    ensures { IfOk result (IsListing (rows_of (found_of matches.now))) }
+{
     Ok(Listing {
-        base: match matches.get_str("base") {
-            Some(base) => Some(String::from_str(alloc, base)?),
-            None => None,
-        },
-        anchors: matches.get_flag("anchors"),
-        kinds: matches.get_flag("kind"),
-        json: matches.get_flag("json"),
+        base: value_of(alloc, matches, "base")?,
+        anchors: is_set(matches, "anchors"),
+        kinds: is_set(matches, "kind"),
+        json: is_set(matches, "json"),
         names: names_of(matches),
     })
 }
 
-/// What a command of that name does.
-fn job_of(alloc: Global, name: &str, matches: &ArgMatches<'_>) -> Result<Option<Job>, AllocError> {
+/// The selectors that are asked for.
+fn selector_of(alloc: Global, matches: &ArgMatches<'_>) -> Result<String, AllocError>
+    ensures { IfOk result (λ selector. string_bytes selector
+        ≡ unwrap_or (first_of (codes "selector") (rows_of (found_of matches.now))) []) }
+{
+    match value_of(alloc, matches, "selector")? {
+        Some(selector) => Ok(selector),
+        None => Ok(String::new(alloc)),
+    }
+}
+
+/// The command `select`.
+fn select_of(alloc: Global, matches: &ArgMatches<'_>) -> Result<Job, AllocError>
+    ensures { IfOk result (IsJob (codes "select") (rows_of (found_of matches.now))) }
+{
+    Ok(Job::Select {
+        selector: selector_of(alloc, matches)?,
+        show: show_of(alloc, matches)?,
+    })
+}
+
+/// What a command of that name does; nothing where there is none of that name.
+fn job_of(alloc: Global, name: &str, matches: &ArgMatches<'_>) -> Result<Option<Job>, AllocError>
+    ensures { IfOk result (λ found. IfSome found (IsJob name.now (rows_of (found_of matches.now)))) }
+{
     match name {
         "errors" => Ok(Some(Job::Errors)),
         "tree" => Ok(Some(Job::Tree {
@@ -314,51 +197,66 @@ fn job_of(alloc: Global, name: &str, matches: &ArgMatches<'_>) -> Result<Option<
         "markdown" => Ok(Some(Job::Markdown)),
         "text" => Ok(Some(Job::Text)),
         "normal" => Ok(Some(Job::Normal)),
-        "select" => Ok(Some(Job::Select {
-            selector: String::from_str(alloc, matches.get_str("selector").unwrap_or(""))?,
-            show: show_of(alloc, matches)?,
-        })),
+        "select" => Ok(Some(select_of(alloc, matches)?)),
         _ => Ok(None),
     }
 }
 
-/// The files that are named.
-fn files_of(alloc: Global, matches: &ArgMatches<'_>) -> Result<Vec<String>, AllocError> {
-    let mut files = Vec::new(alloc);
-    for name in matches.get_strs("files").unwrap_or(&[]) {
-        files.push(String::from_str(alloc, name)?)?;
+/// Texts of their own.
+fn copied_all(alloc: Global, texts: &[&str]) -> Result<Vec<String>, AllocError>
+    ensures { IfOk result (λ copies. map string_bytes copies.items ≡ map (λ text. text.now) texts.now) }
+{
+    let mut copies = Vec::new(alloc);
+    for text in texts {
+        copies.push(String::from_str(alloc, text)?)?;
     }
-    Ok(files)
+    Ok(copies)
+}
+
+/// The files that are named.
+fn files_of(alloc: Global, matches: &ArgMatches<'_>) -> Result<Vec<String>, AllocError>
+    ensures { IfOk result (λ files. map string_bytes files.items
+        ≡ unwrap_or (all_of (codes "files") (rows_of (found_of matches.now))) []) }
+{
+    match matches.get_strs("files") {
+        Some(names) => copied_all(alloc, names),
+        None => Ok(Vec::new(alloc)),
+    }
 }
 
 /// How pages are read.
-fn reading_of(alloc: Global, matches: &ArgMatches<'_>) -> Result<Reading, AllocError> {
-    if matches.get_flag("utf-8") {
+fn reading_of(alloc: Global, matches: &ArgMatches<'_>) -> Result<Reading, AllocError>
+    ensures { IfOk result (IsReading (rows_of (found_of matches.now))) }
+{
+    if is_set(matches, "utf-8") {
         return Ok(Reading::Utf8);
     }
-    if matches.get_flag("lossy") {
+    if is_set(matches, "lossy") {
         return Ok(Reading::Lossy);
     }
-    let label = match matches.get_str("encoding") {
-        Some(label) => Some(String::from_str(alloc, label)?),
-        None => None,
-    };
-    Ok(Reading::Found { label })
+    Ok(Reading::Found {
+        label: value_of(alloc, matches, "encoding")?,
+    })
 }
 
 /// Whether a label that names no encoding was given.
-fn has_unknown_label(reading: &Reading) -> bool {
+fn has_unknown_label(reading: &Reading) -> bool
+    ensures { result ≡ spec.has_unknown_label reading.now }
+{
     match reading {
         Reading::Found { label: Some(label) } => encoding_of_label(label.as_bytes()).is_none(),
         _ => false,
     }
 }
 
-/// What was asked for; nothing where no command was named.
-fn read_matches(alloc: Global, matches: &ArgMatches<'_>) -> Result<Option<Asked>, AllocError> {
-    let Some((name, matches)) = matches.subcommand() else {
-        return Ok(None);
-    };
+/// What a command of that name was asked for; nothing where there is none of that name.
+fn asked_of(
+    alloc: Global,
+    name: &str,
+    matches: &ArgMatches<'_>,
+) -> Result<Option<Asked>, AllocError>
+    ensures { IfOk result (λ found. IfSome found (spec.IsAsked name.now (rows_of (found_of matches.now)))) }
+{
     let Some(job) = job_of(alloc, name, matches)? else {
         return Ok(None);
     };
@@ -369,8 +267,20 @@ fn read_matches(alloc: Global, matches: &ArgMatches<'_>) -> Result<Option<Asked>
     }))
 }
 
+/// What was asked for; nothing where no command was named.
+fn read_matches(alloc: Global, matches: &ArgMatches<'_>) -> Result<Option<Asked>, AllocError>
+    ensures { IfOk result (λ found. IfSome found (spec.IsCommandOf (subcommand_rows_of matches.now))) }
+{
+    match matches.subcommand() {
+        Some((name, matches)) => asked_of(alloc, name, matches),
+        None => Ok(None),
+    }
+}
+
 /// What words ask for, of which the first is the program's name.
-pub fn read_words(alloc: Global, words: &[String]) -> Result<Asked, Error> {
+pub fn read_words(alloc: Global, words: &[String]) -> Result<Asked, Error>
+    ensures { IfOk result (AsksFor (map string_bytes words.now)) }
+{
     let mut command = command_line(alloc)?;
     let matches = command.try_get_matches_from_mut(words)?;
     let Some(asked) = read_matches(alloc, &matches)? else {

@@ -4,6 +4,7 @@
 #![tactic(auto)]
 
 mod command;
+mod command_line;
 mod commands;
 mod faults;
 mod files;

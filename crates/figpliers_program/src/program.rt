@@ -1,5 +1,6 @@
 //! From words to what is written and the status.
-ghost use Rattle.std.specs.Prelude.{◌≡◌};
+ghost use Rattle.std.specs.Prelude.{◌≡◌, map};
+ghost use Rattle.std.specs.String.{string_bytes};
 ghost use Rattle.figpliers.specs.Puts.{told_by};
 ghost use Rattle.figpliers_program.specs.Jobs.{IsAnswered, IsOutcome};
 
@@ -47,7 +48,7 @@ pub fn obey<File: Source + Drop, Opens: Files<File>, Input: Source, Output: Targ
     output: &mut Output,
     errors: &mut Errors,
 ) -> Verdict
-    ensures { IsOutcome (Opens.files opener.now) (Input.left input.old) (Input.left input.new)
+    ensures { IsOutcome (Opens.files opener.now) (map string_bytes words.now) (Input.left input.old) (Input.left input.new)
         (told_by Output.written Output.failures output.old) (told_by Output.written Output.failures output.new)
         (Errors.written errors.old) (Errors.written errors.new) result }
 {

@@ -1,0 +1,299 @@
+//! The commands of the program and their options.
+ghost use Rattle.std.specs.Prelude.{◌≡◌, IfOk, false};
+ghost use Rattle.clap.specs.Simple.{app_of};
+ghost use Rattle.clap.specs.Walk.{rule_of};
+ghost use Rattle.figpliers_program.specs.CommandLine as spec;
+ghost use Rattle.figpliers_program.specs.CommandLine.{IsLocal, IsPlainOption, flag_rule, option_rule, pages_command};
+ghost use Rattle.figpliers_program.specs.CommandLine.{pages_rule, with_pages};
+
+use clap::{Arg, ArgAction, Command};
+use std::alloc::{AllocError, Global};
+
+/// An option without a value.
+fn flag<'a>(alloc: Global, name: &'a str, help: &'a str) -> Arg<'a>
+    ensures rule { rule_of result ≡ flag_rule name.entry.now }
+    ensures plain { IsPlainOption result }
+{
+    Arg::new(alloc, name)
+        .long(name)
+        .action(ArgAction::SetTrue)
+        .help(help)
+}
+
+/// An option with a value.
+fn option<'a>(alloc: Global, name: &'a str, value: &'a str, help: &'a str) -> Arg<'a>
+    ensures rule { rule_of result ≡ option_rule name.entry.now }
+    ensures plain { IsPlainOption result }
+{
+    Arg::new(alloc, name)
+        .long(name)
+        .value_name(value)
+        .action(ArgAction::Set)
+        .help(help)
+}
+
+/// The files with the pages.
+fn pages<'a>(alloc: Global, action: ArgAction) -> Arg<'a>
+    ensures rule { rule_of result ≡ pages_rule action }
+    ensures plain { IsPlainOption result }
+{
+    Arg::new(alloc, "files")
+        .value_name("FILE")
+        .action(action)
+        .help("HTML pages; standard input, where none is named or for the name -")
+}
+
+/// A command with the options that say how pages are read.
+fn reads<'a>(alloc: Global, command: Command<'a>) -> Result<Command<'a>, AllocError>
+    ensures app { IfOk result (λ made. app_of made ≡ spec.with_reading (app_of command.entry)) }
+    ensures local { IsLocal command.entry → IfOk result IsLocal }
+{
+    let encoding = option(
+        alloc,
+        "encoding",
+        "LABEL",
+        "Read pages in this encoding, unless they have a byte order mark",
+    );
+    let utf_8 = flag(
+        alloc,
+        "utf-8",
+        "Read pages as UTF-8, and refuse what is not",
+    );
+    let lossy = flag(
+        alloc,
+        "lossy",
+        "Read pages as UTF-8, and what is not as U+FFFD",
+    );
+    let encoding = encoding.conflicts_with("utf-8")?.conflicts_with("lossy")?;
+    let utf_8 = utf_8.conflicts_with("lossy")?;
+    command.arg(encoding)?.arg(utf_8)?.arg(lossy)
+}
+
+/// A command with the options of all commands that read pages, and the pages.
+fn reads_pages<'a>(
+    alloc: Global,
+    command: Command<'a>,
+    action: ArgAction,
+) -> Result<Command<'a>, AllocError>
+    ensures app { IfOk result (λ made. app_of made ≡ with_pages action (app_of command.entry)) }
+    ensures local { IsLocal command.entry → IfOk result IsLocal }
+{
+    reads(alloc, command)?.arg(pages(alloc, action))
+}
+
+/// A command over pages, with its options.
+fn over_pages<'a>(
+    alloc: Global,
+    name: &'a str,
+    about: &'a str,
+    action: ArgAction,
+) -> Result<Command<'a>, AllocError>
+    ensures app { IfOk result (λ made. app_of made ≡ pages_command name.entry.now action) }
+    ensures local { IfOk result IsLocal }
+{
+    reads_pages(alloc, Command::new(alloc, name).about(about), action)
+}
+
+/// The command `tree`.
+fn tree<'a>(alloc: Global) -> Result<Command<'a>, AllocError>
+    ensures app { IfOk result (λ made. app_of made ≡ spec.tree_command) }
+    ensures local { IfOk result IsLocal }
+{
+    let fragment = option(
+        alloc,
+        "fragment",
+        "NAME",
+        "Read the page as a fragment in an HTML element of this name",
+    );
+    let about = "Print the tree of a page, line by line, as the tests of html5lib do";
+    over_pages(alloc, "tree", about, ArgAction::Set)?.arg(fragment)
+}
+
+/// The selectors of the command `select`.
+fn selector<'a>(alloc: Global) -> Arg<'a>
+    ensures rule { rule_of result ≡ spec.selector_rule }
+    ensures plain { IsPlainOption result }
+{
+    Arg::new(alloc, "selector")
+        .value_name("SELECTOR")
+        .required(true)
+        .action(ArgAction::Set)
+        .help("Selectors as in CSS, such as 'ul > li:first-child, a[href^=http]'")
+}
+
+/// A command with the options that say what is printed of elements.
+fn shows<'a>(alloc: Global, command: Command<'a>) -> Result<Command<'a>, AllocError>
+    ensures app { IfOk result (λ made. app_of made ≡ spec.with_shows (app_of command.entry)) }
+    ensures local { IsLocal command.entry → IfOk result IsLocal }
+{
+    let text = flag(
+        alloc,
+        "text",
+        "Print the text in each element in place of its HTML",
+    );
+    let attribute = option(
+        alloc,
+        "attr",
+        "NAME",
+        "Print the value of this attribute of each element that has it",
+    );
+    let count = flag(alloc, "count", "Print how many elements there are");
+    let json = flag(
+        alloc,
+        "json",
+        "Print an object of JSON for each element: its file, its name and its HTML",
+    );
+    let text = text
+        .conflicts_with("attr")?
+        .conflicts_with("count")?
+        .conflicts_with("json")?;
+    let attribute = attribute.conflicts_with("count")?.conflicts_with("json")?;
+    let count = count.conflicts_with("json")?;
+    command.arg(text)?.arg(attribute)?.arg(count)?.arg(json)
+}
+
+/// The command `select`.
+fn select<'a>(alloc: Global) -> Result<Command<'a>, AllocError>
+    ensures app { IfOk result (λ made. app_of made ≡ spec.select_command) }
+    ensures local { IfOk result IsLocal }
+{
+    let command = Command::new(alloc, "select")
+        .about("Print the elements of pages that selectors select; status 1 where there is none")
+        .arg(selector(alloc))?;
+    reads_pages(alloc, shows(alloc, command)?, ArgAction::Append)
+}
+
+/// A command with the options that say how links are printed.
+fn lists<'a>(alloc: Global, command: Command<'a>) -> Result<Command<'a>, AllocError>
+    ensures app { IfOk result (λ made. app_of made ≡ spec.with_listing (app_of command.entry)) }
+    ensures local { IsLocal command.entry → IfOk result IsLocal }
+{
+    let base = option(
+        alloc,
+        "base",
+        "URL",
+        "Print absolute links, relative to this URL where the page has no base of its own",
+    );
+    let anchors = flag(
+        alloc,
+        "anchors",
+        "Print links to a place in the page itself too",
+    );
+    let kinds = flag(
+        alloc,
+        "kind",
+        "Print the attribute before each link: href, src, srcset, action, data or poster",
+    );
+    let json = flag(
+        alloc,
+        "json",
+        "Print an object of JSON for each link: its file, its kind, its element and its URL",
+    );
+    let kinds = kinds.conflicts_with("json")?;
+    command.arg(base)?.arg(anchors)?.arg(kinds)?.arg(json)
+}
+
+/// The option of `links` by which the names of files are printed.
+fn with_names<'a>(alloc: Global) -> Result<Arg<'a>, AllocError>
+    ensures rule { IfOk result (λ made. rule_of made ≡ spec.with_names_rule) }
+    ensures local { IfOk result (λ made. made.global ≡ false) }
+{
+    let option = flag(
+        alloc,
+        "with-filename",
+        "Print the name of the file before each link, as where there are several files",
+    );
+    option.short('H').conflicts_with("no-filename")
+}
+
+/// A command with the options that say whether the names of files are printed; `-h` is one of them, so help has no short name.
+fn names<'a>(alloc: Global, command: Command<'a>) -> Result<Command<'a>, AllocError>
+    ensures app { IfOk result (λ made. app_of made ≡ spec.with_naming (app_of command.entry)) }
+    ensures local { IsLocal command.entry → IfOk result IsLocal }
+{
+    let without_names = flag(alloc, "no-filename", "Print no names of files").short('h');
+    let help = Arg::new(alloc, "help")
+        .long("help")
+        .action(ArgAction::Help)
+        .help("Print help");
+    command
+        .disable_help_flag(true)
+        .arg(with_names(alloc)?)?
+        .arg(without_names)?
+        .arg(help)
+}
+
+/// The command `links`.
+fn links<'a>(alloc: Global) -> Result<Command<'a>, AllocError>
+    ensures app { IfOk result (λ made. app_of made ≡ spec.links_command) }
+    ensures local { IfOk result IsLocal }
+{
+    let about = "List where pages lead, in href, src, srcset, action, data and poster";
+    let command = over_pages(alloc, "links", about, ArgAction::Append)?;
+    names(alloc, lists(alloc, command)?)
+}
+
+/// The program with no command.
+fn program<'a>(alloc: Global) -> Result<Command<'a>, AllocError>
+    ensures app { IfOk result (λ made. app_of made ≡ spec.program) }
+    ensures local { IfOk result IsLocal }
+{
+    let command = Command::new(alloc, "figpliers")
+        .version("0.1.0")
+        .propagate_version(true)
+        .bin_name("figpliers")?;
+    Ok(
+        command
+            .about(
+                "Parse errors, trees, links, texts, Markdown, elements and normal texts of HTML pages",
+            )
+            .after_help(
+                "Status: 0 done; 1 a page has parse errors, or no element was selected; 2 a fault",
+            )
+            .subcommand_required(true),
+    )
+}
+
+/// A command with the commands that have no options of their own but `normal`.
+fn with_plain<'a>(alloc: Global, command: Command<'a>) -> Result<Command<'a>, AllocError>
+    ensures { IfOk result (λ made. app_of made ≡ spec.with_plain (app_of command.entry)) }
+{
+    let markdown = over_pages(
+        alloc,
+        "markdown",
+        "Print pages as Markdown: CommonMark, with tables as GitHub's",
+        ArgAction::Append,
+    )?;
+    let text = over_pages(
+        alloc,
+        "text",
+        "Print the text of pages, without scripts and style sheets",
+        ArgAction::Append,
+    )?;
+    command.subcommand(markdown)?.subcommand(text)
+}
+
+/// The command line of the program.
+pub fn command_line<'a>(alloc: Global) -> Result<Command<'a>, AllocError>
+    ensures { IfOk result (λ made. app_of made ≡ spec.figpliers) }
+{
+    let errors = over_pages(
+        alloc,
+        "errors",
+        "List the parse errors of pages, as FILE:LINE: CODE; status 1 where there is one",
+        ArgAction::Append,
+    )?;
+    let normal = over_pages(
+        alloc,
+        "normal",
+        "Print the normal text of pages",
+        ArgAction::Append,
+    )?;
+    let command = program(alloc)?
+        .subcommand(errors)?
+        .subcommand(tree(alloc)?)?
+        .subcommand(links(alloc)?)?;
+    with_plain(alloc, command)?
+        .subcommand(select(alloc)?)?
+        .subcommand(normal)
+}
