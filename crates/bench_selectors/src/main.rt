@@ -27,12 +27,9 @@ fn main(rt: HostRuntime) -> Result<()> {
         bail!("the name of a page is missing");
     };
     let forest = page_of(&rt, alloc, path.as_str())?;
-    let Ok(index) = Index::new(alloc, &forest) else {
-        bail!("no memory for the index");
-    };
     for word in words.iter().skip(1) {
         match parse(alloc, word.as_str()) {
-            Ok(selectors) => measure(&rt, alloc, &forest, &index, word.as_str(), &selectors)?,
+            Ok(selectors) => measure(&rt, alloc, &forest, word.as_str(), &selectors)?,
             Err(SelectorError::Memory) => bail!("no memory for the selector"),
             Err(SelectorError::Syntax { .. }) => println!(rt; "refused")?,
         }
@@ -57,20 +54,22 @@ fn measure<R: Clock + Print + Eprint>(
     rt: &R,
     alloc: Global,
     forest: &Forest,
-    index: &Index<'_>,
     text: &str,
     selectors: &Selectors,
 ) -> Result<()> {
-    let start = Instant::now(rt)?;
-    let Ok(found) = index.select_all(forest.document(), selectors) else {
-        bail!("no memory for the search");
-    };
-    let seconds = start.elapsed(rt)?.as_secs_f64();
     let start = Instant::now(rt)?;
     let Ok(again) = select_all(alloc, forest, forest.document(), selectors) else {
         bail!("no memory for the search");
     };
     let once = start.elapsed(rt)?.as_secs_f64();
+    let Ok(index) = Index::new(alloc, forest) else {
+        bail!("no memory for the index");
+    };
+    let start = Instant::now(rt)?;
+    let Ok(found) = index.select_all(forest.document(), selectors) else {
+        bail!("no memory for the search");
+    };
+    let seconds = start.elapsed(rt)?.as_secs_f64();
     let numbers = numbers_of(alloc, forest, found.as_slice())?;
     println!(rt; "{numbers}")?;
     eprintln!(rt;
