@@ -75,7 +75,7 @@ stops files reading IsWritten f items i d name before one after left next out mi
       if-so (graver before one) _ _ (sym gives ∙ unwritten) (refl, refl, refl, refl),
     )
 
--- want of memory is told of every command
+-- out of memory is a refusal of every command
 pub refused : (job : Job) (errors errors' : Stream) → Tells (codes "figpliers") Memory errors errors' → IsRefused job errors errors'
 refused (Select selector show) errors errors' told = tt
 refused ErrorsJob errors errors' told = told

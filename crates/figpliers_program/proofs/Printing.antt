@@ -49,7 +49,7 @@ prints-behind old mid new first second (Err (Open why)) put prints = prints
 prints-behind old mid new first second (Err Read) put prints = prints
 prints-behind old mid new first second (Err Words) put prints = prints
 
--- what a serializer wrote, told as a fault of the page
+-- an error of the serializer, as an error of the page
 pub cut-as : (R : Type 0) (text : List ℕ) (old new : WriterView) (fault : SerializeFault) → Writes {R = R} text old (Err fault) new
     → IsCut text old (serialize_fault_of fault) new
 cut-as R text old new writing.Write wrote = wrote

@@ -64,7 +64,7 @@ begun table page old new is = record { document = is.document; is_document = is.
 same-view : (old new : WriterView) → new.written ≡ old.written → new.failures ≡ old.failures → new ≡ old
 same-view old new written failures = λ i. record { written = written i; failures = failures i }
 
--- a page in memory is not read with a fault, so what is no fault of writing is want of memory
+-- reading a page in memory does not fail, so an error other than a failed write is out of memory
 pub not-normalised : (table : List Row) (page : List ℕ) (left left' : Option (List ℕ)) (old new : WriterView) (fault : NormalFault)
     → left ≡ Some page → IsFailed table left left' old.written new.written fault
     → new.failures ≡ count_after (is_write_fault {T = Report} (Err fault)) old.failures

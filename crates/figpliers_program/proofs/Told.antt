@@ -1,4 +1,4 @@
--- What is told of faults, and how verdicts go together.
+-- How errors are reported, and how verdicts are combined.
 use Rattle.std.proofs.Common.{◌≡◌, ℕ, Bool, List, Option, refl}
 use Rattle.html_normal_program.specs.Streams.{IsPut}
 use Rattle.figpliers_program.specs.Verdicts.{Tells, fault_line, verdict_of}
@@ -6,7 +6,7 @@ use Rattle.figpliers_program.specs.declared.faults.PageFault.{PageFault}
 use Rattle.figpliers_program.specs.declared.faults.PageFault.TheVariants.{Memory, NotUtf8, Open, Read, Words, Write}
 use Rattle.figpliers_program.specs.declared.faults.Verdict.TheVariants.{Fault}
 
--- what is told of a fault that is none of writing to standard output
+-- an error other than a failed write to standard output is reported by its line
 pub tells-other : (name : List ℕ) (fault : PageFault) (errors errors' : Option (List ℕ)) (failed : Bool) → (fault ≡ Write → ⊥)
     → IsPut (fault_line name fault) errors errors' failed → Tells name fault errors errors'
 tells-other name Write errors errors' failed other put = absurd (other refl)

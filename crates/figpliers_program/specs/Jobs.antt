@@ -42,7 +42,7 @@ ArePagesDone files reading P [] left left' out out' errors errors' verdict =
 ArePagesDone files reading P (name ∷ names) left left' out out' errors errors' verdict =
     AreDone files reading P (name ∷ names) Nothing left left' out out' errors errors' verdict
 
--- Why nothing was done: of `select` what is given are no selectors, and else memory ran out, which is told.
+-- What is reported where nothing was done: out of memory, for every command but `select`. Of what `select` reports nothing is said.
 abbrev pub IsRefused : Job → (errors errors' : Stream) → Type 0
 IsRefused (Select selector show) errors errors' = Unit {0}
 IsRefused job errors errors' = Tells (codes "figpliers") Memory errors errors'
@@ -54,15 +54,15 @@ IsRun files asked left left' out out' errors errors' verdict =
     ⊎ ((table : List Row) × (rows_of STANDARD_ROWS.now ≡ Ok table) × ArePagesDone files asked.reading (IsWritten table asked.job)
     (map string_bytes asked.files.items) left left' out out' errors errors' verdict)
 
--- The words ask for nothing that can be done, which is told on standard error; or they ask for help, which is written to standard output.
+-- The outcome of arguments that name no command: an error, and nothing on standard output; or help, which is written to standard output.
 abbrev pub IsAnswered : (out out' : WriterView) (errors errors' : Stream) → Verdict → Type 0
 IsAnswered out out' errors errors' Fault = out' ≡ out
 IsAnswered out out' errors errors' Fine = (errors' ≡ errors) × ((text : List ℕ) × (out' ≡ with_bytes out text))
 IsAnswered out out' errors errors' Unwritten = (errors' ≡ errors) × ((text : List ℕ) × Broke out text out')
 IsAnswered out out' errors errors' verdict = ⊥
 
--- The outcome of the program, by the files and the words, the bytes of standard input that are left before and after it, what standard
--- output tells, and the bytes that were written to standard error.
+-- The outcome of the program, by the files and the words, the bytes of standard input that are left before and after it, the view of
+-- standard output, and the bytes that were written to standard error.
 abbrev pub IsOutcome : Files → List (List ℕ) → (left left' : Stream) (out out' : WriterView) (errors errors' : Stream) → Verdict → Type 0
 IsOutcome files words left left' out out' errors errors' verdict = ((left' ≡ left) × IsAnswered out out' errors errors' verdict)
     ⊎ ((asked : Asked) × AsksFor words asked × IsRun files asked left left' out out' errors errors' verdict)

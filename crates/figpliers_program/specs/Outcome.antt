@@ -12,7 +12,7 @@ use Rattle.figpliers_program.specs.declared.faults.Verdict.TheVariants.{Unwritte
 abbrev pub Stream : Type 0
 Stream = Option (List ℕ)
 
--- how a page that was done, or had a fault, is told: its verdict, and the line of the fault on standard error
+-- how a page ends: its verdict, and for an error its line on standard error
 abbrev pub Ends : (name : List ℕ) → Result Verdict PageFault → (errors errors' : Stream) → Verdict → Type 0
 Ends name (Ok done) errors errors' verdict = (verdict ≡ done) × (errors' ≡ errors)
 Ends name (Err fault) errors errors' verdict = (verdict ≡ verdict_of fault) × Tells name fault errors errors'

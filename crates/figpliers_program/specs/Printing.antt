@@ -16,7 +16,7 @@ abbrev pub Prints : {R : Type 0} → List ℕ → WriterView → Result R PageFa
 Prints text old (Ok _) new = new ≡ with_bytes old text
 Prints text old (Err fault) new = IsCut text old fault new
 
--- A text that P describes, with an answer, was written; or nothing was, for want of memory; or a beginning of such a text.
+-- A text that P describes, with its answer, was written; or, after an error, a prefix of such a text; or nothing, when out of memory.
 abbrev pub PrintsSome : {R : Type 0} → (List ℕ → R → Type 0) → WriterView → Result R PageFault → WriterView → Type 0
 PrintsSome P old (Ok answer) new = (text : List ℕ) × P text answer × (new ≡ with_bytes old text)
 PrintsSome {R} P old (Err fault) new = ((fault ≡ Memory) × (new ≡ old))

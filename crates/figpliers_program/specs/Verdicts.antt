@@ -1,4 +1,4 @@
--- How pages went, what is told of a fault, and the status.
+-- The verdict of each page, how an error is reported, and the exit status.
 use Rattle.std.specs.Prelude.{◌≡◌, ◌++◌, ◌∷◌, ℕ, Bool, List, [], codes, if◌then◌else◌, nat_lt}
 use Rattle.std.specs.Fmt.{decimal}
 use Rattle.html_normal_program.specs.Streams.{IsPut}
@@ -55,8 +55,8 @@ abbrev pub verdict_of : PageFault → Verdict
 verdict_of Write = Unwritten
 verdict_of fault = Fault
 
--- What is told of a fault on standard error: the line, or a beginning of it where a write failed; and nothing where standard output could
--- not be written.
+-- How an error is reported on standard error: by its line, or a prefix of the line where a write failed. A failed write to standard output
+-- is not reported.
 abbrev pub Tells : List ℕ → PageFault → (errors errors' : Option (List ℕ)) → Type 0
 Tells name Write errors errors' = errors' ≡ errors
 Tells name fault errors errors' = (failed : Bool) × IsPut (fault_line name fault) errors errors' failed

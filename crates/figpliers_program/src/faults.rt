@@ -185,8 +185,8 @@ fn put_line<Errors: Target>(
     put_rest(errors, fault)
 }
 
-/// Writes to standard error what went wrong with a page, or with the program itself. Of a failed write to standard output nothing is said,
-/// since what reads it may have had enough: who called the program tells that by its verdict.
+/// Reports on standard error what went wrong with a page, or with the program itself. A failed write to standard output is not reported:
+/// its reader may have closed the pipe, and the caller sees it by the verdict.
 pub fn report<Errors: Target>(errors: &mut Errors, name: &str, fault: PageFault) -> Verdict
     ensures verdict { result ≡ verdict_of fault }
     ensures line { Tells name.now fault (Errors.written errors.old) (Errors.written errors.new) }
