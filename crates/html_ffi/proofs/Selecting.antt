@@ -10,7 +10,7 @@ use Rattle.html_normal.specs.Normal.{IsRead}
 use Rattle.html_normal.specs.declared.report.Report.{Report}
 use Rattle.html_tokens.specs.Table.{Row}
 use Rattle.html_ffi.specs.Answers.{Fails, FailsToSelect}
-use Rattle.html_ffi.specs.Calls.{IsSelected, IsSelection, IsToldToo}
+use Rattle.html_ffi.specs.Calls.{IsSelected, IsSelection, IsSelectionOf}
 use Rattle.html_ffi.specs.declared.answer.Answer.{Answer}
 use Rattle.html_ffi.specs.declared.answer.Answer.TheVariants.{Done, NotUtf8, TooShort, Memory, TooLarge, TableNotUtf8}
 use Rattle.html_ffi.specs.declared.answer.Answer.TheVariants.{TableLine, TableName, TableDuplicate, TableValue}
@@ -35,7 +35,8 @@ fails-too file selector page Selector at why = absurd why
 -- what selectors select in a page that was read to its end
 pub selection-made : (file selector page text : List ℕ) (rows : List Row) (f : Forest) (bytes : List ℕ) (told : Report)
     → text ≡ selector → IsUtf8 selector → IsTableFile file (Some []) rows
-    → IsRead rows false page (Some []) (with_errors 0 f) f.errors → IsToldToo text f bytes told → IsSelection selector file page bytes told
+    → IsRead rows false page (Some []) (with_errors 0 f) f.errors → IsSelectionOf text f bytes told
+    → IsSelection selector file page bytes told
 selection-made file selector page text rows f bytes told same utf8 table read is = record {
   rows = rows;
   table = table;

@@ -27,14 +27,14 @@ pub record IsNormalText (file page text : List ℕ) (told : Report) : Type 0 whe
   pub table : IsTableFile file (Some []) rows
   pub normal : IsNormalised rows false page (Some []) (Some []) (Some text) told
 
--- Bytes are the image of a forest, and this is told of it.
+-- Bytes are the image of a forest, with the report of it.
 pub record IsToldOf (f : Forest) (bytes : List ℕ) (told : Report) : Type 0 where
   pub image : bytes ≡ image_of f
   pub plain : told.plain ≡ is_plain_forest f
   pub quirks : told.quirks ≡ f.quirks
   pub errors : told.errors ≡ f.errors
 
--- Bytes are the image of a page's document, and this is told of the page.
+-- Bytes are the image of a page's document, with the report of the page.
 pub record IsTreeImage (file page bytes : List ℕ) (told : Report) : Type 0 where
   pub rows : List Row
   pub table : IsTableFile file (Some []) rows
@@ -51,14 +51,14 @@ pub record IsSelected (selector : List ℕ) (f : Forest) (bytes : List ℕ) : Ty
   pub is_found : IsFound (chars selector) f 0 found
   pub numbers : bytes ≡ words found
 
--- Bytes are the numbers of what selectors select in a forest, and this is told of it.
-pub record IsToldToo (selector : List ℕ) (f : Forest) (bytes : List ℕ) (told : Report) : Type 0 where
+-- Bytes are the numbers of what selectors select in a forest, with the report of it.
+pub record IsSelectionOf (selector : List ℕ) (f : Forest) (bytes : List ℕ) (told : Report) : Type 0 where
   pub selected : IsSelected selector f bytes
   pub plain : told.plain ≡ is_plain_forest f
   pub quirks : told.quirks ≡ f.quirks
   pub errors : told.errors ≡ f.errors
 
--- Bytes are the numbers of what selectors select in a page's document, and this is told of the page.
+-- Bytes are the numbers of what selectors select in a page's document, with the report of the page.
 pub record IsSelection (selector file page bytes : List ℕ) (told : Report) : Type 0 where
   pub rows : List Row
   pub table : IsTableFile file (Some []) rows

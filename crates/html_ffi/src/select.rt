@@ -2,7 +2,7 @@
 ghost use Rattle.std.specs.Prelude.{◌≡◌, ℕ, List, IfErr, IfOk, length};
 ghost use Rattle.std.specs.Str.{IsUtf8};
 ghost use Rattle.html_ffi.specs.Answers.{FailsToSelect};
-ghost use Rattle.html_ffi.specs.Calls.{IsSelected, IsSelection, IsToldToo, MeansSelection};
+ghost use Rattle.html_ffi.specs.Calls.{IsSelected, IsSelection, IsSelectionOf, MeansSelection};
 
 use crate::answer::{Answer, Failure, no_memory};
 use crate::report::FigReport;
@@ -43,9 +43,9 @@ fn selected(alloc: Global, forest: &Forest, text: &str) -> Result<Vec<u8>, Failu
     Ok(node_words(alloc, found.as_slice())?)
 }
 
-/// The same, and what is told of the forest.
+/// The same, with the report of the forest.
 fn told_selection(alloc: Global, forest: &Forest, text: &str) -> Result<(Vec<u8>, Report), Failure>
-    ensures ok { IfOk result (λ made. IsToldToo text.now forest.now made.0.items made.1) }
+    ensures ok { IfOk result (λ made. IsSelectionOf text.now forest.now made.0.items made.1) }
     ensures err { IfErr result (λ failure. (file page : List ℕ) → FailsToSelect file text.now page failure.answer failure.at) }
 {
     let bytes = selected(alloc, forest, text)?;
@@ -60,7 +60,7 @@ fn told_selection(alloc: Global, forest: &Forest, text: &str) -> Result<(Vec<u8>
     Ok((bytes, told))
 }
 
-/// The numbers of what selectors select in a page's document, and what is told of the page.
+/// The numbers of what selectors select in a page's document, with the report of the page.
 fn page_selection(
     alloc: Global,
     file: &[u8],

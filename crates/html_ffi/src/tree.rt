@@ -39,7 +39,7 @@ fn is_plain(forest: &Forest) -> Result<bool, Failure>
     }
 }
 
-/// The image of a forest, and what is told of it.
+/// The image of a forest, with the report of it.
 fn told_image(alloc: Global, forest: &Forest) -> Result<(Vec<u8>, Report), Failure>
     ensures ok { IfOk result (λ made. IsToldOf forest.now made.0.items made.1) }
     ensures err { IfErr result (λ failure. FailsOver forest.now failure.answer failure.at) }
@@ -65,7 +65,7 @@ pub(crate) fn document_of(alloc: Global, table: References, page: &[u8]) -> Resu
     }
 }
 
-/// The image of a page's document, and what is told of the page.
+/// The image of a page's document, with the report of the page.
 fn page_image(alloc: Global, file: &[u8], page: &[u8]) -> Result<(Vec<u8>, Report), Failure>
     ensures ok { IfOk result (λ made. IsTreeImage file.now page.now made.0.items made.1) }
     ensures err { IfErr result (λ failure. Fails file.now page.now failure.answer failure.at) }
