@@ -24,8 +24,9 @@ use Rattle.html_rules.specs.declared.tag_set.TagSet.TheVariants as set
 use Rattle.html_rules_laws.specs.Soundness.{AreListed, IsStanding}
 use Rattle.html_rules_laws.proofs.TreePreserved.AdoptionAgency.{turn-Standing}
 use Rattle.html_rules_laws.proofs.TreePreserved.StandingSteps.{parse_error-Standing}
-use Rattle.html_stack.specs.Adopting.{IsTurnOf, came_to, told, turned, with_all}
-use Rattle.html_stack.specs.Found.{IsFurthest, IsNewest}
+use Rattle.html_rules.specs.declared.insertion_mode.InsertionMode.{InsertionMode}
+use Rattle.html_stack.specs.Adopting.{IsCurrentNewest, IsTurnOf, came_to, told, turned, with_all}
+use Rattle.html_stack.specs.Found.{IsFurthest, IsNewest, older_entries}
 use Rattle.html_stack.specs.Stacks.{Stacked, entries_of, entry_of, joined, open_of, opens_of}
 use Rattle.html_stack.specs.declared.entries.FormatEntry.{FormatEntry}
 use Rattle.html_stack.specs.declared.entries.FormatEntry.TheVariants as held
@@ -286,6 +287,52 @@ pub agency-turns : (name : List ℕ) (s : State)
     && not (is_listed (current_number s.open_elems) s.active_formatting)) → adoption_turns 8 name s ≡ adoption_agency name s
 unfolding adoption_agency
 agency-turns name s found = rw (← found) refl
+
+-- the element of the newest entry is the current node: both leave
+turn-newest : (name : List ℕ) (s : State) (f : Forest) (x : Open) (xs : List Open) (tag : Tag) (entries : List Entry)
+    (modes : List InsertionMode) → bytes_eq tag.name name ≡ true → nat_eq x.number x.number ≡ true
+    → came_to false (joined s (record { open_elems = xs; active_formatting = entries; template_modes = modes }) f) ≡ adoption_turn name
+    (joined s (record { open_elems = x ∷ xs; active_formatting = Element x.number tag ∷ entries; template_modes = modes }) f)
+unfolding adoption_turn
+turn-newest name s f x xs tag entries modes named same = rw (named, same, same) refl
+
+agency-newest : (name : List ℕ) (s : State) (f : Forest) (x : Open) (xs : List Open) (tag : Tag) (entries : List Entry)
+    (modes : List InsertionMode) → bytes_eq tag.name name ≡ true
+    → joined s (record { open_elems = xs; active_formatting = entries; template_modes = modes }) f ≡ adoption_agency name
+    (joined s (record { open_elems = x ∷ xs; active_formatting = Element x.number tag ∷ entries; template_modes = modes }) f)
+agency-newest name s f x xs tag entries modes named =
+    let old : Stacked = record { open_elems = x ∷ xs; active_formatting = Element x.number tag ∷ entries; template_modes = modes } in
+    let before : State = joined s old f in
+    let same : nat_eq x.number x.number ≡ true = eq-eqb x.number x.number refl in
+    let listed : false ≡ (current_is (is_named name) (x ∷ xs)
+    && not (is_listed x.number (Element x.number tag ∷ entries))) = rw same (sym (and-false (is_named name x))) in
+    turns-end 7 name before (joined s (record { open_elems = xs; active_formatting = entries; template_modes = modes }) f)
+    (turn-newest name s f x xs tag entries modes named same)
+    ∙ agency-turns name before listed
+  where
+    and-false : (b : Bool) → (b && false) ≡ false
+    and-false true = refl
+    and-false false = refl
+
+pub agency-current : (name : List ℕ) (s : State) (f : Forest) (old : Stacked) → IsCurrentNewest name old.open_elems old.active_formatting
+    → joined s (record old {
+      open_elems = without_current old.open_elems;
+      active_formatting = older_entries old.active_formatting;
+    }) f ≡ adoption_agency name (joined s old f)
+agency-current name s f old is = by old.open_elems old.active_formatting old.template_modes is where
+  by : (xs : List Open) (entries : List Entry) (modes : List InsertionMode) → IsCurrentNewest name xs entries
+      → joined s (record {
+        open_elems = without_current xs;
+        active_formatting = older_entries entries;
+        template_modes = modes;
+      }) f ≡ adoption_agency name (joined s (record { open_elems = xs; active_formatting = entries; template_modes = modes }) f)
+  by [] entries modes is = absurd is
+  by (x ∷ xs) [] modes is = absurd is
+  by (x ∷ xs) (Marker ∷ entries) modes is = absurd is
+  by (x ∷ xs) (Element n tag ∷ entries) modes is =
+      subst (λ m. joined s (record { open_elems = xs; active_formatting = entries; template_modes = modes }) f ≡ adoption_agency name
+      (joined s (record { open_elems = x ∷ xs; active_formatting = Element m tag ∷ entries; template_modes = modes }) f))
+      (sym is.0) (agency-newest name s f x xs tag entries modes is.1)
 
 pub misnested-none : (s : State) → last_named (codes "a") s.active_formatting ≡ None → s ≡ handle_misnested_a_tags s
 unfolding handle_misnested_a_tags

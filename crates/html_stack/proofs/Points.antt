@@ -6,18 +6,23 @@ use Rattle.std.specs.Str.{bytes_eq}
 use Rattle.std.proofs.Math.Seq.{take-length}
 use Rattle.std.proofs.lemmas.Grind.{reverse_onto}
 use Rattle.std.proofs.lemmas.List.{map-append, reverse-append, take-append-drop}
-use Rattle.markup.specs.Forest.{Forest, IsLoose, IsNode, IsParent, IsPlace, node_count, parent_at, parent_of, place_before, place_near}
+use Rattle.markup.specs.Forest.{Forest, IsLoose, IsNode, IsParent, IsPlace, create_element, node_count, parent_at, parent_of}
+use Rattle.markup.specs.Forest.{place_before, place_near}
 use Rattle.markup.specs.Named.{IsTree, is_named}
-use Rattle.markup.specs.Names.{html_namespace, is_html_name}
+use Rattle.markup.specs.Names.{html_name, html_namespace, is_html_name}
 use Rattle.markup.specs.Namespaces.{name_of}
 use Rattle.markup.specs.declared.namespaces.KnownNamespace.TheVariants as KnownNamespace
 use Rattle.markup.specs.declared.attributes.Attribute.{Attribute}
+use Rattle.markup.specs.declared.flags.ElementFlags.{ElementFlags}
+use Rattle.html_tokens.specs.declared.tags.Tag.{Tag}
+use Rattle.html_names.specs.declared.element_class.ElementClass.{ElementClass}
 use Rattle.markup.proofs.Forests.{IsMade-create_element, IsParent-place}
 use Rattle.markup.proofs.PutTexts.{IsParent-document, IsParent-element, element-IsNode}
 use Rattle.markup.proofs.Trees.{IsPlace-before, IsPlace-near}
 use Rattle.html_rules.specs.Names.{Namespace, Html, MathMl, Svg, Other, element_name_of, flags_of, is_html, is_mathml}
 use Rattle.html_rules.specs.Names.{mathml_namespace, namespace_of, svg_namespace}
-use Rattle.html_rules.specs.Places.{create_root, foster_place, insert_element, open_element, place_for, put_element}
+use Rattle.html_rules.specs.Places.{create_root, foster_place, insert_and_pop_element_for, insert_element, insert_element_for}
+use Rattle.html_rules.specs.Places.{open_element, place_for, put_element}
 use Rattle.html_rules.specs.Sets.{is_among, mathml_names_of, names_in, names_of, svg_names_of}
 use Rattle.html_rules.specs.Stack.{number_from, root_number}
 use Rattle.html_rules.specs.State.{Entry, Open, State, current_is, current_node, current_number, is_in}
@@ -25,7 +30,7 @@ use Rattle.html_rules.specs.declared.tag_set.TagSet.TheVariants as set
 use Rattle.html_rules_laws.specs.Soundness.{AreOpened, IsOpened, IsOwn, IsStanding}
 use Rattle.html_rules_laws.proofs.TreePreserved.Standing.{IsPart, Stays, changed-Standing, gone, opened-Standing, part-opened, part-same}
 use Rattle.html_rules_laws.proofs.TreePreserved.StandingTrees.{Made, made-Made, put-Made}
-use Rattle.html_stack.specs.Inserting.{IsFor, IsPoint, LeavesStanding, inserted, opened_as, place_at, with_made, with_put}
+use Rattle.html_stack.specs.Inserting.{IsFor, IsPoint, LeavesStanding, element_for, inserted, opened_as, place_at, with_made, with_put}
 use Rattle.html_stack.specs.Stacks.{Stacked, joined, open_of, opens_of}
 use Rattle.html_stack.specs.declared.entries.InsertionPoint.{InsertionPoint}
 use Rattle.html_stack.specs.declared.entries.InsertionPoint.TheVariants.{LastChild, BeforeSibling, TableFosterParenting}
@@ -178,6 +183,12 @@ put-at node point f e tree at =
           (subst (λ place. parent_at place < node_count f) (sym (place-parents node f g point is.parents)) parent.there);
     }
 
+-- the HTML element of a tag is made with its name, its attributes and the flags that follow from them
+pub tag-made : (f g : Forest) (class : ElementClass) (tag : Tag) (flags : ElementFlags) (name : List ℕ) (attributes seen : List Attribute)
+    → g ≡ create_element f (html_name name) attributes flags → name ≡ tag.name → attributes ≡ tag.attrs
+    → flags ≡ flags_of Html tag.name seen tag.had_duplicate_attributes → g ≡ with_made f (element_for class tag)
+tag-made f g class tag flags name attributes seen made named listed flagged = rw (html-back, made, flagged, named, listed) refl
+
 -- and that is put there
 pub put-Point : {H : Type 0} (node : H → ℕ) (point : InsertionPoint H) (f : Forest) (e : NewElement)
     (xs : List Open) → IsTree f → IsPoint node f point → AreOpened f xs → Made f (with_put node point f e) xs (opened_as f e)
@@ -257,6 +268,13 @@ inserted-for space name attributes twice e s is = rw (is.in_namespace, is.named,
 pub put-for : (space : Namespace) (name : List ℕ) (attributes : List Attribute) (twice : Bool) (e : NewElement)
     (s : State) → IsFor space name attributes twice e → inserted NoPush e s ≡ put_element space name attributes twice s
 put-for space name attributes twice e s is = rw (is.in_namespace, is.named, is.with_attributes, is.had_duplicate_attributes) refl
+
+-- the same of the element that a tag makes
+pub inserted-tag : (class : ElementClass) (tag : Tag) (s : State) → inserted Push (element_for class tag) s ≡ insert_element_for tag s
+inserted-tag class tag s = rw html-back refl
+
+pub put-tag : (class : ElementClass) (tag : Tag) (s : State) → inserted NoPush (element_for class tag) s ≡ insert_and_pop_element_for tag s
+put-tag class tag s = rw html-back refl
 
 -- the place of the current node
 pub current-at : {H : Type 0} (node : H → ℕ) (xs : List (OpenElement H)) (k : ℕ) (x : OpenElement H)

@@ -77,6 +77,18 @@ divided node xs items i within wait stay = record {
   stay = stay;
 }
 
+-- where the newest entry stays, all do
+pub all-settled : (xs : List Open) (entries : List Entry) (count : ℕ) → count ≡ length entries → IsSettled xs entries
+    → IsDivided xs entries count
+all-settled xs entries count e stay = record {
+  waiting = [];
+  settled = entries;
+  parts = refl;
+  size = sym e;
+  wait = refl;
+  stay = stay;
+}
+
 -- entries as they lie, by those that are newer and older than one of them
 pub at-place : {H : Type 0} (node : H → ℕ) (items : List (FormatEntry H)) (place : ℕ) (newer older : List Entry)
     (n : ℕ) (tag : Tag) → entries_of node items ≡ newer ++ Element n tag ∷ older → length older ≡ place → place < length items

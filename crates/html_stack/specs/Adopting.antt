@@ -1,5 +1,6 @@
 -- The adoption agency over a sink.
-use Rattle.std.specs.Prelude.{◌≡◌, ◌≢◌, ◌<◌, ℕ, Bool, true, false, length, slice_index_or, List, map, Option, Some, None}
+use Rattle.std.specs.Prelude.{◌≡◌, ◌≢◌, ◌<◌, ℕ, Bool, true, false, length, slice_index_or, List, ◌∷◌, map, Option, Some, None}
+use Rattle.std.specs.Str.{bytes_eq}
 use Rattle.markup.specs.Forest.{Forest, Last, add_error, data_of, is_contents, node_count, put, remove, reparent_children}
 use Rattle.markup.specs.Named.{IsTree}
 use Rattle.html_rules.specs.Adoption.{Turned, Walk, adopt, adopt_listed, begin_walk, between, furthest_block, is_number}
@@ -27,6 +28,11 @@ walk_of node f entries copies = record {
   copies = map (open_of node) copies.elements.items;
   last_node = node copies.last;
 }
+
+-- the newest entry is that of the current node, and its tag has this name
+abbrev pub IsCurrentNewest : List ℕ → List Open → List Entry → Type 0
+IsCurrentNewest name (x ∷ xs) (Element n tag ∷ entries) = (n ≡ x.number) × (bytes_eq tag.name name ≡ true)
+IsCurrentNewest name xs entries = ⊥
 
 -- a node that may leave its parent and be put elsewhere
 pub record IsMovable (f : Forest) (n : ℕ) : Type 0 where

@@ -1,10 +1,11 @@
 -- What a walk from the newest back finds: a place, counted from the oldest, as elements and entries lie.
 use Rattle.std.specs.Prelude.{◌≡◌, ◌<◌, ℕ, suc, Bool, true, false, List, length, map, reverse, drop, slice_index_or, Option}
-use Rattle.std.specs.Prelude.{Some, None, is_some}
+use Rattle.std.specs.Prelude.{Some, None, is_some, [], ◌∷◌}
 use Rattle.std.specs.List.{list_any, remove}
 use Rattle.html_tokens.specs.declared.tags.Tag.{Tag}
 use Rattle.html_rules.specs.Adoption.{furthest_block}
 use Rattle.html_rules.specs.Formatting.{Listed, last_named, with_room}
+use Rattle.html_rules.specs.State.{Entry}
 use Rattle.html_stack.specs.Stacks.{entries_of, open_of, opens_of}
 use Rattle.html_stack.specs.declared.entries.FormatEntry.{FormatEntry}
 use Rattle.html_stack.specs.declared.entries.FormatEntry.TheVariants.{Element, Marker}
@@ -50,3 +51,8 @@ pub record IsRoom {H : Type 0} (node : H → ℕ) (tag : Tag) (xs : List (Format
 abbrev pub IsTagAt : {H : Type 0} → List (FormatEntry H) → ℕ → Option Tag → Type 0
 IsTagAt {H} xs i None = slice_index_or xs i Marker ≡ Marker
 IsTagAt {H} xs i (Some tag) = (handle : H) × (slice_index_or xs i Marker ≡ Element handle tag)
+
+-- the entries without the newest
+abbrev pub older_entries : List Entry → List Entry
+older_entries [] = []
+older_entries (entry ∷ entries) = entries

@@ -1,8 +1,12 @@
 -- Where nodes are put, and elements that are to be made.
-use Rattle.std.specs.Prelude.{◌≡◌, ℕ, Bool, IfOk, List, Option, Some, None, IsSome, Result}
+use Rattle.std.specs.Prelude.{◌≡◌, ℕ, Bool, false, IfOk, List, Option, Some, None, IsSome, Result}
 use Rattle.markup.specs.Forest.{Forest, IsNode, IsParent, Last, Place, node_count, parent_of, place_before, place_near, put}
+use Rattle.markup.specs.Namespaces.{name_of}
 use Rattle.markup.specs.declared.attributes.Attribute.{Attribute}
+use Rattle.markup.specs.declared.namespaces.KnownNamespace.TheVariants as KnownNamespace
+use Rattle.html_tokens.specs.declared.tags.Tag.{Tag}
 use Rattle.html_names.specs.Classes.{IsClassOf}
+use Rattle.html_names.specs.declared.element_class.ElementClass.{ElementClass}
 use Rattle.html_rules.specs.Names.{Namespace, namespace_of}
 use Rattle.html_rules.specs.Places.{insert_element, put_element, with_element}
 use Rattle.html_rules.specs.State.{Entry, Open, State, current_node}
@@ -59,6 +63,17 @@ pub record IsFor (space : Namespace) (name : List ℕ) (attributes : List Attrib
   pub named : e.name ≡ name
   pub with_attributes : e.attrs ≡ attributes
   pub had_duplicate_attributes : e.had_duplicate_attributes ≡ twice
+
+-- the HTML element that a tag makes
+abbrev pub element_for : ElementClass → Tag → NewElement
+element_for class tag = record {
+  namespace = name_of KnownNamespace.Html;
+  name = tag.name;
+  class = class;
+  attrs = tag.attrs;
+  had_duplicate_attributes = tag.had_duplicate_attributes;
+  already_started = false;
+}
 
 -- a tree with the element
 abbrev pub with_made : Forest → NewElement → Forest

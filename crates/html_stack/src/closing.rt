@@ -25,10 +25,12 @@ impl<Sink: TreeSink> Stack<Sink> {
         requires { IsWanted wanted }
         ensures { Performs (expect_to_close (passes wanted.entry)) self.old self.new (Sink.forest sink.old) (Sink.forest sink.new) }
     {
-        if !self.current_is(wanted) {
+        if self.current_is(wanted) {
+            self.drop_current();
+        } else {
             sink.parse_error(CowStr::Borrowed("elements are open within the one that ends"));
+            self.pop_until_wanted(wanted);
         }
-        self.pop_until_wanted(wanted);
     }
 
     /// Pops elements up to an HTML element of a name, which comes with its class; an error, if that is not the current node. The sink is
@@ -106,7 +108,9 @@ impl<Sink: TreeSink> Stack<Sink> {
         requires opened { AreOpened (Sink.forest sink.old) self.old.open_elems }
         ensures { Performs (process_end_tag_in_body name.now) self.old self.new (Sink.forest sink.old) (Sink.forest sink.new) }
     {
-        if self.finds_generic(class, name) {
+        if self.current_is(Wanted::Named(class, name)) {
+            self.drop_current();
+        } else if self.finds_generic(class, name) {
             self.close_implied(sink, TagSet::CursoryImpliedEnd, Wanted::Named(class, name));
             self.close_wanted(sink, Wanted::Named(class, name));
         } else {

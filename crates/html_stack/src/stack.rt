@@ -279,6 +279,15 @@ impl<Sink: TreeSink> Stack<Sink> {
         Some(element)
     }
 
+    /// Pops the current node. The sink is not told.
+    #[inline(always)]
+    pub(crate) fn drop_current(&mut self)
+        ensures { self.new ≡ record self.old { open_elems = without_current self.old.open_elems } }
+    {
+        drop(self.open_elems.pop());
+        self.depths.cut(self.open_elems.len());
+    }
+
     /// Pops all elements, the current node first, and tells the sink of each.
     pub fn pop_all(&mut self, sink: &mut Sink)
         requires { AreOpened (Sink.forest sink.old) self.old.open_elems }

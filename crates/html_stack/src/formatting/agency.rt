@@ -1,5 +1,5 @@
 //! The adoption agency (HTML Standard, section 13.2.6.4.7, "the adoption agency algorithm"), and the start tag that it is asked for first.
-ghost use Rattle.std.specs.Prelude.{◌≡◌, ◌≤◌, ◌&&◌, codes, not, IfErr, IfOk, OnOk};
+ghost use Rattle.std.specs.Prelude.{◌≡◌, ◌≤◌, ◌&&◌, codes, not, true, IfErr, IfOk, OnOk};
 ghost use Rattle.markup.specs.Forest.{node_count};
 ghost use Rattle.markup.specs.declared.fault.ParseFault.TheVariants.{Memory};
 ghost use Rattle.html_names.specs.Classes.{IsClassOf};
@@ -7,9 +7,10 @@ ghost use Rattle.html_rules.specs.Adoption.{adoption_agency, adoption_turn, adop
 ghost use Rattle.html_rules.specs.Formatting.{is_listed};
 ghost use Rattle.html_rules.specs.Names.{Html};
 ghost use Rattle.html_rules.specs.State.{State, current_is, current_number, is_named};
-ghost use Rattle.html_stack.specs.Adopting.{came_to};
-ghost use Rattle.html_stack.specs.Stacks.{joined, PerformsWith, StandsIn};
+ghost use Rattle.html_stack.specs.Adopting.{IsCurrentNewest, came_to};
+ghost use Rattle.html_stack.specs.Stacks.{entries_of, joined, opens_of, PerformsWith, StandsIn};
 
+use crate::entries::{FormatEntry, OpenElement};
 use crate::formatting::positions::in_list;
 use crate::formatting::turns::{formatting_element, turn_listed};
 use crate::stack::Stack;
@@ -18,6 +19,25 @@ use crate::wanted::Wanted;
 use html_names::ElementClass;
 use markup::{LocalName, ParseFault, TreeSink};
 use std::borrow::CowStr;
+
+/// Whether the newest entry is that of the current node, and was made for a tag of this name: an end tag of that name ends just this
+/// element.
+#[inline(always)]
+fn is_current_newest<Sink: TreeSink>(
+    sink: &Sink,
+    elements: &[OpenElement<Sink::Handle>],
+    entries: &[FormatEntry<Sink::Handle>],
+    name: &LocalName,
+) -> bool
+    ensures { result ≡ true → IsCurrentNewest name.now (opens_of Sink.node elements.now) (entries_of Sink.node entries.now) }
+{
+    match (elements.last(), entries.last()) {
+        (Some(element), Some(FormatEntry::Element(handle, tag))) => {
+            sink.same_node(&element.handle, handle) && tag.name == *name
+        }
+        _ => false,
+    }
+}
 
 impl<Sink: TreeSink> Stack<Sink> {
     /// Whether the current node is an HTML element of a name, and is not listed. The name comes with its class.
@@ -100,6 +120,36 @@ impl<Sink: TreeSink> Stack<Sink> {
     /// elements opened since the formatting element, times the number of entries. On [`ParseFault::Memory`], the only fault, some turns,
     /// or a part of one, may have been done.
     pub fn adoption_agency(
+        &mut self,
+        sink: &mut Sink,
+        class: ElementClass,
+        name: &LocalName,
+        foster: bool,
+    ) -> Result<(), ParseFault>
+        requires class { IsClassOf Html name.now class }
+        requires standing { StandsIn (Sink.forest sink.old) self.old }
+        ensures ok { OnOk result (PerformsWith foster (adoption_agency name.now) self.old self.new
+            (Sink.forest sink.old) (Sink.forest sink.new)) }
+        ensures kept { StandsIn (Sink.forest sink.new) self.new }
+        ensures grows { node_count (Sink.forest sink.old) ≤ node_count (Sink.forest sink.new) }
+        ensures fault { IfErr result (λ fault. fault ≡ Memory) }
+    {
+        if is_current_newest(
+            sink,
+            self.open_elems.as_slice(),
+            self.active_formatting.as_slice(),
+            name,
+        ) {
+            self.drop_current();
+            self.drop_newest();
+            return Ok(());
+        }
+        self.adopt_in_turns(sink, class, name, foster)
+    }
+
+    /// The same, where nothing is known of the current node.
+    #[inline(never)]
+    fn adopt_in_turns(
         &mut self,
         sink: &mut Sink,
         class: ElementClass,

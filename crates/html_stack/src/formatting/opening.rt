@@ -44,7 +44,27 @@ fn waits<Sink: TreeSink>(
     }
 }
 
+/// Whether the newest entry, if there is one, is a marker or that of the current node, so that nothing is to be opened again.
+#[inline(always)]
+fn is_newest_settled<Sink: TreeSink>(
+    sink: &Sink,
+    elements: &[OpenElement<Sink::Handle>],
+    entries: &[FormatEntry<Sink::Handle>],
+) -> bool
+    ensures { result ≡ true → IsSettled (opens_of Sink.node elements.now) (entries_of Sink.node entries.now) }
+{
+    match entries.last() {
+        None => true,
+        Some(FormatEntry::Marker) => true,
+        Some(FormatEntry::Element(handle, _)) => match elements.last() {
+            None => false,
+            Some(element) => sink.same_node(&element.handle, handle),
+        },
+    }
+}
+
 /// How many entries there are up to and with the last that does not wait.
+#[inline(never)]
 fn count_settled<Sink: TreeSink>(
     alloc: Global,
     sink: &Sink,
@@ -127,10 +147,18 @@ impl<Sink: TreeSink> Stack<Sink> {
     }
 
     /// How many entries stay as they are where elements are opened again: those up to and with the last that is a marker or open.
+    #[inline(always)]
     fn settled(&self, sink: &Sink) -> usize
         requires { StandsIn (Sink.forest sink.now) self.now }
         ensures { IsDivided self.now.open_elems self.now.active_formatting result }
     {
+        if is_newest_settled(
+            sink,
+            self.open_elems.as_slice(),
+            self.active_formatting.as_slice(),
+        ) {
+            return self.listed();
+        }
         count_settled(
             self.allocator(),
             sink,
@@ -168,6 +196,7 @@ impl<Sink: TreeSink> Stack<Sink> {
     }
 
     /// The element of an entry is inserted again, and the entry stands for the new one.
+    #[inline(never)]
     fn open_again(&mut self, sink: &mut Sink, place: usize, foster: bool) -> Result<(), ParseFault>
         requires place { place < length self.old.active_formatting }
         requires standing { StandsIn (Sink.forest sink.old) self.old }
@@ -191,6 +220,7 @@ impl<Sink: TreeSink> Stack<Sink> {
     /// name and attributes, since its entry keeps the tag. On [`ParseFault::Memory`], the only fault, some of them, the first ones, may
     /// have been inserted. Each entry that is looked at is looked for among the open elements; where nothing has to be opened, that is
     /// one.
+    #[inline(always)]
     pub fn reconstruct_active_formatting_elements(
         &mut self,
         sink: &mut Sink,

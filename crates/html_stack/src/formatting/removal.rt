@@ -5,6 +5,7 @@ ghost use Rattle.html_rules.specs.Formatting.{with_room, without_entry};
 ghost use Rattle.html_rules.specs.Names.{Html, element_name_of};
 ghost use Rattle.html_rules.specs.Stack.{is_open, without_number};
 ghost use Rattle.html_rules_laws.specs.Soundness.{AreOpened};
+ghost use Rattle.html_stack.specs.Found.{older_entries};
 ghost use Rattle.html_stack.specs.Noted.{IsNoted, named};
 ghost use Rattle.html_stack.specs.Stacks.{opens_of};
 
@@ -70,6 +71,14 @@ impl<Sink: TreeSink> Stack<Sink> {
         if unstack(sink, &mut self.open_elems, &mut self.depths, element, name) {
             sink.pop(element);
         }
+    }
+
+    /// The newest entry leaves the list.
+    #[inline(always)]
+    pub(crate) fn drop_newest(&mut self)
+        ensures { self.new ≡ record self.old { active_formatting = older_entries self.old.active_formatting } }
+    {
+        drop(self.active_formatting.pop());
     }
 
     /// An element leaves the list; nothing happens where it is not listed. The list is gone through from its end up to the element.

@@ -48,6 +48,7 @@ fn or_empty(alloc: Global, part: Option<Text>) -> Text
 impl<Sink: TreeSink> Stack<Sink> {
     /// Puts text at the appropriate place ("insert a character", for each of its characters). Text is handed on without a copy. On
     /// [`ParseFault::Memory`], the only fault, the tree is as it was.
+    #[inline(always)]
     pub fn append_text(&self, sink: &mut Sink, text: Text, foster: bool) -> Result<(), ParseFault>
         requires { StandsIn (Sink.forest sink.old) self.now }
         ensures ok { OnOk result ((s : State) → s.foster_parenting ≡ foster

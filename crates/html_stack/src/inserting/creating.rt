@@ -23,6 +23,7 @@ fn encodes_html(attribute: &Attribute) -> bool
 }
 
 /// Whether one of the attributes says that HTML stands in the element.
+#[inline(never)]
 fn encode_html(attributes: &[Attribute]) -> bool
     ensures { result ≡ list_any encodes_html attributes.now }
 {
@@ -30,6 +31,7 @@ fn encode_html(attributes: &[Attribute]) -> bool
 }
 
 /// What is told of a new element of a class.
+#[inline(always)]
 pub(crate) fn flags_of(
     class: ElementClass,
     attributes: &[Attribute],

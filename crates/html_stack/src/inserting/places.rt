@@ -19,6 +19,7 @@ use html_rules::TagSet;
 use markup::{NodeOrText, ParseFault, TreeSink};
 
 /// Last in an element, or in the contents of a template.
+#[inline(always)]
 fn inside_point<Sink: TreeSink>(
     sink: &Sink,
     target: &OpenElement<Sink::Handle>,
@@ -36,6 +37,7 @@ fn inside_point<Sink: TreeSink>(
 }
 
 /// Where foster parenting puts: in the nearest template, before the nearest table, or in the root.
+#[inline(never)]
 fn foster_point<Sink: TreeSink>(
     sink: &Sink,
     elements: &[OpenElement<Sink::Handle>],
@@ -67,6 +69,7 @@ fn foster_point<Sink: TreeSink>(
 }
 
 /// The place for a target.
+#[inline(always)]
 pub(crate) fn point_for<Sink: TreeSink>(
     sink: &Sink,
     elements: &[OpenElement<Sink::Handle>],
@@ -92,6 +95,7 @@ pub(crate) fn point_for<Sink: TreeSink>(
 }
 
 /// The place for the current node.
+#[inline(always)]
 fn current_point<Sink: TreeSink>(
     sink: &Sink,
     elements: &[OpenElement<Sink::Handle>],
@@ -175,6 +179,7 @@ impl<Sink: TreeSink> Stack<Sink> {
     }
 
     /// Where a node is put, in the current node.
+    #[inline(always)]
     pub(crate) fn current_place(
         &self,
         sink: &mut Sink,
