@@ -7,6 +7,7 @@ pub mod WhiteRuns
 pub mod RefusedTexts
 pub mod RunsFound
 pub mod FirstCharacters
+pub mod RowsAtHand
 pub mod MayTurns
 pub mod Settles
 pub mod Turned

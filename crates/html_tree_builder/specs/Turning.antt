@@ -4,7 +4,7 @@ use Rattle.html_tokens.specs.declared.token.Token.{Token}
 use Rattle.html_rules.specs.Actions.{act}
 use Rattle.html_rules.specs.ForeignContent.{is_foreign}
 use Rattle.html_rules.specs.Modes.Foreign.{in_foreign_content}
-use Rattle.html_rules.specs.Rules.{Turn, first_fit, most_modes, rows, using_rules_for}
+use Rattle.html_rules.specs.Rules.{Turn, first_fit, most_modes, rows, turn, turn_by_row, using_rules_for}
 use Rattle.html_rules.specs.State.{State}
 use Rattle.html_rules.specs.Table.{Row, Conclusion, Using, UsingThen, UsingCurrentMode}
 use Rattle.html_rules.specs.declared.insertion_mode.InsertionMode.{InsertionMode}
@@ -42,3 +42,8 @@ MayUse (suc n) m t s = MayTakeRow (MayUse n) (using_rules_for n) (first_fit (row
 pub record MayTurn (t : Token) (s : State) : Type 0 where
   pub foreign : is_foreign s t ≡ true → MayTakeRow (MayUse most_modes) (using_rules_for most_modes) (first_fit in_foreign_content t s) t s
   pub mode : is_foreign s t ≡ false → MayUse most_modes s.mode t s
+
+-- a row is the first that a token takes in a turn, where the rules of so many modes may be used after it
+pub record IsRowOfTurn (left : ℕ) (r : Row) (t : Token) (s : State) : Type 0 where
+  pub turned : turn_by_row (using_rules_for left) r t s ≡ turn t s
+  pub may : MayTurn t s → MayTakeRow (MayUse left) (using_rules_for left) r t s

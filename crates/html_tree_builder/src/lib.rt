@@ -10,6 +10,7 @@ mod conclusions;
 mod conditions;
 mod construction;
 mod errors;
+mod lanes;
 mod lent_tags;
 pub mod options;
 mod rows;

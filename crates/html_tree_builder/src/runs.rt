@@ -88,6 +88,7 @@ impl<Sink: TreeSink> Construction<Sink> {
     }
 
     /// Takes a run of characters, which is handed on.
+    #[inline(always)]
     pub(crate) fn process_run(
         &mut self,
         sink: &mut Sink,

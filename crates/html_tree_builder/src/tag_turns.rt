@@ -49,6 +49,62 @@ impl<Sink: TreeSink> Construction<Sink> {
         }
     }
 
+    /// The same of a tag, as of any token.
+    #[inline(never)]
+    fn row_of_any_tag(&self, sink: &Sink, tag: &Tag, class: &ElementClass) -> (&'static Row, u8)
+        requires class { IsClassOf Html tag.now.name class.now }
+        requires stands { Stands (Sink.forest sink.now) self.now }
+        ensures turned { turn_by_row (using_rules_for result.1) (row_of result.0.now) (TagToken tag.now)
+            (built Sink.TreeSink self.now (Sink.forest sink.now)) ≡ turn (TagToken tag.now)
+            (built Sink.TreeSink self.now (Sink.forest sink.now)) }
+        ensures may { MayTurn (TagToken tag.now) (built Sink.TreeSink self.now (Sink.forest sink.now))
+            → MayTakeRow (MayUse result.1) (using_rules_for result.1) (row_of result.0.now)
+            (TagToken tag.now) (built Sink.TreeSink self.now (Sink.forest sink.now)) }
+    {
+        self.row_of_turn(sink, &NamedToken::of_class(tag, *class))
+    }
+
+    /// The same of a tag. Mostly its row is found at once.
+    #[inline(always)]
+    fn row_of_tag(&self, sink: &Sink, tag: &Tag, class: &ElementClass) -> (&'static Row, u8)
+        requires class { IsClassOf Html tag.now.name class.now }
+        requires stands { Stands (Sink.forest sink.now) self.now }
+        ensures turned { turn_by_row (using_rules_for result.1) (row_of result.0.now) (TagToken tag.now)
+            (built Sink.TreeSink self.now (Sink.forest sink.now)) ≡ turn (TagToken tag.now)
+            (built Sink.TreeSink self.now (Sink.forest sink.now)) }
+        ensures may { MayTurn (TagToken tag.now) (built Sink.TreeSink self.now (Sink.forest sink.now))
+            → MayTakeRow (MayUse result.1) (using_rules_for result.1) (row_of result.0.now)
+            (TagToken tag.now) (built Sink.TreeSink self.now (Sink.forest sink.now)) }
+    {
+        match self.row_at_hand(tag, class) {
+            Some(found) => found,
+            None => self.row_of_any_tag(sink, tag, class),
+        }
+    }
+
+    /// What a row makes of a tag that is not moved, where the rules of that many other modes may be used.
+    #[inline(never)]
+    fn apply_row_to_tag(
+        &mut self,
+        sink: &mut Sink,
+        row: &'static Row,
+        tag: &Tag,
+        class: &ElementClass,
+        left: u8,
+    ) -> Result<Ending<Sink::Handle>, ParseFault>
+        requires class { IsClassOf Html tag.now.name class.now }
+        requires stands { Stands (Sink.forest sink.old) self.old }
+        requires may { MayTakeRow (MayUse left) (using_rules_for left) (row_of row.now) (TagToken tag.now)
+            (built Sink.TreeSink self.old (Sink.forest sink.old)) }
+        ensures ok { IfOk result (λ ending. turn_of (built Sink.TreeSink self.new (Sink.forest sink.new))
+            (ending_of Sink.node ending) ≡ turn_by_row (using_rules_for left) (row_of row.now)
+            (TagToken tag.now) (built Sink.TreeSink self.old (Sink.forest sink.old))) }
+        ensures stands { OnOk result (Stands (Sink.forest sink.new) self.new) }
+        ensures fault { IfErr result (λ fault. fault ≡ Memory) }
+    {
+        self.apply_row(sink, row, &NamedToken::of_class(tag, *class), left)
+    }
+
     /// One turn of a tag of that class, which may be moved to its element where the turn is the last.
     #[inline(always)]
     fn turn_of_tag(
@@ -66,18 +122,14 @@ impl<Sink: TreeSink> Construction<Sink> {
         ensures kept { IfOk result (λ ending. ending_of Sink.node ending ≡ Again → tag.new ≡ tag.old) }
         ensures fault { IfErr result (λ fault. fault ≡ Memory) }
     {
-        let (row, left) = self.row_of_turn(sink, &NamedToken::of_class(tag, class));
-        match row.ends {
-            Conclusion::Done => {
-                self.act_on_tag(sink, &row.does, tag, class)?;
-                Ok(Ending::Finished(false))
-            }
-            Conclusion::Acknowledged => {
-                self.act_on_tag(sink, &row.does, tag, class)?;
-                Ok(Ending::Finished(true))
-            }
-            _ => self.apply_row(sink, row, &NamedToken::of_class(tag, class), left),
-        }
+        let (row, left) = self.row_of_tag(sink, tag, &class);
+        let acknowledged = match row.ends {
+            Conclusion::Done => false,
+            Conclusion::Acknowledged => true,
+            _ => return self.apply_row_to_tag(sink, row, tag, &class, left),
+        };
+        self.act_on_tag(sink, &row.does, tag, &class)?;
+        Ok(Ending::Finished(acknowledged))
     }
 
     /// What a tag of that class comes to, turn by turn; it may be moved to its element. Each turn is counted, and they are no more than

@@ -27,40 +27,41 @@ impl<Sink: TreeSink> Construction<Sink> {
     ghost use Rattle.html_names.specs.Classes.{IsClassOf};
     ghost use Rattle.html_rules.specs.Names.{Html};
 
-    /// An element is inserted for a tag.
-    #[inline(never)]
+    /// An element is inserted for a tag, whose name and attributes are moved to it.
+    #[inline(always)]
     pub(crate) fn insert_element(
         &mut self,
         sink: &mut Sink,
-        class: ElementClass,
-        tag: Tag,
+        class: &ElementClass,
+        tag: &mut Tag,
     ) -> Result<(), ParseFault>
-        requires class { IsClassOf Html tag.name class }
+        requires class { IsClassOf Html tag.old.name class.now }
         requires stands { Stands (Sink.forest sink.old) self.old }
-        ensures ok { OnOk result (Performs (insert_element_for tag) self.old self.new (Sink.forest sink.old) (Sink.forest sink.new)) }
-        ensures fault { IfErr result (λ fault. fault ≡ Memory) }
-    {
-        self.stack
-            .insert_element_for(sink, class, tag, self.foster_parenting, self.form_elem)?;
-        Ok(())
-    }
-
-    /// An element is inserted for a tag, and popped at once.
-    #[inline(never)]
-    pub(crate) fn insert_void(
-        &mut self,
-        sink: &mut Sink,
-        class: ElementClass,
-        tag: Tag,
-    ) -> Result<(), ParseFault>
-        requires class { IsClassOf Html tag.name class }
-        requires stands { Stands (Sink.forest sink.old) self.old }
-        ensures ok { OnOk result (Performs (insert_and_pop_element_for tag) self.old self.new (Sink.forest sink.old)
+        ensures ok { OnOk result (Performs (insert_element_for tag.old) self.old self.new (Sink.forest sink.old)
             (Sink.forest sink.new)) }
         ensures fault { IfErr result (λ fault. fault ≡ Memory) }
     {
         self.stack
-            .insert_and_pop_element_for(sink, class, tag, self.foster_parenting, self.form_elem)?;
+            .insert_element_of(sink, class, tag, self.foster_parenting, self.form_elem)?;
+        Ok(())
+    }
+
+    /// An element is inserted for a tag, whose name and attributes are moved to it, and popped at once.
+    #[inline(always)]
+    pub(crate) fn insert_void(
+        &mut self,
+        sink: &mut Sink,
+        class: &ElementClass,
+        tag: &mut Tag,
+    ) -> Result<(), ParseFault>
+        requires class { IsClassOf Html tag.old.name class.now }
+        requires stands { Stands (Sink.forest sink.old) self.old }
+        ensures ok { OnOk result (Performs (insert_and_pop_element_for tag.old) self.old self.new (Sink.forest sink.old)
+            (Sink.forest sink.new)) }
+        ensures fault { IfErr result (λ fault. fault ≡ Memory) }
+    {
+        self.stack
+            .insert_and_pop_element_of(sink, class, tag, self.foster_parenting, self.form_elem)?;
         Ok(())
     }
 
@@ -138,6 +139,7 @@ impl<Sink: TreeSink> Construction<Sink> {
     }
 
     /// The same of a text that is handed on.
+    #[inline(always)]
     pub(crate) fn append_own_text(&mut self, sink: &mut Sink, text: Text) -> Result<(), ParseFault>
         requires stands { Stands (Sink.forest sink.old) self.old }
         ensures ok { OnOk result (Performs (append_text text) self.old self.new (Sink.forest sink.old) (Sink.forest sink.new)) }
@@ -247,6 +249,7 @@ impl<Sink: TreeSink> Construction<Sink> {
     }
 
     /// "Reconstruct the active formatting elements".
+    #[inline(always)]
     pub(crate) fn reconstruct(&mut self, sink: &mut Sink) -> Result<(), ParseFault>
         requires stands { Stands (Sink.forest sink.old) self.old }
         ensures ok { OnOk result (Performs reconstruct_active_formatting_elements self.old self.new

@@ -12,8 +12,9 @@ ghost use Rattle.html_tree_builder.specs.Told.{IsTold, token_of};
 
 use crate::construction::Construction;
 use crate::told::{Content, NamedToken};
-use html_modes::Action;
+use html_modes::{Action, Condition};
 use html_names::ElementClass;
+use html_rules::TagSet;
 use html_tokens::Tag;
 use markup::{ParseFault, TreeSink};
 
@@ -63,25 +64,26 @@ impl<Sink: TreeSink> Construction<Sink> {
     ghost use Rattle.html_names.specs.Classes.{IsClassOf};
     ghost use Rattle.html_rules.specs.Names.{Html};
 
-    /// An element is inserted for a tag, which is moved to it.
+    /// An element is inserted for a tag, whose name and attributes are moved to it.
+    #[inline(always)]
     fn insert_moved(
         &mut self,
         sink: &mut Sink,
         insertion: Insertion,
-        class: ElementClass,
-        tag: Tag,
+        class: &ElementClass,
+        tag: &mut Tag,
     ) -> Result<(), ParseFault>
-        requires class { IsClassOf Html tag.name class }
+        requires class { IsClassOf Html tag.old.name class.now }
         requires stands { Stands (Sink.forest sink.old) self.old }
-        ensures ok { OnOk result (Performs (act (inserting insertion) (TagToken tag)) self.old self.new
+        ensures ok { OnOk result (Performs (act (inserting insertion) (TagToken tag.old)) self.old self.new
             (Sink.forest sink.old) (Sink.forest sink.new)) }
         ensures fault { IfErr result (λ fault. fault ≡ Memory) }
     {
         match insertion {
             Insertion::Element => self.insert_element_or_script(sink, class, tag),
             Insertion::Void => self.insert_void(sink, class, tag),
-            Insertion::Formatting => self.insert_formatting(sink, class, tag),
-            Insertion::Foreign => self.insert_foreign(sink, tag),
+            Insertion::Formatting => self.insert_formatting(sink, *class, tag.take()),
+            Insertion::Foreign => self.insert_foreign(sink, tag.take()),
         }
     }
 
@@ -102,8 +104,8 @@ impl<Sink: TreeSink> Construction<Sink> {
         let Content::Tag(tag) = told.content else {
             return Ok(());
         };
-        let tag = tag.copy(self.alloc)?;
-        self.insert_moved(sink, insertion, told.class, tag)
+        let mut tag = tag.copy(self.alloc)?;
+        self.insert_moved(sink, insertion, &told.class, &mut tag)
     }
 
     /// An action is done that does the same for every token.
@@ -139,6 +141,115 @@ impl<Sink: TreeSink> Construction<Sink> {
         }
     }
 
+    /// An action that inserts nothing for a tag is mostly one of a few, which are done at once.
+    #[inline(always)]
+    fn act_at_once(
+        &mut self,
+        sink: &mut Sink,
+        action: &Action,
+        tag: &Tag,
+        class: &ElementClass,
+    ) -> Result<(), ParseFault>
+        requires class { IsClassOf Html tag.now.name class.now }
+        requires stands { Stands (Sink.forest sink.old) self.old }
+        requires may { MayAct (action_of action.now) (TagToken tag.now) (built Sink.TreeSink self.old (Sink.forest sink.old)) }
+        ensures ok { OnOk result (built Sink.TreeSink self.new (Sink.forest sink.new) ≡ act (action_of action.now)
+            (TagToken tag.now) (built Sink.TreeSink self.old (Sink.forest sink.old))) }
+        ensures fault { IfErr result (λ fault. fault ≡ Memory) }
+    {
+        match action {
+            Action::Reconstruct => self.reconstruct(sink),
+            Action::CloseP => {
+                self.close_p(sink);
+                Ok(())
+            }
+            Action::ImpliedEndTags => {
+                self.implied_end_tags(sink, TagSet::CursoryImpliedEnd);
+                Ok(())
+            }
+            Action::CloseToken => {
+                self.close_named(sink, *class, &tag.name);
+                Ok(())
+            }
+            Action::AdoptionAgency => self.adoption_agency(sink, *class, &tag.name),
+            Action::FramesetNotOk => {
+                self.frameset_not_ok();
+                Ok(())
+            }
+            Action::SwitchTo(mode) => {
+                self.set_mode(*mode);
+                Ok(())
+            }
+            Action::ClearBackTo(set) => {
+                self.clear_back_to(*set);
+                Ok(())
+            }
+            Action::ClearToMarker => {
+                self.clear_to_marker();
+                Ok(())
+            }
+            Action::CloseItem(items) => {
+                self.close_item(sink, *items);
+                Ok(())
+            }
+            Action::PopUntil(set) => {
+                self.pop_until(*set);
+                Ok(())
+            }
+            Action::AnyOtherEndTag => {
+                self.any_other_end_tag(sink, *class, &tag.name);
+                Ok(())
+            }
+            Action::When(Condition::AListed, action) => {
+                if self.lists_a() {
+                    self.act_told(sink, action, tag, class)?;
+                }
+                Ok(())
+            }
+            _ => self.act_told(sink, action, tag, class),
+        }
+    }
+
+    /// Any action is done.
+    #[inline(never)]
+    fn act_told(
+        &mut self,
+        sink: &mut Sink,
+        action: &Action,
+        tag: &Tag,
+        class: &ElementClass,
+    ) -> Result<(), ParseFault>
+        requires class { IsClassOf Html tag.now.name class.now }
+        requires stands { Stands (Sink.forest sink.old) self.old }
+        requires may { MayAct (action_of action.now) (TagToken tag.now) (built Sink.TreeSink self.old (Sink.forest sink.old)) }
+        ensures ok { OnOk result (built Sink.TreeSink self.new (Sink.forest sink.new) ≡ act (action_of action.now)
+            (TagToken tag.now) (built Sink.TreeSink self.old (Sink.forest sink.old))) }
+        ensures fault { IfErr result (λ fault. fault ≡ Memory) }
+    {
+        self.act(sink, action, &NamedToken::of_class(tag, *class))
+    }
+
+    /// The same, with what stands after it.
+    #[inline(always)]
+    fn perform_at_once(
+        &mut self,
+        sink: &mut Sink,
+        action: &Action,
+        tag: &Tag,
+        class: &ElementClass,
+    ) -> Result<(), ParseFault>
+        requires class { IsClassOf Html tag.now.name class.now }
+        requires stands { Stands (Sink.forest sink.old) self.old }
+        requires may { MayAct (action_of action.now) (TagToken tag.now) (built Sink.TreeSink self.old (Sink.forest sink.old)) }
+        ensures ok { OnOk result (built Sink.TreeSink self.new (Sink.forest sink.new) ≡ act (action_of action.now)
+            (TagToken tag.now) (built Sink.TreeSink self.old (Sink.forest sink.old))) }
+        ensures stands { OnOk result (Stands (Sink.forest sink.new) self.new) }
+        ensures fault { IfErr result (λ fault. fault ≡ Memory) }
+    {
+        self.act_at_once(sink, action, tag, class)?;
+        Ok(())
+    }
+
     /// An action is done for a tag of that class, which is moved to its element where nothing after that asks for it.
     #[inline(always)]
     pub(crate) fn act_on_tag(
@@ -146,9 +257,9 @@ impl<Sink: TreeSink> Construction<Sink> {
         sink: &mut Sink,
         action: &Action,
         tag: &mut Tag,
-        class: ElementClass,
+        class: &ElementClass,
     ) -> Result<(), ParseFault>
-        requires class { IsClassOf Html tag.old.name class }
+        requires class { IsClassOf Html tag.old.name class.now }
         requires stands { Stands (Sink.forest sink.old) self.old }
         requires may { MayAct (action_of action.now) (TagToken tag.old) (built Sink.TreeSink self.old (Sink.forest sink.old)) }
         ensures ok { OnOk result (built Sink.TreeSink self.new (Sink.forest sink.new) ≡ act (action_of action.now)
@@ -160,15 +271,15 @@ impl<Sink: TreeSink> Construction<Sink> {
             if let Some(insertion) = insertion_of(first)
                 && is_indifferent(more)
             {
-                self.insert_moved(sink, insertion, class, tag.take())?;
+                self.insert_moved(sink, insertion, class, tag)?;
                 return self.act_indifferent(more);
             }
-            self.perform(sink, first, &NamedToken::of_class(tag, class))?;
+            self.perform_at_once(sink, first, tag, class)?;
             rest = more;
         }
         match insertion_of(rest) {
-            Some(insertion) => self.insert_moved(sink, insertion, class, tag.take()),
-            None => self.act(sink, rest, &NamedToken::of_class(tag, class)),
+            Some(insertion) => self.insert_moved(sink, insertion, class, tag),
+            None => self.act_at_once(sink, rest, tag, class),
         }
     }
 }

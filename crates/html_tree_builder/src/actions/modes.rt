@@ -111,6 +111,7 @@ impl<Sink: TreeSink> Construction<Sink> {
 
     /// The same, unless a text is white space.
     #[tactic(auto, unfolding(html_rules::specs::Actions::frameset_not_ok_unless_white))]
+    #[inline(always)]
     pub(crate) fn frameset_not_ok_unless_white(&mut self, text: &str)
         ensures { Changes (frameset_not_ok_unless_white (chars text.now)) self.old self.new }
     {

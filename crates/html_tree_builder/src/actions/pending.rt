@@ -24,6 +24,7 @@ impl<Sink: TreeSink> Construction<Sink> {
     }
 
     /// The same of characters that are handed on.
+    #[inline(always)]
     pub(crate) fn append_own_in_body(
         &mut self,
         sink: &mut Sink,

@@ -36,20 +36,22 @@ impl<Sink: TreeSink> Construction<Sink> {
         Ok(())
     }
 
-    /// An element is inserted for a tag; in a fragment a script has started.
+    /// An element is inserted for a tag, whose name and attributes are moved to it; in a fragment a script has started.
+    #[inline(always)]
     pub(crate) fn insert_element_or_script(
         &mut self,
         sink: &mut Sink,
-        class: ElementClass,
-        tag: Tag,
+        class: &ElementClass,
+        tag: &mut Tag,
     ) -> Result<(), ParseFault>
-        requires class { IsClassOf Html tag.name class }
+        requires class { IsClassOf Html tag.old.name class.now }
         requires stands { Stands (Sink.forest sink.old) self.old }
-        ensures ok { OnOk result (Performs (insert_element_for tag) self.old self.new (Sink.forest sink.old) (Sink.forest sink.new)) }
+        ensures ok { OnOk result (Performs (insert_element_for tag.old) self.old self.new (Sink.forest sink.old)
+            (Sink.forest sink.new)) }
         ensures fault { IfErr result (λ fault. fault ≡ Memory) }
     {
         if class.is_in(TagSet::Script) && self.is_fragment() {
-            return self.insert_started_script(sink, class, tag);
+            return self.insert_started_script(sink, *class, tag.take());
         }
         self.insert_element(sink, class, tag)
     }
