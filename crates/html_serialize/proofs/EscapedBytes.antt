@@ -1,12 +1,12 @@
 -- Escaping byte by byte, run by run, and what it has to do with escaping characters.
 use Rattle.std.proofs.Common.{◌≡◌, ◌≢◌, ◌∙◌, ℕ, zero, suc, ◌+◌, ◌-◌, ◌/◌, ◌%◌, ◌<◌, ◌≤◌, Bool, true, false, cond, List, [], ◌∷◌}
-use Rattle.std.proofs.Common.{◌++◌, length, slice_index, take, drop, nat_eq, nat_lt, refl, sym, ap, arith, rules, append_assoc}
+use Rattle.std.proofs.Common.{◌++◌, length, slice_index, take, drop, nat_eq, nat_lt, refl, sym, ap, ap₂, arith, rules, append_assoc}
 use Rattle.std.proofs.Common.{encode_utf8_all, length-drop, inl, inr, ◌⊎◌}
-use Rattle.std.specs.Prelude.{◌||◌, ◌&&◌}
+use Rattle.std.specs.Prelude.{◌&&◌}
 use Rattle.std.proofs.lemmas.Bool.{cases_Bool, cases_eq, cases_lt, eq-eqb, ne_eqb}
 use Rattle.std.proofs.lemmas.Bool.Decides.{nat_tests}
 use Rattle.std.proofs.lemmas.Grind.{common_steps}
-use Rattle.std.proofs.lemmas.List.{get_or-drop, get_or_past, append-nil}
+use Rattle.std.proofs.lemmas.List.{get_or-drop, get_or_past, append-nil, drop_all, take_all}
 use Rattle.std.proofs.lemmas.Str.{encodes-append}
 use Rattle.std.proofs.Math.Seq.{drop-cons}
 use Rattle.markup.specs.Escape.{Mode, escape_in, escaped_in}
@@ -39,6 +39,14 @@ escape_bytes-run mode bs start at low is =
     rw (here, behind, next) (is.clear (start + i) (omega arith) (omega arith)))
     ∙ ap (λ (xs : List ℕ). take (at - start) (drop start bs) ++ escape_bytes mode false xs)
     (drop_drop bs start (at - start) ∙ (let e : start + (at - start) ≡ at = omega arith in ap (λ (n : ℕ). drop n bs) e))
+
+-- bytes in which nothing is replaced
+pub escape_bytes-clear : (mode : Mode) (bs : List ℕ) (end : ℕ) → end ≡ length bs → IsNext (is_replaced mode) bs 0 end
+    → escape_bytes mode false bs ≡ bs
+escape_bytes-clear mode bs end is next =
+    run_of mode end bs (omega (arith, is)) (λ i less. next.clear i (omega arith) less)
+    ∙ ap₂ (λ (xs ys : List ℕ). xs ++ escape_bytes mode false ys) (take_all end bs (omega (arith, is))) (drop_all end bs (omega (arith, is)))
+    ∙ append-nil bs
 
 lt-true : (a b : ℕ) → a < b → nat_lt a b ≡ true
 lt-true a b less = grind (arith, nat_tests)

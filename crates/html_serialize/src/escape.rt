@@ -74,6 +74,31 @@ fn quote_in(escaping: Escaping) -> u8
     }
 }
 
+/// How many of fewer than sixteen bytes stand before the first that is 0 or may begin an escaped character.
+#[inline(always)]
+fn few_unmarked(bytes: &[u8], quote: u8) -> usize
+    requires { length bytes.now < 16 }
+    ensures within { result ≤ length bytes.now }
+    ensures before { (k : ℕ) → k < result → is_marked quote (slice_index bytes.now k) ≡ false }
+{
+    let mut room = [b' '; 16];
+    room[..bytes.len()].copy_from_slice(bytes);
+    unmarked(&room, 0, quote).min(bytes.len())
+}
+
+/// A place before which none of the last sixteen bytes is 0 or may begin an escaped character.
+#[inline(always)]
+fn place_at_end(bytes: &[u8], quote: u8) -> usize
+    ensures within { result ≤ length bytes.now }
+    ensures before { (k : ℕ) → length bytes.now ≤ k + 16 → k < result → is_marked quote (slice_index bytes.now k) ≡ false }
+{
+    if bytes.len() < 16 {
+        return few_unmarked(bytes, quote);
+    }
+    let last = bytes.len() - 16;
+    last + unmarked(bytes, last, quote)
+}
+
 /// A place from which on an escaped character may come and before which there is none, looked for in sixteen bytes at a time.
 #[inline(always)]
 fn place_ahead(bytes: &[u8], from: usize, escaping: Escaping) -> usize
@@ -92,10 +117,11 @@ fn place_ahead(bytes: &[u8], from: usize, escaping: Escaping) -> usize
             at += 1;
         }
     }
-    at
+    at.max(place_at_end(bytes, quote))
 }
 
 /// The next character from a place on that is escaped, or the end.
+#[inline(always)]
 fn next_escaped(bytes: &[u8], from: usize, escaping: Escaping) -> usize
     requires { from ≤ length bytes.now }
     ensures low { from ≤ result }
@@ -145,7 +171,29 @@ fn put_through<Wr: Target>(
     Ok(if lead == 0xC2 { at + 2 } else { at + 1 })
 }
 
-/// Writes bytes with their escaped characters as references. Runs without any go out in one write each.
+/// Writes bytes with their escaped characters as references, by the place of the first one. Runs without any go out in one write each.
+#[inline(never)]
+fn put_runs<Wr: Target>(
+    writer: &mut Wr,
+    bytes: &[u8],
+    first: usize,
+    escaping: Escaping,
+) -> Result<(), SerializeFault>
+    requires { IsNext (is_replaced (mode_of escaping)) bytes.now 0 first }
+    ensures puts { Puts (told_by Wr.written Wr.failures writer.old)
+        (escape_bytes (mode_of escaping) false bytes.now) result (told_by Wr.written Wr.failures writer.new) }
+    ensures same_references { Wr.references writer.new ≡ Wr.references writer.old }
+{
+    let mut start = 0;
+    let mut at = first;
+    'runs: while start < bytes.len() {
+        start = put_through(writer, bytes, start, at)?;
+        at = next_escaped(bytes, start, escaping);
+    }
+    Ok(())
+}
+
+/// Writes bytes with their escaped characters as references.
 fn put_escaped_bytes<Wr: Target>(
     writer: &mut Wr,
     bytes: &[u8],
@@ -155,12 +203,11 @@ fn put_escaped_bytes<Wr: Target>(
         (escape_bytes (mode_of escaping) false bytes.now) result (told_by Wr.written Wr.failures writer.new) }
     ensures same_references { Wr.references writer.new ≡ Wr.references writer.old }
 {
-    let mut start = 0;
-    'runs: while start < bytes.len() {
-        let at = next_escaped(bytes, start, escaping);
-        start = put_through(writer, bytes, start, at)?;
+    let first = next_escaped(bytes, 0, escaping);
+    if first == bytes.len() {
+        return put(writer, bytes);
     }
-    Ok(())
+    put_runs(writer, bytes, first, escaping)
 }
 
 /// Writes a text, escaped.

@@ -1,44 +1,8 @@
-use Rattle.std.proofs.Common.{◌≡◌, ◌∙◌, ◌++◌, ℕ, List, ap, sym, drop, false, append_assoc}
-use Rattle.html_serialize.specs.Bytes.{escape_bytes, mode_of, place_after, written_through}
-use Rattle.html_serialize.specs.Puts.{told_by, with_bytes}
-use Rattle.html_serialize.proofs.EscapedBytes.{escape_bytes-through, place_after-within}
-use Rattle.html_serialize.proofs.Putting.{Puts-failed, with_bytes-append}
+use Rattle.html_serialize.specs.Bytes.{mode_of}
+use Rattle.html_serialize.proofs.EscapedBytes.{escape_bytes-clear}
 use Rattle.html_serialize.proofs.escape.put_escaped_bytes.Goals as goal
 
-pub runs-preserved : goal.runs-preserved
-runs-preserved g c =
-    let mode = mode_of c.args.escaping in
-    let bytes = c.args.bytes.now in
-    let start = c.runs.start in
-    let at = c.next_escaped-at.result in
-    let next = c.next_escaped-at.ensures.next in
-    let low = c.next_escaped-at.ensures.low in
-    let place : c.in_ok-start.start ≡ place_after bytes at = c.in_ok-start.ensures.place in
-    let before = c.runs.invariant.done in
-    let through = written_through bytes start at in
-    record {
-      within = rw place (place_after-within mode bytes start at next);
-      done = (
-        before.0 ++ through,
-        (
-          before.1.0 ∙ ap (λ (rest : List ℕ). before.0 ++ rest) (escape_bytes-through mode bytes start at low next)
-              ∙ sym (append_assoc before.0 through (escape_bytes mode false (drop (place_after bytes at) bytes)))
-              ∙ ap (λ (n : ℕ). (before.0 ++ through) ++ escape_bytes mode false (drop n bytes)) (sym place),
-          c.in_ok-start.ensures.puts ∙ ap (λ (t : _). with_bytes t through) before.1.1
-              ∙ with_bytes-append (told_by g.Wr.Target.written g.Wr.Target.failures c.args.writer.now) before.0 through,
-        ),
-      );
-      same_references = c.in_ok-start.ensures.same_references ∙ c.runs.invariant.same_references;
-    }
-
-pub returns-in_err-start-clause-puts : goal.returns-in_err-start-clause-puts
-returns-in_err-start-clause-puts g c =
-    let mode = mode_of c.args.escaping in
-    let bytes = c.args.bytes.now in
-    let start = c.runs.start in
-    let at = c.next_escaped-at.result in
-    let before = c.runs.invariant.done in
-    Puts-failed _ _ _ before.0 (written_through bytes start at)
-    (escape_bytes mode false (drop (place_after bytes at) bytes)) _ _ _ c.from_residual.ensures.1 before.1.1 c.in_err-start.ensures.puts
-    (before.1.0 ∙ ap (λ (rest : List ℕ). before.0 ++ rest)
-    (escape_bytes-through mode bytes start at c.next_escaped-at.ensures.low c.next_escaped-at.ensures.next))
+pub returns-then-first-bytes-clause-puts : goal.returns-then-first-bytes-clause-puts
+returns-then-first-bytes-clause-puts g c =
+    rw (escape_bytes-clear (mode_of c.args.escaping) c.args.bytes.now c.next_escaped-first.result c.if-first-bytes.true
+    c.next_escaped-first.ensures.next) c.put.ensures.puts

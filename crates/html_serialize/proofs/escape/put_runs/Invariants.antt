@@ -1,11 +1,13 @@
 use Rattle.std.proofs.Common.{◌≡◌, ◌≤◌, ◌-◌, List, ℕ, ◌++◌, false, length, drop}
-use Rattle.html_serialize.specs.Bytes.{escape_bytes, mode_of}
+use Rattle.html_serialize.specs.Bytes.{IsNext, escape_bytes, is_replaced, mode_of}
 use Rattle.html_serialize.specs.Puts.{told_by, with_bytes}
-use Rattle.html_serialize.proofs.escape.put_escaped_bytes.Given as goal
+use Rattle.html_serialize.proofs.escape.put_runs.Given as goal
 
 abbrev pub invariant-runs : goal.invariant-runs
 invariant-runs g l = record {
   within : l.start ≤ length l.bytes;
+  low : l.start ≤ l.at;
+  next : IsNext (is_replaced (mode_of l.escaping)) l.bytes l.start l.at;
   done : (done : List ℕ) × ((escape_bytes (mode_of l.escaping) false l.bytes ≡ done
       ++ escape_bytes (mode_of l.escaping) false (drop l.start l.bytes))
       × (told_by g.Wr.Target.written g.Wr.Target.failures l.writer ≡ with_bytes
