@@ -79,6 +79,7 @@ impl Forest {
     }
 
     /// What a node is; nothing where the number names no node.
+    #[inline(always)]
     pub fn node(&self, id: NodeId) -> Option<NodeData<'_>>
         ensures there { is_some result ≡ nat_lt id (node_count self.now) }
         ensures about { IfSome result (λ about. data_view about ≡ data_of self.now id) }
@@ -269,6 +270,7 @@ impl Forest {
     }
 
     /// Makes a text node.
+    #[inline(always)]
     fn create_text(&mut self, text: Text) -> Result<NodeId, ParseFault>
         ensures named { IfOk result (λ made. made ≡ node_count self.old) }
         ensures ok { OnOk result (self.new ≡ with_node self.old (TextNode text)) }
@@ -396,6 +398,7 @@ impl Forest {
     }
 
     /// Puts text at a place, where it joins the text just before.
+    #[inline(never)]
     fn put_text(&mut self, place: &Place, text: Text) -> Result<(), ParseFault>
         requires { IsPlace self.old (place_view place.now) }
         ensures ok { OnOk result (self.new ≡ put_text self.old (place_view place.now) text) }
@@ -412,6 +415,7 @@ impl Forest {
     }
 
     /// Puts a node or text at a place.
+    #[inline(always)]
     fn put_child(&mut self, place: &Place, child: NodeOrText<NodeId>) -> Result<(), ParseFault>
         requires place { IsPlace self.old (place_view place.now) }
         requires child { MayPut (λ (id : ℕ). id) self.old (place_view place.now) child }

@@ -77,6 +77,7 @@ impl Store {
     }
 
     /// The characters at a place, lent.
+    #[inline(always)]
     fn characters(&self, at: usize, len: usize) -> TextRef<'_>
         requires { IsRange (string_bytes self.now.texts) at len }
         ensures { characters result ≡ text_in self.now at len }
@@ -85,6 +86,7 @@ impl Store {
     }
 
     /// The attributes at a place, lent.
+    #[inline(always)]
     fn attributes(&self, at: usize, count: usize) -> AttributesRef<'_>
         requires { at + count ≤ vec_len self.now.attributes }
         ensures { attributes result ≡ attributes_in self.now at count }
@@ -101,6 +103,7 @@ impl Store {
     }
 
     /// What a node is that has this entry, lent. The contents of a template are the node after it.
+    #[inline(always)]
     pub(crate) fn data<'a>(&'a self, entry: &'a Entry, id: NodeId) -> NodeData<'a>
         requires stored { IsStored self.now entry.now }
         requires number { id + 1 < 2 ^ 64 }
