@@ -4,6 +4,8 @@
 #![tactic(auto)]
 
 #[cfg(test)]
+mod gathered;
+#[cfg(test)]
 mod names;
 #[cfg(test)]
 mod queue;
