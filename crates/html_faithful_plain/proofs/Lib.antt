@@ -1,0 +1,6 @@
+pub mod Forms
+pub mod Stands
+pub mod Tags
+pub mod Elements
+pub mod Walks
+pub mod Frames
