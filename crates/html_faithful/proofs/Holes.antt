@@ -1,18 +1,19 @@
--- A hole is filled with one value or another that walks alike.
+-- A hole is filled with one value or another that is like it.
 use Rattle.std.proofs.Common.{◌≡◌, ◌∙◌, ℕ, Bool, true, false, not, List, Option, Some, None, refl, sym, ap, ap₂, subst, true≢false}
-use Rattle.std.specs.Prelude.{◌&&◌, codes, is_none}
+use Rattle.std.specs.Prelude.{◌&&◌, ◌||◌, codes, is_none}
 use Rattle.std.specs.Str.{bytes_eq}
 use Rattle.markup.specs.Trees.{Trees, Nothing, Text, Comment, ProcessingInstruction, Doctype, Element}
 use Rattle.markup.specs.declared.attributes.Attribute.{Attribute}
 use Rattle.markup.specs.declared.names.QualName.{QualName}
-use Rattle.markup.specs.declared.quirks.QuirksMode.TheVariants.{NoQuirks}
+use Rattle.markup.specs.declared.quirks.QuirksMode.{QuirksMode}
+use Rattle.markup.specs.declared.quirks.QuirksMode.TheVariants.{NoQuirks, Quirks}
 use Rattle.html_tokens.specs.declared.states.RawKind.{RawKind}
 use Rattle.html_rules.specs.Choice.{choose}
 use Rattle.html_rules.specs.declared.insertion_mode.InsertionMode.TheVariants.{BeforeHtml}
 use Rattle.html_faithful.specs.Forms.{is_comment_text, lowered}
 use Rattle.html_faithful.specs.Harmless.{Made, and_then}
-use Rattle.html_faithful.specs.Holes.{AfterComment, AfterElement, AfterText, AreAlike, AreTagsAlike, Here, Hole, Holed, Within, filled}
-use Rattle.html_faithful.specs.Holes.{hole_at}
+use Rattle.html_faithful.specs.Holes.{AfterComment, AfterDoctype, AfterElement, AfterText, AreAlike, AreTagsAlike, Here, Hole, Holed, Raw, Within}
+use Rattle.html_faithful.specs.Holes.{begins_with_text, ends_in_text, filled, fits_raw, hole_at, hole_of, is_here, joined, raw_of, still_drops}
 use Rattle.html_faithful.specs.Spots.{Spot}
 use Rattle.html_faithful.specs.Walk.{OfDocument, Parent, are_none, below, comment_put, ends_there, finished, first_spot, fits_inside}
 use Rattle.html_faithful.specs.Walk.{is_at_end}
@@ -52,49 +53,6 @@ some-kept (Some x) = refl
 
 some-same : {x y : Hole} → Some x ≡ Some y → x ≡ y
 some-same {x} e = ap (λ (o : Option Hole). elim o as (λ _. Hole) [ None ↦ x | Some z ↦ z ]) e
-
--- WHAT HAS A HOLE IS NOT EMPTY
-
-holed-some : (holed : Holed) (a : Trees) → are_none (filled holed a) ≡ false
-holed-some (Here name attributes template rest) a = refl
-holed-some (Within name attributes template hole rest) a = refl
-holed-some (AfterText text hole) a = refl
-holed-some (AfterComment text hole) a = refl
-holed-some (AfterElement name attributes template kids hole) a = refl
-
-text-raw : (kind : RawKind) (name text : List ℕ) (trees : Trees) → are_none trees ≡ false
-    → is_raw_inside kind name (Text text trees) ≡ false
-text-raw kind name text Nothing h = absurd (true≢false h)
-text-raw kind name text (Text other rest) h = refl
-text-raw kind name text (Comment other rest) h = refl
-text-raw kind name text (ProcessingInstruction target other rest) h = refl
-text-raw kind name text (Doctype other public_id system_id rest) h = refl
-text-raw kind name text (Element other attributes template kids rest) h = refl
-
-holed-raw : (kind : RawKind) (name : List ℕ) (holed : Holed) (a : Trees) → is_raw_inside kind name (filled holed a) ≡ false
-holed-raw kind name (Here other attributes template rest) a = refl
-holed-raw kind name (Within other attributes template hole rest) a = refl
-holed-raw kind name (AfterText text hole) a = text-raw kind name text (filled hole a) (holed-some hole a)
-holed-raw kind name (AfterComment text hole) a = refl
-holed-raw kind name (AfterElement other attributes template kids hole) a = refl
-
-fits-by : (name : QualName) (a b : Trees) (raw : Option RawKind)
-    → ((kind : RawKind) → is_raw_inside kind name.local a ≡ is_raw_inside kind name.local b)
-    → elim raw as (λ _. Bool) [
-      | None ↦ true
-      | Some kind ↦ bytes_eq (lowered name.local) name.local && is_raw_inside kind name.local a
-    ] ≡ elim raw as (λ _. Bool) [
-      | None ↦ true
-      | Some kind ↦ bytes_eq (lowered name.local) name.local && is_raw_inside kind name.local b
-    ]
-fits-by name a b None h = refl
-fits-by name a b (Some kind) h = ap (λ c. bytes_eq (lowered name.local) name.local && c) (h kind)
-
-holed-fits : (name : QualName) (holed : Holed) (a b : Trees) (made : Made)
-    → fits_inside name (filled holed a) made ≡ fits_inside name (filled holed b) made
-holed-fits name holed a b made =
-    fits-by name (filled holed a) (filled holed b) made.raw
-    (λ kind. holed-raw kind name.local holed a ∙ sym (holed-raw kind name.local holed b))
 
 -- ELEMENTS
 
@@ -177,55 +135,199 @@ module _ (scripting : Bool) (parent : Parent) (name : QualName) where
       ap (λ x. choose (is_current parent p && may_stay parent name) (λ _. x) (λ _. None))
       (ap (λ o. and_then o f) h.first_made ∙ (same ∙ sym (ap (λ o. and_then o f) h.second_made)))
 
--- TREES
+-- ONE TREE AFTER ANOTHER
 
-here-same : (scripting : Bool) (parent : Parent) (name : QualName) (made : Made) (hole : Hole) (a b : Trees) → (v : Bool) → is_void name ≡ v
-    → Some (record { parent = below parent; name = name; made = made }) ≡ Some hole → AreAlike scripting hole a b
-    → stood scripting parent name a made ≡ stood scripting parent name b made
-here-same scripting parent name made hole a b v e h alike =
-    let is : record { parent = below parent; name = name; made = made } ≡ hole = some-same h in
-    let here : AreAlike scripting (record { parent = below parent; name = name; made = made }) a b =
-    subst (λ x. AreAlike scripting x a b) (sym is) alike in
-    stood-by scripting parent name v a b made e (λ t. absurd (true≢false (sym t ∙ (sym e ∙ here.full)))) here.fit here.walked
+none-dropped : (trees : Trees) → still_drops false trees ≡ false
+none-dropped Nothing = refl
+none-dropped (Text text rest) = refl
+none-dropped (Comment text rest) = refl
+none-dropped (ProcessingInstruction target text rest) = refl
+none-dropped (Doctype name public_id system_id rest) = refl
+none-dropped (Element name attributes template kids rest) = refl
 
-pub holes-filled : (scripting : Bool) (parent : Parent) (after_text drops : Bool) (holed : Holed) (p : Spot) (hole : Hole) (a b : Trees)
-    → hole_at scripting parent holed p ≡ Some hole → AreAlike scripting hole a b
-    → walk scripting parent after_text drops (filled holed a) p ≡ walk scripting parent after_text drops (filled holed b) p
+module _ (scripting : Bool) (parent : Parent) (behind : Trees) where
+  abbrev from : Bool → Bool → Spot → Option Spot
+  from after_text drops q = walk scripting parent after_text drops behind q
+
+  -- trees, and then what follows them
+  walk-joined : (a : Trees) (after_text drops : Bool) (p : Spot)
+      → walk scripting parent after_text drops (joined a behind) p
+      ≡ and_then (walk scripting parent after_text drops a p) (from (ends_in_text after_text a) (still_drops drops a))
+  unfolding walk
+  walk-joined Nothing after_text drops p = refl
+  walk-joined (Text text rest) after_text drops p =
+      let b = is_text after_text drops text && is_current parent p in
+      let o = text_put text p in
+      let f = λ (q : Spot). walk scripting parent true false rest q in
+      let g = from (ends_in_text true rest) false in
+      let each : (q : Spot) → walk scripting parent true false (joined rest behind) q ≡ and_then (f q) g = λ q.
+      walk-joined rest true false q ∙ ap (λ d. and_then (f q) (from (ends_in_text true rest) d)) (none-dropped rest) in
+      ap (λ x. choose b (λ _. x) (λ _. None))
+      (then-so o (λ q. walk scripting parent true false (joined rest behind) q) (λ q. and_then (f q) g) each ∙ sym (then-both o f g))
+      ∙ sym (choose-then b (and_then o f) g)
+  walk-joined (Comment text rest) after_text drops p =
+      let b = is_comment_text text in
+      let o = comment_put parent text p in
+      let f = λ (q : Spot). walk scripting parent false false rest q in
+      let g = from (ends_in_text false rest) false in
+      let each : (q : Spot) → walk scripting parent false false (joined rest behind) q ≡ and_then (f q) g = λ q.
+      walk-joined rest false false q ∙ ap (λ d. and_then (f q) (from (ends_in_text false rest) d)) (none-dropped rest) in
+      ap (λ x. choose b (λ _. x) (λ _. None))
+      (then-so o (λ q. walk scripting parent false false (joined rest behind) q) (λ q. and_then (f q) g) each ∙ sym (then-both o f g))
+      ∙ sym (choose-then b (and_then o f) g)
+  walk-joined (ProcessingInstruction target text rest) after_text drops p = refl
+  walk-joined (Doctype name public_id system_id rest) after_text drops p = refl
+  walk-joined (Element name attributes template kids rest) after_text drops p =
+      let o = walk scripting parent false false (Element name attributes template kids Nothing) p in
+      let f = λ (q : Spot). walk scripting parent false false rest q in
+      let g = from (ends_in_text false rest) false in
+      let each : (q : Spot) → walk scripting parent false false (joined rest behind) q ≡ and_then (f q) g = λ q.
+      walk-joined rest false false q ∙ ap (λ d. and_then (f q) (from (ends_in_text false rest) d)) (none-dropped rest) in
+      element-then scripting parent name attributes template after_text drops kids (joined rest behind) p
+      ∙ (then-so o (λ q. walk scripting parent false false (joined rest behind) q) (λ q. and_then (f q) g) each
+      ∙ (sym (then-both o f g) ∙ sym (ap (λ x. and_then x g) (element-then scripting parent name attributes template after_text drops kids rest p))))
+
+-- what follows walks alike, if it does not begin with a text, or as much is before it
+from-same : (scripting : Bool) (parent : Parent) (behind : Trees) (x y d e : Bool) (q : Spot)
+    → (begins_with_text behind ≡ true → x ≡ y) → (begins_with_text behind ≡ true → d ≡ e)
+    → walk scripting parent x d behind q ≡ walk scripting parent y e behind q
 unfolding walk
-holes-filled scripting parent after_text drops (Here name attributes template rest) p hole a b e alike =
-    element-same scripting parent name attributes template after_text drops rest p
-    (λ made. Some (record { parent = below parent; name = name; made = made })) hole a b e
-    (λ made m. here-same scripting parent name made hole a b (is_void name) refl m alike)
-holes-filled scripting parent after_text drops (Within name attributes template inner rest) p hole a b e alike =
-    element-same scripting parent name attributes template after_text drops rest p
-    (λ made. hole_at scripting (below parent) inner made.spot) hole (filled inner a) (filled inner b) e
-    (λ made m. stood-by scripting parent name (is_void name) (filled inner a) (filled inner b) made refl
-    (λ t. holed-some inner a ∙ sym (holed-some inner b)) (holed-fits name inner a b made)
-    (holes-filled scripting (below parent) false made.drops_line_feed inner made.spot hole a b m alike))
-holes-filled scripting parent after_text drops (AfterText text inner) p hole a b e alike =
-    let f = λ (x : Trees) (q : Spot). walk scripting parent true false (filled inner x) q in
-    choose-same (is_text after_text drops text && is_current parent p) (and_then (text_put text p) (f a))
-    (and_then (text_put text p) (f b)) None
-    (λ c. then-same (text_put text p) (λ q. hole_at scripting parent inner q) (f a) (f b) hole e
-    (λ q m. holes-filled scripting parent true false inner q hole a b m alike))
-holes-filled scripting parent after_text drops (AfterComment text inner) p hole a b e alike =
-    let f = λ (x : Trees) (q : Spot). walk scripting parent false false (filled inner x) q in
-    choose-same (is_comment_text text) (and_then (comment_put parent text p) (f a)) (and_then (comment_put parent text p) (f b)) None
-    (λ c. then-same (comment_put parent text p) (λ q. hole_at scripting parent inner q) (f a) (f b) hole e
-    (λ q m. holes-filled scripting parent false false inner q hole a b m alike))
-holes-filled scripting parent after_text drops (AfterElement name attributes template kids inner) p hole a b e alike =
-    let o = walk scripting parent false false (Element name attributes template kids Nothing) p in
-    element-then scripting parent name attributes template after_text drops kids (filled inner a) p
-    ∙ (then-same o (λ q. hole_at scripting parent inner q) (λ q. walk scripting parent false false (filled inner a) q)
-    (λ q. walk scripting parent false false (filled inner b) q) hole e
-    (λ q m. holes-filled scripting parent false false inner q hole a b m alike)
-    ∙ sym (element-then scripting parent name attributes template after_text drops kids (filled inner b) p))
+from-same scripting parent Nothing x y d e q h k = refl
+from-same scripting parent (Text text rest) x y d e q h k =
+    ap₂ (λ (after_text drops : Bool). walk scripting parent after_text drops (Text text rest) q) (h refl) (k refl)
+from-same scripting parent (Comment text rest) x y d e q h k = refl
+from-same scripting parent (ProcessingInstruction target text rest) x y d e q h k = refl
+from-same scripting parent (Doctype name public_id system_id rest) x y d e q h k = refl
+from-same scripting parent (Element name attributes template kids rest) x y d e q h k = refl
 
-pub documents-filled : (scripting : Bool) (name public_id system_id : List ℕ) (holed : Holed) (hole : Hole) (a b : Trees)
-    → hole_at scripting OfDocument holed (first_spot scripting BeforeHtml NoQuirks) ≡ Some hole → AreAlike scripting hole a b
-    → is_faithful scripting (Doctype name public_id system_id (filled holed a))
-    ≡ is_faithful scripting (Doctype name public_id system_id (filled holed b))
-unfolding is_faithful
-documents-filled scripting name public_id system_id holed hole a b e alike =
-    ap (λ o. bytes_eq name (codes "html") && is_at_end o)
-    (holes-filled scripting OfDocument false false holed (first_spot scripting BeforeHtml NoQuirks) hole a b e alike)
+joined-same : (scripting : Bool) (hole : Hole) (a b : Trees) → AreAlike scripting hole a b
+    → walk scripting hole.parent hole.after_text hole.drops (joined a hole.behind) hole.spot
+    ≡ walk scripting hole.parent hole.after_text hole.drops (joined b hole.behind) hole.spot
+joined-same scripting hole a b h =
+    let f = λ (x d : Bool) (q : Spot). walk scripting hole.parent x d hole.behind q in
+    let w = λ (t : Trees). walk scripting hole.parent hole.after_text hole.drops t hole.spot in
+    walk-joined scripting hole.parent hole.behind a hole.after_text hole.drops hole.spot
+    ∙ (ap (λ o. and_then o (f (ends_in_text hole.after_text a) (still_drops hole.drops a))) h.walked
+    ∙ (then-so (w b) (f (ends_in_text hole.after_text a) (still_drops hole.drops a))
+    (f (ends_in_text hole.after_text b) (still_drops hole.drops b))
+    (λ q. from-same scripting hole.parent hole.behind (ends_in_text hole.after_text a) (ends_in_text hole.after_text b)
+    (still_drops hole.drops a) (still_drops hole.drops b) q h.ends h.drops)
+    ∙ sym (walk-joined scripting hole.parent hole.behind b hole.after_text hole.drops hole.spot)))
+
+-- HOLES
+
+no-hole : {A : Type 0} {hole : Hole} → None ≡ Some hole → A
+no-hole e = absurd (true≢false (ap is_none e))
+
+-- a choice that gave something took one way
+chosen : {A : Type 0} (b : Bool) (x : Option A) (y : A) → choose b (λ _. x) (λ _. None) ≡ Some y → (b ≡ true) × (x ≡ Some y)
+chosen true x y e = (refl, e)
+chosen false x y e = absurd (true≢false (ap is_none e))
+
+not-chosen : {A : Type 0} (b : Bool) (x : Option A) (y : A) → choose b (λ _. None) (λ _. x) ≡ Some y → (b ≡ false) × (x ≡ Some y)
+not-chosen true x y e = absurd (true≢false (ap is_none e))
+not-chosen false x y e = (refl, e)
+
+module _ (scripting : Bool) (hole : Hole) (a b : Trees) (alike : AreAlike scripting hole a b) where
+  -- in raw text both values fit the element, or neither
+  inner-fits : (parent : Parent) (drops : Bool) (name : QualName) (spot : Spot) (raw : Option RawKind) (inner : Holed)
+      → (is_none raw || is_here inner) ≡ true → hole_at scripting parent false drops (raw_of name raw) inner spot ≡ Some hole
+      → elim raw as (λ _. Bool) [
+        | None ↦ true
+        | Some kind ↦ bytes_eq (lowered name.local) name.local && is_raw_inside kind name.local (filled inner a)
+      ] ≡ elim raw as (λ _. Bool) [
+        | None ↦ true
+        | Some kind ↦ bytes_eq (lowered name.local) name.local && is_raw_inside kind name.local (filled inner b)
+      ]
+  inner-fits parent drops name spot None inner w e = refl
+  inner-fits parent drops name spot (Some kind) (Here behind) w e =
+      let is : record {
+        parent = parent;
+        spot = spot;
+        after_text = false;
+        drops = drops;
+        raw = raw_of name (Some kind);
+        behind = behind;
+      } ≡ hole = some-same e in
+      subst (λ (h : Hole). fits_raw h a ≡ fits_raw h b) (sym is) alike.raw
+  inner-fits parent drops name spot (Some kind) inner w e = absurd (true≢false (sym w))
+
+  pub holes-filled : (parent : Parent) (after_text drops : Bool) (raw : Option Raw) (holed : Holed) (p : Spot)
+      → hole_at scripting parent after_text drops raw holed p ≡ Some hole
+      → walk scripting parent after_text drops (filled holed a) p ≡ walk scripting parent after_text drops (filled holed b) p
+  unfolding walk
+  holes-filled parent after_text drops raw (Here behind) p e =
+      let here : Hole = record { parent = parent; spot = p; after_text = after_text; drops = drops; raw = raw; behind = behind } in
+      joined-same scripting here a b (subst (λ (h : Hole). AreAlike scripting h a b) (sym (some-same e)) alike)
+  holes-filled parent after_text drops raw (Within name attributes template inner behind) p e =
+      let at_made = λ (made : Made). choose (is_none made.raw || is_here inner)
+      (λ _. hole_at scripting (below parent) false made.drops_line_feed (raw_of name made.raw) inner made.spot) (λ _. None) in
+      let full = not-chosen (is_void name) (and_then (started name attributes template p) at_made) hole e in
+      element-same scripting parent name attributes template after_text drops behind p at_made hole (filled inner a) (filled inner b) full.1
+      (λ made m.
+      let w = chosen (is_none made.raw || is_here inner)
+      (hole_at scripting (below parent) false made.drops_line_feed (raw_of name made.raw) inner made.spot) hole m in
+      stood-by scripting parent name false (filled inner a) (filled inner b) made full.0 (λ t. absurd (true≢false (sym t)))
+      (inner-fits (below parent) made.drops_line_feed name made.spot made.raw inner w.0 w.1)
+      (holes-filled (below parent) false made.drops_line_feed (raw_of name made.raw) inner made.spot w.1))
+  holes-filled parent after_text drops raw (AfterText text inner) p e =
+      let f = λ (x : Trees) (q : Spot). walk scripting parent true false (filled inner x) q in
+      choose-same (is_text after_text drops text && is_current parent p) (and_then (text_put text p) (f a))
+      (and_then (text_put text p) (f b)) None
+      (λ c. then-same (text_put text p) (λ q. hole_at scripting parent true false None inner q) (f a) (f b) hole e
+      (λ q m. holes-filled parent true false None inner q m))
+  holes-filled parent after_text drops raw (AfterComment text inner) p e =
+      let f = λ (x : Trees) (q : Spot). walk scripting parent false false (filled inner x) q in
+      choose-same (is_comment_text text) (and_then (comment_put parent text p) (f a)) (and_then (comment_put parent text p) (f b)) None
+      (λ c. then-same (comment_put parent text p) (λ q. hole_at scripting parent false false None inner q) (f a) (f b) hole e
+      (λ q m. holes-filled parent false false None inner q m))
+  holes-filled parent after_text drops raw (AfterDoctype name public_id system_id inner) p e = no-hole e
+  holes-filled parent after_text drops raw (AfterElement name attributes template kids inner) p e =
+      let o = walk scripting parent false false (Element name attributes template kids Nothing) p in
+      element-then scripting parent name attributes template after_text drops kids (filled inner a) p
+      ∙ (then-same o (λ q. hole_at scripting parent false false None inner q) (λ q. walk scripting parent false false (filled inner a) q)
+      (λ q. walk scripting parent false false (filled inner b) q) hole e
+      (λ q m. holes-filled parent false false None inner q m)
+      ∙ sym (element-then scripting parent name attributes template after_text drops kids (filled inner b) p))
+
+  abbrev start_at : QuirksMode → Spot
+  start_at quirks = first_spot scripting BeforeHtml quirks
+
+  pub documents-filled : (holed : Holed) → hole_of scripting holed ≡ Some hole
+      → is_faithful scripting (filled holed a) ≡ is_faithful scripting (filled holed b)
+  unfolding is_faithful
+  documents-filled (Here behind) e = no-hole e
+  documents-filled (Within name attributes template inner behind) e =
+      ap is_at_end (holes-filled OfDocument false false None (Within name attributes template inner behind) (start_at Quirks) e)
+  documents-filled (AfterText text inner) e = no-hole e
+  documents-filled (AfterComment text inner) e = ap (λ f. is_comment_text text && f) (documents-filled inner e)
+  documents-filled (AfterDoctype name public_id system_id inner) e =
+      ap (λ o. bytes_eq name (codes "html") && is_at_end o) (holes-filled OfDocument false false None inner (start_at NoQuirks) e)
+  documents-filled (AfterElement name attributes template kids inner) e =
+      ap is_at_end (holes-filled OfDocument false false None (AfterElement name attributes template kids inner) (start_at Quirks) e)
+
+-- ATTRIBUTES
+
+-- no element stands in raw text
+raw-element : (hole : Hole) (name : QualName) (template : Bool) (kids rest : Trees) (a b : List Attribute)
+    → fits_raw hole (Element name a template kids rest) ≡ fits_raw hole (Element name b template kids rest)
+raw-element hole name template kids rest a b = by hole.raw where
+  by : (raw : Option Raw) → elim raw as (λ _. Bool) [
+    | None ↦ true
+    | Some raw ↦ bytes_eq (lowered raw.name) raw.name && is_raw_inside raw.kind raw.name (joined (Element name a template kids rest) hole.behind)
+  ] ≡ elim raw as (λ _. Bool) [
+    | None ↦ true
+    | Some raw ↦ bytes_eq (lowered raw.name) raw.name && is_raw_inside raw.kind raw.name (joined (Element name b template kids rest) hole.behind)
+  ]
+  by None = refl
+  by (Some raw) = refl
+
+pub attributes-alike : (scripting : Bool) (hole : Hole) (name : QualName) (template : Bool) (kids : Trees) (a b : List Attribute)
+    → AreTagsAlike name template hole.spot a b
+    → AreAlike scripting hole (Element name a template kids Nothing) (Element name b template kids Nothing)
+attributes-alike scripting hole name template kids a b h = record {
+  walked = attributes-filled scripting hole.parent name hole.after_text hole.drops template kids Nothing hole.spot a b h;
+  raw = raw-element hole name template kids Nothing a b;
+  ends = λ e. refl;
+  drops = λ e. refl;
+}

@@ -1,78 +1,186 @@
--- Holes in documents, as page templates have them: the children of one element are left open.
-use Rattle.std.specs.Prelude.{◌≡◌, ℕ, Bool, true, false, List, [], ◌∷◌, Option, Some, None}
-use Rattle.markup.specs.Trees.{Trees, Nothing, Text, Comment, Doctype, Element}
+-- Holes in documents, as page templates have them: some siblings, the text of an element or a tag's attributes are left open.
+use Rattle.std.specs.Prelude.{◌≡◌, ℕ, Bool, true, false, cond, ◌&&◌, ◌||◌, not, List, [], ◌∷◌, Option, Some, None, is_none}
+use Rattle.std.specs.Str.{bytes_eq}
+use Rattle.markup.specs.Trees.{Trees, Nothing, Text, Comment, ProcessingInstruction, Doctype, Element}
 use Rattle.markup.specs.declared.attributes.Attribute.{Attribute}
 use Rattle.markup.specs.declared.names.QualName.{QualName}
-use Rattle.markup.specs.declared.quirks.QuirksMode.TheVariants.{NoQuirks}
+use Rattle.markup.specs.declared.quirks.QuirksMode.TheVariants.{NoQuirks, Quirks}
+use Rattle.html_tokens.specs.declared.states.RawKind.{RawKind}
+use Rattle.html_rules.specs.Choice.{choose}
 use Rattle.html_rules.specs.ForeignContent.{is_html_element}
 use Rattle.html_rules.specs.State.{current_is}
-use Rattle.html_rules.specs.declared.insertion_mode.InsertionMode.TheVariants.{BeforeHtml, InBody}
-use Rattle.html_faithful.specs.Forms.{is_kept}
+use Rattle.html_rules.specs.declared.insertion_mode.InsertionMode.{InsertionMode}
+use Rattle.html_rules.specs.declared.insertion_mode.InsertionMode.TheVariants as mode
+use Rattle.html_faithful.specs.Forms.{is_kept, is_raw_text, lowered}
 use Rattle.html_faithful.specs.Harmless.{Made, and_then}
 use Rattle.html_faithful.specs.Spots.{Spot}
-use Rattle.html_faithful.specs.Walk.{OfDocument, Parent, below, comment_put, first_spot, fits_inside, is_current, is_faithful, is_void}
-use Rattle.html_faithful.specs.Walk.{started}
-use Rattle.html_faithful.specs.Walk.{text_put, walk}
+use Rattle.html_faithful.specs.Walk.{OfDocument, Parent, are_none, below, comment_put, first_spot, is_current, is_faithful, is_raw_inside, is_void}
+use Rattle.html_faithful.specs.Walk.{started, text_put, walk}
 
--- trees with a hole: the children of an element are open, or the hole is in them, or it is behind a tree
+-- trees, and others after them
+abbrev pub joined : Trees → Trees → Trees
+joined Nothing behind = behind
+joined (Text text rest) behind = Text text (joined rest behind)
+joined (Comment text rest) behind = Comment text (joined rest behind)
+joined (ProcessingInstruction target text rest) behind = ProcessingInstruction target text (joined rest behind)
+joined (Doctype name public_id system_id rest) behind = Doctype name public_id system_id (joined rest behind)
+joined (Element name attributes template kids rest) behind = Element name attributes template kids (joined rest behind)
+
+-- trees with a hole: the hole and what follows it; or the hole is in an element, or behind a node
 pub data Holed : Type 0 where
-  Here : (name : QualName) (attributes : List Attribute) (template : Bool) (rest : Trees) → Holed
-  Within : (name : QualName) (attributes : List Attribute) (template : Bool) (hole : Holed) (rest : Trees) → Holed
+  Here : (behind : Trees) → Holed
+  Within : (name : QualName) (attributes : List Attribute) (template : Bool) (hole : Holed) (behind : Trees) → Holed
   AfterText : (text : List ℕ) (hole : Holed) → Holed
   AfterComment : (text : List ℕ) (hole : Holed) → Holed
+  AfterDoctype : (name public_id system_id : List ℕ) (hole : Holed) → Holed
   AfterElement : (name : QualName) (attributes : List Attribute) (template : Bool) (kids : Trees) (hole : Holed) → Holed
 
--- the trees, with these in the hole
+-- the trees, with a value in the hole
 abbrev pub filled : Holed → Trees → Trees
-filled (Here name attributes template rest) value = Element name attributes template value rest
-filled (Within name attributes template hole rest) value = Element name attributes template (filled hole value) rest
+filled (Here behind) value = joined value behind
+filled (Within name attributes template hole behind) value = Element name attributes template (filled hole value) behind
 filled (AfterText text hole) value = Text text (filled hole value)
 filled (AfterComment text hole) value = Comment text (filled hole value)
+filled (AfterDoctype name public_id system_id hole) value = Doctype name public_id system_id (filled hole value)
 filled (AfterElement name attributes template kids hole) value = Element name attributes template kids (filled hole value)
 
--- what is known of a hole: what its trees stand in, the element, and what the rules made of its start tag
+-- WHERE A HOLE IS
+
+-- the raw text, or escapable raw text, in which a hole is: its kind, and the element's name
+pub record Raw : Type 0 where
+  pub kind : RawKind
+  pub name : List ℕ
+
+-- What is known of a hole: what a value stands in and at which spot, whether a text is just before it, whether a line feed that comes
+-- first is dropped, the raw text that it is in, and what follows.
 pub record Hole : Type 0 where
   pub parent : Parent
-  pub name : QualName
-  pub made : Made
+  pub spot : Spot
+  pub after_text : Bool
+  pub drops : Bool
+  pub raw : Option Raw
+  pub behind : Trees
 
--- found by a walk of what stands before it
-abbrev pub hole_at : Bool → Parent → Holed → Spot → Option Hole
-hole_at scripting parent (Here name attributes template rest) p =
-    and_then (started name attributes template p) (λ made. Some (record { parent = below parent; name = name; made = made }))
-hole_at scripting parent (Within name attributes template hole rest) p =
-    and_then (started name attributes template p) (λ made. hole_at scripting (below parent) hole made.spot)
-hole_at scripting parent (AfterText text hole) p = and_then (text_put text p) (λ p. hole_at scripting parent hole p)
-hole_at scripting parent (AfterComment text hole) p = and_then (comment_put parent text p) (λ p. hole_at scripting parent hole p)
-hole_at scripting parent (AfterElement name attributes template kids hole) p =
-    and_then (walk scripting parent false false (Element name attributes template kids Nothing) p) (λ p. hole_at scripting parent hole p)
+abbrev pub raw_of : QualName → Option RawKind → Option Raw
+raw_of name None = None
+raw_of name (Some kind) = Some (record { kind = kind; name = name.local })
 
--- two values walk in a hole from the same spot to the same spot; where the hole has raw text, both fit it or neither does
+abbrev pub is_here : Holed → Bool
+is_here (Here behind) = true
+is_here hole = false
+
+-- Found by a walk of what is before it. There is none in a void element, nor behind a node in raw text.
+abbrev pub hole_at : Bool → Parent → Bool → Bool → Option Raw → Holed → Spot → Option Hole
+hole_at scripting parent after_text drops raw (Here behind) p =
+    Some (record { parent = parent; spot = p; after_text = after_text; drops = drops; raw = raw; behind = behind })
+hole_at scripting parent after_text drops raw (Within name attributes template hole behind) p =
+    choose (is_void name) (λ _. None)
+    (λ _. and_then (started name attributes template p)
+    (λ made. choose (is_none made.raw || is_here hole)
+    (λ _. hole_at scripting (below parent) false made.drops_line_feed (raw_of name made.raw) hole made.spot) (λ _. None)))
+hole_at scripting parent after_text drops raw (AfterText text hole) p =
+    and_then (text_put text p) (λ p. hole_at scripting parent true false None hole p)
+hole_at scripting parent after_text drops raw (AfterComment text hole) p =
+    and_then (comment_put parent text p) (λ p. hole_at scripting parent false false None hole p)
+hole_at scripting parent after_text drops raw (AfterDoctype name public_id system_id hole) p = None
+hole_at scripting parent after_text drops raw (AfterElement name attributes template kids hole) p =
+    and_then (walk scripting parent false false (Element name attributes template kids Nothing) p)
+    (λ p. hole_at scripting parent false false None hole p)
+
+abbrev pub hole_from : Bool → Holed → Spot → Option Hole
+hole_from scripting holed p = hole_at scripting OfDocument false false None holed p
+
+-- in a document: behind comments and a doctype, or with no doctype before it
+abbrev pub hole_of : Bool → Holed → Option Hole
+hole_of scripting (AfterComment text hole) = hole_of scripting hole
+hole_of scripting (AfterDoctype name public_id system_id hole) = hole_from scripting hole (first_spot scripting mode.BeforeHtml NoQuirks)
+hole_of scripting (Within name attributes template hole behind) =
+    hole_from scripting (Within name attributes template hole behind) (first_spot scripting mode.BeforeHtml Quirks)
+hole_of scripting (AfterElement name attributes template kids hole) =
+    hole_from scripting (AfterElement name attributes template kids hole) (first_spot scripting mode.BeforeHtml Quirks)
+hole_of scripting holed = None
+
+-- VALUES THAT ARE ALIKE
+
+abbrev pub begins_with_text : Trees → Bool
+begins_with_text (Text text rest) = true
+begins_with_text trees = false
+
+-- whether a text is just before what follows trees
+abbrev pub ends_in_text : Bool → Trees → Bool
+ends_in_text after_text Nothing = after_text
+ends_in_text after_text (Text text rest) = ends_in_text true rest
+ends_in_text after_text (Comment text rest) = ends_in_text false rest
+ends_in_text after_text (ProcessingInstruction target text rest) = ends_in_text false rest
+ends_in_text after_text (Doctype name public_id system_id rest) = ends_in_text false rest
+ends_in_text after_text (Element name attributes template kids rest) = ends_in_text false rest
+
+-- whether a line feed would still be dropped there
+abbrev pub still_drops : Bool → Trees → Bool
+still_drops drops Nothing = drops
+still_drops drops trees = false
+
+-- whether a value is read as it is written, where it is in raw text
+abbrev pub fits_raw : Hole → Trees → Bool
+fits_raw hole value = elim hole.raw as (λ _. Bool) [
+  | None ↦ true
+  | Some raw ↦ bytes_eq (lowered raw.name) raw.name && is_raw_inside raw.kind raw.name (joined value hole.behind)
+]
+
+-- Two values are alike in a hole: from its spot they walk to one spot; in raw text both are read as they are written, or neither; and
+-- where a text follows, both end in a text or neither.
 pub record AreAlike (scripting : Bool) (hole : Hole) (a b : Trees) : Type 0 where
-  pub full : is_void hole.name ≡ false
-  pub fit : fits_inside hole.name a hole.made ≡ fits_inside hole.name b hole.made
-  pub walked : walk scripting hole.parent false hole.made.drops_line_feed a hole.made.spot
-      ≡ walk scripting hole.parent false hole.made.drops_line_feed b hole.made.spot
+  pub walked : walk scripting hole.parent hole.after_text hole.drops a hole.spot
+      ≡ walk scripting hole.parent hole.after_text hole.drops b hole.spot
+  pub raw : fits_raw hole a ≡ fits_raw hole b
+  pub ends : begins_with_text hole.behind ≡ true → ends_in_text hole.after_text a ≡ ends_in_text hole.after_text b
+  pub drops : begins_with_text hole.behind ≡ true → still_drops hole.drops a ≡ still_drops hole.drops b
 
--- A hole in the body, in HTML, whose text is escaped: no raw text, and no line feed is dropped there.
-pub record IsTextHole (hole : Hole) : Type 0 where
-  pub full : is_void hole.name ≡ false
-  pub escaped : hole.made.raw ≡ None
-  pub keeps_line_feeds : hole.made.drops_line_feed ≡ false
-  pub in_body : hole.made.spot.mode ≡ InBody
-  pub no_frameset : hole.made.spot.frameset_ok ≡ false
-  pub in_html : current_is is_html_element hole.made.spot.path ≡ true
-  pub current : is_current hole.parent hole.made.spot ≡ true
+-- With one such value in place of another, trees walk as before; and a document is as faithful as before.
+pub record AreHolesFilled : Type 0 where
+  pub trees : (scripting : Bool) (parent : Parent) (after_text drops : Bool) (raw : Option Raw) (holed : Holed) (p : Spot) (hole : Hole)
+      (a b : Trees) → hole_at scripting parent after_text drops raw holed p ≡ Some hole → AreAlike scripting hole a b
+      → walk scripting parent after_text drops (filled holed a) p ≡ walk scripting parent after_text drops (filled holed b) p
+  pub documents : (scripting : Bool) (holed : Holed) (hole : Hole) (a b : Trees)
+      → hole_of scripting holed ≡ Some hole → AreAlike scripting hole a b
+      → is_faithful scripting (filled holed a) ≡ is_faithful scripting (filled holed b)
+
+-- TEXTS
 
 -- a value that is text
 abbrev pub text_value : List ℕ → Trees
 text_value [] = Nothing
 text_value (c ∷ cs) = Text (c ∷ cs) Nothing
 
--- In such a hole any two texts walk alike, if they have no U+0000 and no U+000D.
+-- in the body, or in a cell
+abbrev pub is_flow_mode : InsertionMode → Bool
+is_flow_mode mode.InBody = true
+is_flow_mode mode.InCell = true
+is_flow_mode m = false
+
+abbrev pub is_text_mode : InsertionMode → Bool
+is_text_mode mode.Text = true
+is_text_mode m = false
+
+-- A hole for text: no text is beside it, and no line feed is dropped there. It is in the body, in HTML, after the first thing that rules
+-- out a frameset; or it is all that is in an element of raw text or escapable raw text.
+abbrev pub is_text_hole : Hole → Bool
+is_text_hole hole =
+    not hole.after_text && not hole.drops && not (begins_with_text hole.behind)
+    && current_is is_html_element hole.spot.path && is_current hole.parent hole.spot
+    && cond (is_none hole.raw) (is_flow_mode hole.spot.mode && not hole.spot.frameset_ok)
+    (is_text_mode hole.spot.mode && are_none hole.behind)
+
+-- Whether a text is read as it is written: in raw text, as of `script` and `style`, nothing is escaped, so it must not end the element.
+abbrev pub is_text_fit : Hole → List ℕ → Bool
+is_text_fit hole text = elim hole.raw as (λ _. Bool) [ None ↦ true | Some raw ↦ is_raw_text raw.kind raw.name text ]
+
+-- In such a hole any two texts are alike that have no U+0000 and no U+000D, and in raw text where both fit it or neither does.
 abbrev pub AreTextsAlike : Type 0
-AreTextsAlike = (scripting : Bool) (hole : Hole) → IsTextHole hole → (a b : List ℕ) → is_kept a ≡ true → is_kept b ≡ true
-    → AreAlike scripting hole (text_value a) (text_value b)
+AreTextsAlike = (scripting : Bool) (hole : Hole) → is_text_hole hole ≡ true → (a b : List ℕ) → is_kept a ≡ true → is_kept b ≡ true
+    → is_text_fit hole a ≡ is_text_fit hole b → AreAlike scripting hole (text_value a) (text_value b)
+
+-- ATTRIBUTES
 
 -- two start tags of an element are taken alike, but for the attributes that they put
 pub record AreTagsAlike (name : QualName) (template : Bool) (p : Spot) (a b : List Attribute) : Type 0 where
@@ -84,20 +192,8 @@ pub record AreTagsAlike (name : QualName) (template : Bool) (p : Spot) (a b : Li
   pub raw : first.raw ≡ second.raw
   pub drops : first.drops_line_feed ≡ second.drops_line_feed
 
--- With such attributes in place of others, as where a value is put into one, trees walk as before.
-abbrev pub AreAttributesFilled : Type 0
-AreAttributesFilled = (scripting : Bool) (parent : Parent) (after_text drops : Bool) (name : QualName) (template : Bool)
-    (kids rest : Trees) (p : Spot)
-    (a b : List Attribute) → AreTagsAlike name template p a b
-    → walk scripting parent after_text drops (Element name a template kids rest) p
-    ≡ walk scripting parent after_text drops (Element name b template kids rest) p
-
--- With one such value in place of another, trees walk as before; and a document is as faithful as before.
-pub record AreHolesFilled : Type 0 where
-  pub trees : (scripting : Bool) (parent : Parent) (after_text drops : Bool) (holed : Holed) (p : Spot) (hole : Hole) (a b : Trees)
-      → hole_at scripting parent holed p ≡ Some hole → AreAlike scripting hole a b
-      → walk scripting parent after_text drops (filled holed a) p ≡ walk scripting parent after_text drops (filled holed b) p
-  pub documents : (scripting : Bool) (name public_id system_id : List ℕ) (holed : Holed) (hole : Hole) (a b : Trees)
-      → hole_at scripting OfDocument holed (first_spot scripting BeforeHtml NoQuirks) ≡ Some hole → AreAlike scripting hole a b
-      → is_faithful scripting (Doctype name public_id system_id (filled holed a))
-      ≡ is_faithful scripting (Doctype name public_id system_id (filled holed b))
+-- So an element with some attributes, as where a value is put into one, is like the same element with others.
+abbrev pub AreAttributesAlike : Type 0
+AreAttributesAlike = (scripting : Bool) (hole : Hole) (name : QualName) (template : Bool) (kids : Trees) (a b : List Attribute)
+    → AreTagsAlike name template hole.spot a b
+    → AreAlike scripting hole (Element name a template kids Nothing) (Element name b template kids Nothing)

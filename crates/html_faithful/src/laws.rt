@@ -2,7 +2,7 @@
 ghost use Rattle.html_faithful.specs.Around.{AreTreesPlanted};
 ghost use Rattle.html_faithful.specs.Begins.{DoDocumentsBegin};
 ghost use Rattle.html_faithful.specs.Faces.{AreConditionsSeen, AreRowsSeen, IsForeignSeen};
-ghost use Rattle.html_faithful.specs.Holes.{AreAttributesFilled, AreHolesFilled, AreTextsAlike};
+ghost use Rattle.html_faithful.specs.Holes.{AreAttributesAlike, AreHolesFilled, AreTextsAlike};
 ghost use Rattle.html_faithful.specs.Keeping.{AreSpotsKept};
 ghost use Rattle.html_faithful.specs.Listing.{AreListsHarmless, AreListsKept};
 ghost use Rattle.html_faithful.specs.Numbers.{AreNumbersKept};
@@ -115,21 +115,19 @@ pub fn white_space_waits()
     ensures { DoesWhiteSpaceWait }
 {}
 
-/// Where the children of one element are replaced by trees that walk from the same spot to the same spot, a faithful document stays
-/// faithful:
-/// a page template is judged once, and each value by itself.
+/// A page template is judged once: with a value in a hole that is like another there, a document is as faithful as with the other. Values are
+/// alike if they lead from the spot of the hole to one spot.
 pub fn holes_are_filled()
     ensures { AreHolesFilled }
 {}
 
-/// In a hole in the body, whose text is escaped, any text may stand in place of another.
+/// In a hole for text any text is like any other; in raw text, as of `script` and `style`, where nothing is escaped, only if both come
+/// back as they are written, or neither.
 pub fn texts_are_alike()
     ensures { AreTextsAlike }
 {}
 
-/// Where the attributes of an element are replaced by others with which its start tag is taken alike, trees walk as before: a value
-/// that is put
-/// into an attribute is judged by that one tag.
-pub fn attributes_are_filled()
-    ensures { AreAttributesFilled }
+/// An element with some attributes is like the same element with others with which its start tag is taken alike.
+pub fn attributes_are_alike()
+    ensures { AreAttributesAlike }
 {}
