@@ -249,14 +249,14 @@ module _ (name : List ℕ) (attributes : List Attribute) (q : Spot) (made : Made
 pub low-name : (k : PlainElement) → lowered (spelled k) ≡ spelled k
 low-name k =
     let p = and_parts (is_tag_name (spelled k) && bytes_eq (lowered (spelled k)) (spelled k)) (not (is_template (html_name (spelled k))))
-        (name-fits k) in
+    (name-fits k) in
     (texts_by_value (lowered (spelled k)) (spelled k)).0
     (and_parts (is_tag_name (spelled k)) (bytes_eq (lowered (spelled k)) (spelled k)) p.0).1
 
 pub tag-name : (k : PlainElement) → is_tag_name (spelled k) ≡ true
 tag-name k =
     let p = and_parts (is_tag_name (spelled k) && bytes_eq (lowered (spelled k)) (spelled k)) (not (is_template (html_name (spelled k))))
-        (name-fits k) in
+    (name-fits k) in
     (and_parts (is_tag_name (spelled k)) (bytes_eq (lowered (spelled k)) (spelled k)) p.0).0
 
 pub no-template : (k : PlainElement) → is_template (html_name (spelled k)) ≡ false

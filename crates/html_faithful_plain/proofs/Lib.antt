@@ -3,4 +3,5 @@ pub mod Stands
 pub mod Tags
 pub mod Elements
 pub mod Walks
+pub mod PlainHoles
 pub mod Frames

@@ -24,7 +24,7 @@ use Rattle.html_rules.specs.declared.insertion_mode.InsertionMode.TheVariants as
 use Rattle.html_rules.specs.declared.tag_set.TagSet.{TagSet}
 use Rattle.html_rules.specs.declared.tag_set.TagSet.TheVariants as set
 use Rattle.html_faithful.specs.Listing.{link_open}
-use Rattle.html_faithful.specs.Spots.{Spot, entries_of, opened_at}
+use Rattle.html_faithful.specs.Spots.{Spot, entries_of, hollow, opened_at}
 
 -- the places in the body
 abbrev pub is_inner : PlainPlace → Bool
@@ -90,11 +90,17 @@ opened k xs = opened_at names.Html (spelled k) xs
 abbrev pub there : Spot → InsertionMode → List Open → Bool → Spot
 there p m xs ok = record p { mode = m; orig_mode = None; path = xs; frameset_ok = ok }
 
+-- of a state, what the reset of its mode asks besides what is open
+pub record Faces (p : Spot) (s : State) : Type 0 where
+  pub template_modes : s.template_modes ≡ p.template_modes
+  pub head : s.head_elem ≡ (hollow p).head_elem
+  pub context : s.context_elem ≡ None
+
 -- what is asked where these elements are open
 pub record Stands (p : Spot) (place : PlainPlace) (cell : Bool) (ys : List Open) : Type 0 where
   pub own : current_is is_html_element ys ≡ true
   -- the mode is the one that these elements ask for
-  pub again : (s : State) → s.template_modes ≡ p.template_modes → mode_of_open s ys ≡ mode_at place cell
+  pub again : (s : State) → Faces p s → mode_of_open s ys ≡ mode_at place cell
   pub paragraph : is_line place ≡ false → in_scope set.ButtonScope (is_in set.P) ys ≡ false
   pub heading : is_flow place ≡ true → current_is (is_in set.HeadingTag) ys ≡ false
   pub unlisted : is_in_link place ≡ false → is_some (last_named (codes "a") (entries_of ys)) ≡ false
@@ -113,7 +119,7 @@ module _ (p : Spot) (cell : Bool) (k : PlainElement) (ys : List Open) where
   zs = opened k ys ∷ ys
 
   abbrev Again : PlainPlace → Type 0
-  Again place = (s : State) → s.template_modes ≡ p.template_modes → mode_of_open s zs ≡ mode_at place cell
+  Again place = (s : State) → Faces p s → mode_of_open s zs ≡ mode_at place cell
 
   abbrev Outside : Type 0
   Outside = in_scope set.ButtonScope (is_in set.P) zs ≡ false

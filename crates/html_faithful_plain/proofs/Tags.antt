@@ -40,7 +40,7 @@ use Rattle.html_faithful.specs.Harmless.{Change, Put, EntryLeft, EntryPushed, Fo
 use Rattle.html_faithful.specs.Harmless.{nothing_yet}
 use Rattle.html_faithful.specs.Harmless as put
 use Rattle.html_faithful.specs.Spots.{Spot, entries_of, hollow}
-use Rattle.html_faithful_plain.proofs.Stands.{Stands, flow_mode, in_cell, is_break, is_inner, mode_at, opened, there}
+use Rattle.html_faithful_plain.proofs.Stands.{Faces, Stands, flow_mode, in_cell, is_break, is_inner, mode_at, opened, there}
 
 abbrev pub start_of : PlainElement → List Attribute → Token
 start_of k attributes = TagToken (record (named StartTag (spelled k)) { attrs = attributes })
@@ -394,6 +394,9 @@ module _ (p : Spot) (ys : List Open) (ok : Bool) where
 
 -- WHERE PLAIN NODES STAND
 
+faces : (p : Spot) (m : InsertionMode) (ys : List Open) (ok : Bool) → Faces p (hollow (there p m ys ok))
+faces p m ys ok = record { template_modes = refl; head = refl; context = refl }
+
 module _ (p : Spot) (cell : Bool) (ys : List Open) (ok : Bool) (attributes : List Attribute) where
   abbrev StartsIn : PlainPlace → PlainElement → Type 0
   StartsIn place k = made_of (start_of k attributes) (there p (mode_at place cell) ys ok)
@@ -476,7 +479,7 @@ module _ (p : Spot) (cell : Bool) (ys : List Open) (ok : Bool) where
   flow-end Division e v h = by-flow-end Division refl
   flow-end (ListElement kind) e v h = by-flow-end (ListElement kind) refl
   flow-end Table e v h = by-own (there p mode.InTable (opened Table ys ∷ ys) ok) (end_of Table) refl refl
-      ∙ table-end p ys ok (flow_mode cell) (h.again (hollow (there p mode.InTable ys ok)) refl)
+      ∙ table-end p ys ok (flow_mode cell) (h.again (hollow (there p mode.InTable ys ok)) (faces p mode.InTable ys ok))
   flow-end (Formatted format) e v h = by-flow-end (Formatted format) refl
   flow-end Link e v h = by-flow-end Link refl
   flow-end Break e v h = no (sym v)

@@ -11,7 +11,7 @@ use Rattle.html_plain.specs.Grammar as plain
 use Rattle.html_plain.specs.Grammar.{IsPlain, are_plain_attributes, is_plain_comment, is_plain_text, takes_text}
 use Rattle.html_plain.specs.declared.elements.PlainElement.{PlainElement}
 use Rattle.html_plain.specs.declared.elements.PlainElement.TheVariants.{Html, Head, Title, Body, Break, Link}
-use Rattle.html_plain.specs.declared.elements.PlainElement.TheVariants.{Table, TableBody, Row, Cell}
+use Rattle.html_plain.specs.declared.elements.PlainElement.TheVariants.{Item, Table, TableBody, Row, Cell}
 use Rattle.html_plain.specs.declared.place.PlainPlace.{PlainPlace}
 use Rattle.html_plain.specs.declared.place.PlainPlace.TheVariants.{InBreak, InFlow, InLine, InList, InTable, InTableBody, InRow}
 use Rattle.html_rules.specs.Choice.{choose}
@@ -225,30 +225,45 @@ pub record IsWalked (scripting : Bool) (p : Spot) (place : PlainPlace) (cell : B
   pub flag : Bool
   pub ends : walk scripting OfCurrent after_text false trees (there p (mode_at place cell) ys ok)
       ≡ Some (there p (mode_at place cell) ys flag)
+  -- once it is off it stays so
+  pub stays_off : ok ≡ false → flag ≡ false
+
+off-text : (text : List ℕ) (ok : Bool) → ok ≡ false → flag_after text ok ≡ false
+off-text [] ok e = e
+off-text (c ∷ cs) ok e = off-text cs (ok && is_white (c ∷ [])) (ap (λ b. b && is_white (c ∷ [])) e)
+
+off-tag : (k : PlainElement) (ok : Bool) → ok ≡ false → flag_of k ok ≡ false
+off-tag Item ok e = refl
+off-tag Table ok e = refl
+off-tag Break ok e = refl
+off-tag k ok e = e
 
 then-walked : (scripting : Bool) (p : Spot) (place : PlainPlace) (cell : Bool) (ys : List Open) (ok before after_text flag : Bool)
     (trees rest : Trees)
     → walk scripting OfCurrent before false trees (there p (mode_at place cell) ys ok)
     ≡ walk scripting OfCurrent after_text false rest (there p (mode_at place cell) ys flag)
+    → (ok ≡ false → flag ≡ false)
     → IsWalked scripting p place cell ys flag after_text rest → IsWalked scripting p place cell ys ok before trees
-then-walked scripting p place cell ys ok before after_text flag trees rest e h = record { flag = h.flag; ends = e ∙ h.ends }
+then-walked scripting p place cell ys ok before after_text flag trees rest e off h =
+    record { flag = h.flag; ends = e ∙ h.ends; stays_off = λ o. h.stays_off (off o) }
 
 -- the text that stands first in a place
 record IsPut (p : Spot) (place : PlainPlace) (cell : Bool) (ys : List Open) (ok : Bool) (text : List ℕ) : Type 0 where
   flag : Bool
   ends : text_put text (there p (mode_at place cell) ys ok) ≡ Some (there p (mode_at place cell) ys flag)
+  stays_off : ok ≡ false → flag ≡ false
 
 text-in : (p : Spot) (place : PlainPlace) (cell : Bool) (ys : List Open) (ok : Bool) (text : List ℕ) → is_inner place ≡ true
     → Stands p place cell ys → takes_text (text_kind place) text ≡ true → IsPut p place cell ys ok text
-text-in p InFlow cell ys ok text i h t = record { flag = flag_after text ok; ends = flow-text p cell ys h.own text ok }
-text-in p (InLine in_link) cell ys ok text i h t = record { flag = flag_after text ok; ends = flow-text p cell ys h.own text ok }
-text-in p InList cell ys ok text i h t = record { flag = flag_after text ok; ends = flow-text p cell ys h.own text ok }
+text-in p InFlow cell ys ok text i h t = record { flag = flag_after text ok; ends = flow-text p cell ys h.own text ok; stays_off = off-text text ok }
+text-in p (InLine in_link) cell ys ok text i h t = record { flag = flag_after text ok; ends = flow-text p cell ys h.own text ok; stays_off = off-text text ok }
+text-in p InList cell ys ok text i h t = record { flag = flag_after text ok; ends = flow-text p cell ys h.own text ok; stays_off = off-text text ok }
 text-in p InTable cell ys ok text i h t =
-    record { flag = ok; ends = part-text p cell ys InTable refl (h.foster refl) text ok (all-white text t) }
+    record { flag = ok; ends = part-text p cell ys InTable refl (h.foster refl) text ok (all-white text t); stays_off = λ e. e }
 text-in p InTableBody cell ys ok text i h t =
-    record { flag = ok; ends = part-text p cell ys InTableBody refl (h.foster refl) text ok (all-white text t) }
+    record { flag = ok; ends = part-text p cell ys InTableBody refl (h.foster refl) text ok (all-white text t); stays_off = λ e. e }
 text-in p InRow cell ys ok text i h t =
-    record { flag = ok; ends = part-text p cell ys InRow refl (h.foster refl) text ok (all-white text t) }
+    record { flag = ok; ends = part-text p cell ys InRow refl (h.foster refl) text ok (all-white text t); stays_off = λ e. e }
 text-in p place cell ys ok text i h t = no i
 
 pub is-text : (after_text : Bool) (text : List ℕ) → after_text ≡ false → is_plain_text text ≡ true → is_text after_text false text ≡ true
@@ -293,6 +308,7 @@ full-walked scripting p place cell ys ok after_text k attributes kids rest i e v
           (there p (mode_at (inside place k) (in_cell k cell)) (opened k ys ∷ ys) inner.flag) (there p m ys inner.flag)
           (stays k frame) start (is-written scripting k) (is-void scripting k ∙ v) refl
           (ap (walk scripting OfCurrent false false kids) there_inside ∙ inner.ends) end ∙ done.ends;
+      stays_off = λ e. done.stays_off (inner.stays_off (off-tag k ok e));
     }
 
 -- a `br` stands in flow content and in lines
@@ -317,7 +333,7 @@ break-walked scripting p place cell ys ok after_text attributes rest e plain h g
     (is-written scripting Break) (is-void scripting Break) refl in
     then-walked scripting p place cell ys ok after_text false false _ rest
     (subst (λ n. walk scripting OfCurrent after_text false (Element (html_name (spelled Break)) attributes false Nothing rest)
-    (there p n ys ok) ≡ walk scripting OfCurrent false false rest (there p n ys false)) (sym m) at_flow) done
+    (there p n ys ok) ≡ walk scripting OfCurrent false false rest (there p n ys false)) (sym m) at_flow) (λ e. refl) done
 
 -- an element, with its name and children as the grammar has them
 break-or-full : (scripting : Bool) (p : Spot) (place : PlainPlace) (cell : Bool) (ys : List Open) (ok after_text : Bool) (k : PlainElement)
@@ -334,7 +350,7 @@ break-or-full scripting p place cell ys ok after_text k attributes kids rest b v
 
 pub trees-walk : (scripting : Bool) (trees : Trees) → Walks scripting trees
 unfolding walk
-trees-walk scripting Nothing p place cell ys ok after_text i h stands = record { flag = ok; ends = refl }
+trees-walk scripting Nothing p place cell ys ok after_text i h stands = record { flag = ok; ends = refl; stays_off = λ e. e }
 trees-walk scripting (Text text rest) p place cell ys ok after_text i h stands =
     let put = text-in p place cell ys ok text i stands h.2 in
     let done = trees-walk scripting rest p place cell ys put.flag true i
@@ -343,6 +359,7 @@ trees-walk scripting (Text text rest) p place cell ys ok after_text i h stands =
       flag = done.flag;
       ends = text-walked scripting OfCurrent after_text false text rest (there p (mode_at place cell) ys ok)
           (there p (mode_at place cell) ys put.flag) (and-so _ _ (is-text after_text text h.0 h.1) refl) put.ends ∙ done.ends;
+      stays_off = λ e. done.stays_off (put.stays_off e);
     }
 trees-walk scripting (Comment text rest) p place cell ys ok after_text i h stands =
     let done = trees-walk scripting rest p place cell ys ok false i h.2 stands in
@@ -353,6 +370,7 @@ trees-walk scripting (Comment text rest) p place cell ys ok after_text i h stand
       flag = done.flag;
       ends = comment-walked scripting OfCurrent after_text false text rest (there p (mode_at place cell) ys ok)
           (there p (mode_at place cell) ys ok) (comment-text text h.1) put ∙ done.ends;
+      stays_off = done.stays_off;
     }
 trees-walk scripting (ProcessingInstruction target text rest) p place cell ys ok after_text i h stands = absurd h
 trees-walk scripting (Doctype name public_id system_id rest) p place cell ys ok after_text i h stands =
@@ -367,4 +385,5 @@ trees-walk scripting (Element name attributes template kids rest) p place cell y
       flag = done.flag;
       ends = (λ j. walk scripting OfCurrent after_text false (Element (w.0 j) attributes (w.1 j) kids rest)
           (there p (mode_at place cell) ys ok)) ∙ done.ends;
+      stays_off = done.stays_off;
     }
