@@ -9,3 +9,4 @@ pub mod Trees
 pub mod Dressed
 pub mod Returns
 pub mod Documents
+pub mod Pages

@@ -3,3 +3,4 @@ pub mod Forms
 pub mod Reads
 pub mod Slices
 pub mod Written
+pub mod Pages

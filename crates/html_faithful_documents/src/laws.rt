@@ -1,6 +1,7 @@
 //! Laws of faithful documents. Each function's contract is one law.
 ghost use Rattle.html_faithful_documents.specs.Documents.{AreFaithfulBytesReadBack, AreFaithfulTreesReadBack};
 ghost use Rattle.html_faithful_documents.specs.Forms.{AreAllFormsTold};
+ghost use Rattle.html_faithful_documents.specs.Pages.{AreFilledPagesReadBack, AreFilledPagesWritten};
 
 /// The written forms of faithful trees are read as their tokens.
 pub fn forms_are_told()
@@ -15,4 +16,18 @@ pub fn faithful_documents_are_read_back()
 /// So are the bytes that it is written as, and they are written again.
 pub fn faithful_bytes_are_read_back()
     ensures { AreFaithfulBytesReadBack }
+{}
+
+/// A page template is judged once, with a sample in its hole. With any other value that is like the sample there, what is written of the page
+/// is read as just that page: no value breaks out of its hole. The laws of `html_faithful` say of texts and attributes that they are alike,
+/// that of `html_faithful_plain` of plain trees. In `script`, `style` and other raw text nothing is escaped: there a text is like another only
+/// if it doesn't end the element.
+pub fn filled_pages_are_read_back()
+    ensures { AreFilledPagesReadBack }
+{}
+
+/// What is written of a page with a value in a hole is what is written before the hole, of the value, and behind the hole; so a template
+/// engine may put texts together that it wrote before.
+pub fn filled_pages_are_written()
+    ensures { AreFilledPagesWritten }
 {}
