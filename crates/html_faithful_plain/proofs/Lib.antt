@@ -4,4 +4,5 @@ pub mod Tags
 pub mod Elements
 pub mod Walks
 pub mod PlainHoles
+pub mod Page
 pub mod Frames

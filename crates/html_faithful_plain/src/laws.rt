@@ -1,4 +1,5 @@
 //! Laws of plain documents. Each function's contract is one law.
+ghost use Rattle.html_faithful_plain.specs.Page.{IsPageFaithful};
 ghost use Rattle.html_faithful_plain.specs.Plain.{ArePlainDocumentsFaithful};
 ghost use Rattle.html_faithful_plain.specs.PlainHoles.{ArePlainTreesAlike};
 
@@ -11,4 +12,10 @@ pub fn plain_documents_are_faithful()
 /// these as with those.
 pub fn plain_trees_are_alike()
     ensures { ArePlainTreesAlike }
+{}
+
+/// A worked page template, with holes for a title, a name, blocks and an address: whatever is put into them, the page is faithful. It is
+/// judged once, with nothing in its holes.
+pub fn pages_stay_faithful()
+    ensures { IsPageFaithful }
 {}
