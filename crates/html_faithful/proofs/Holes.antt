@@ -1,5 +1,5 @@
 -- A hole is filled with one value or another that is like it.
-use Rattle.std.proofs.Common.{◌≡◌, ◌∙◌, ℕ, Bool, true, false, not, List, Option, Some, None, refl, sym, ap, ap₂, subst, true≢false}
+use Rattle.std.proofs.Common.{◌≡◌, ◌∙◌, Bool, true, false, not, List, Option, Some, None, refl, sym, ap, ap₂, subst, true≢false}
 use Rattle.std.specs.Prelude.{◌&&◌, ◌||◌, codes, is_none}
 use Rattle.std.specs.Str.{bytes_eq}
 use Rattle.markup.specs.Trees.{Trees, Nothing, Text, Comment, ProcessingInstruction, Doctype, Element}
@@ -12,8 +12,10 @@ use Rattle.html_rules.specs.Choice.{choose}
 use Rattle.html_rules.specs.declared.insertion_mode.InsertionMode.TheVariants.{BeforeHtml}
 use Rattle.html_faithful.specs.Forms.{is_comment_text, lowered}
 use Rattle.html_faithful.specs.Harmless.{Made, and_then}
-use Rattle.html_faithful.specs.Holes.{AfterComment, AfterDoctype, AfterElement, AfterText, AreAlike, AreTagsAlike, Here, Hole, Holed, Raw, Within}
-use Rattle.html_faithful.specs.Holes.{begins_with_text, ends_in_text, filled, fits_raw, hole_at, hole_of, is_here, joined, raw_of, still_drops}
+use Rattle.html_faithful.specs.Holes.{AfterComment, AfterDoctype, AfterElement, AfterText, AreAlike, AreTagsAlike, Here, Hole, Holed}
+use Rattle.html_faithful.specs.Holes.{Raw, Within}
+use Rattle.html_faithful.specs.Holes.{begins_with_text, ends_in_text, filled, fits_raw, hole_at, hole_of, is_here, joined, raw_of}
+use Rattle.html_faithful.specs.Holes.{still_drops}
 use Rattle.html_faithful.specs.Spots.{Spot}
 use Rattle.html_faithful.specs.Walk.{OfDocument, Parent, are_none, below, comment_put, ends_there, finished, first_spot, fits_inside}
 use Rattle.html_faithful.specs.Walk.{is_at_end}
@@ -185,7 +187,8 @@ module _ (scripting : Bool) (parent : Parent) (behind : Trees) where
       walk-joined rest false false q ∙ ap (λ d. and_then (f q) (from (ends_in_text false rest) d)) (none-dropped rest) in
       element-then scripting parent name attributes template after_text drops kids (joined rest behind) p
       ∙ (then-so o (λ q. walk scripting parent false false (joined rest behind) q) (λ q. and_then (f q) g) each
-      ∙ (sym (then-both o f g) ∙ sym (ap (λ x. and_then x g) (element-then scripting parent name attributes template after_text drops kids rest p))))
+      ∙ (sym (then-both o f g) ∙ sym (ap (λ x. and_then x g)
+      (element-then scripting parent name attributes template after_text drops kids rest p))))
 
 -- what follows walks alike, if it does not begin with a text, or as much is before it
 from-same : (scripting : Bool) (parent : Parent) (behind : Trees) (x y d e : Bool) (q : Spot)
@@ -314,10 +317,12 @@ raw-element : (hole : Hole) (name : QualName) (template : Bool) (kids rest : Tre
 raw-element hole name template kids rest a b = by hole.raw where
   by : (raw : Option Raw) → elim raw as (λ _. Bool) [
     | None ↦ true
-    | Some raw ↦ bytes_eq (lowered raw.name) raw.name && is_raw_inside raw.kind raw.name (joined (Element name a template kids rest) hole.behind)
+    | Some raw ↦ bytes_eq (lowered raw.name) raw.name
+        && is_raw_inside raw.kind raw.name (joined (Element name a template kids rest) hole.behind)
   ] ≡ elim raw as (λ _. Bool) [
     | None ↦ true
-    | Some raw ↦ bytes_eq (lowered raw.name) raw.name && is_raw_inside raw.kind raw.name (joined (Element name b template kids rest) hole.behind)
+    | Some raw ↦ bytes_eq (lowered raw.name) raw.name
+        && is_raw_inside raw.kind raw.name (joined (Element name b template kids rest) hole.behind)
   ]
   by None = refl
   by (Some raw) = refl

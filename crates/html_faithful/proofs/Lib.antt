@@ -16,3 +16,4 @@ pub mod Begins
 pub mod Planting
 pub mod Holes
 pub mod TextHoles
+pub mod Values

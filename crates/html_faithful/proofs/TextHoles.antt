@@ -15,7 +15,8 @@ use Rattle.html_rules.specs.declared.insertion_mode.InsertionMode.TheVariants as
 use Rattle.html_rules.specs.declared.tag_set.TagSet.TheVariants as set
 use Rattle.html_faithful.specs.Forms.{is_kept, is_raw_text, lowered}
 use Rattle.html_faithful.specs.Harmless.{TextHere, by_rows, made_of, nothing_yet}
-use Rattle.html_faithful.specs.Holes.{AreAlike, Hole, Raw, begins_with_text, fits_raw, is_flow_mode, is_text_fit, is_text_hole, is_text_mode}
+use Rattle.html_faithful.specs.Holes.{AreAlike, Hole, Raw, begins_with_text, fits_raw, is_flow_mode, is_text_fit, is_text_hole}
+use Rattle.html_faithful.specs.Holes.{is_text_mode}
 use Rattle.html_faithful.specs.Holes.{joined, text_value}
 use Rattle.html_faithful.specs.Spots.{Spot, hollow}
 use Rattle.html_faithful.specs.Walk.{Parent, are_none, is_current, is_raw_inside, is_table_mode, text_walked, waits_at, walk}
@@ -56,7 +57,8 @@ character-made : (p : Spot) (c : ℕ) → current_is is_html_element p.path ≡ 
     → made_of (CharacterTokens (c ∷ [])) p ≡ Some (record (nothing_yet p) { put = Some TextHere })
 unfolding made_of
 character-made p c own stays =
-    ap (λ b. by_rows 4 (choose b (λ _. in_foreign_content) (λ _. rows p.mode)) (CharacterTokens (c ∷ [])) (nothing_yet p)) (own-text p c own)
+    ap (λ b. by_rows 4 (choose b (λ _. in_foreign_content) (λ _. rows p.mode)) (CharacterTokens (c ∷ [])) (nothing_yet p))
+    (own-text p c own)
     ∙ stays c
 
 -- A TEXT
@@ -136,7 +138,8 @@ has-text hole (Some raw) h =
     }
 
 -- a text by itself fits raw text as its characters do
-alone : (raw : Raw) (text : List ℕ) → is_raw_inside raw.kind raw.name (joined (text_value text) Nothing) ≡ is_raw_text raw.kind raw.name text
+alone : (raw : Raw) (text : List ℕ) → is_raw_inside raw.kind raw.name (joined (text_value text) Nothing)
+    ≡ is_raw_text raw.kind raw.name text
 alone raw [] = refl
 alone raw (c ∷ cs) = refl
 

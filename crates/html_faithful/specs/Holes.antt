@@ -14,7 +14,8 @@ use Rattle.html_rules.specs.declared.insertion_mode.InsertionMode.TheVariants as
 use Rattle.html_faithful.specs.Forms.{is_kept, is_raw_text, lowered}
 use Rattle.html_faithful.specs.Harmless.{Made, and_then}
 use Rattle.html_faithful.specs.Spots.{Spot}
-use Rattle.html_faithful.specs.Walk.{OfDocument, Parent, are_none, below, comment_put, first_spot, is_current, is_faithful, is_raw_inside, is_void}
+use Rattle.html_faithful.specs.Walk.{OfDocument, Parent, are_none, below, comment_put, first_spot, is_current, is_faithful}
+use Rattle.html_faithful.specs.Walk.{is_raw_inside, is_void}
 use Rattle.html_faithful.specs.Walk.{started, text_put, walk}
 
 -- trees, and others after them

@@ -22,3 +22,4 @@ pub mod Around
 pub mod Planted
 pub mod Planting
 pub mod Holes
+pub mod Values

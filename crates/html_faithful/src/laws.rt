@@ -13,6 +13,7 @@ ghost use Rattle.html_faithful.specs.Steps.{AreActionsFollowed};
 ghost use Rattle.html_faithful.specs.Tags.{AreTagsFollowed};
 ghost use Rattle.html_faithful.specs.Texts.{AreTextsFollowed};
 ghost use Rattle.html_faithful.specs.Turns.{AreTokensFollowed, AreTokensFollowedWithin};
+ghost use Rattle.html_faithful.specs.Values.{AreValuesAlike};
 ghost use Rattle.html_faithful.specs.Waiting.{DoesWhiteSpaceWait};
 ghost use Rattle.html_faithful.specs.Ways.{ArePathsFollowed};
 
@@ -115,8 +116,8 @@ pub fn white_space_waits()
     ensures { DoesWhiteSpaceWait }
 {}
 
-/// A page template is judged once: with a value in a hole that is like another there, a document is as faithful as with the other. Values are
-/// alike if they lead from the spot of the hole to one spot.
+/// A page template is judged once: with a value in a hole that is like another there, a document is as faithful as with the other.
+/// Values are alike if they lead from the spot of the hole to one spot.
 pub fn holes_are_filled()
     ensures { AreHolesFilled }
 {}
@@ -130,4 +131,10 @@ pub fn texts_are_alike()
 /// An element with some attributes is like the same element with others with which its start tag is taken alike.
 pub fn attributes_are_alike()
     ensures { AreAttributesAlike }
+{}
+
+/// So it is with other values of these attributes, whatever they are, but for `type` of an `input`, as far as it is `hidden`, and
+/// `shadowrootmode`: a value that is put into an attribute needs no judging.
+pub fn values_are_alike()
+    ensures { AreValuesAlike }
 {}

@@ -1,5 +1,5 @@
 -- Page templates with a value in a hole.
-use Rattle.std.proofs.Common.{◌≡◌, ◌∙◌, ℕ, Bool, true, false, List, [], ◌∷◌, ◌++◌, Some, refl, sym, ap, append_assoc, None}
+use Rattle.std.proofs.Common.{◌≡◌, ◌∙◌, ℕ, Bool, true, List, ◌++◌, Some, refl, sym, ap, append_assoc, None}
 use Rattle.markup.specs.Escape.{written_comment, written_doctype, written_instruction}
 use Rattle.markup.specs.Trees.{Trees, Nothing, Text, Comment, ProcessingInstruction, Doctype, Element, Entry, end_of, entry_under}
 use Rattle.markup.specs.Trees.{start_under, text_under, written}
@@ -7,7 +7,8 @@ use Rattle.html_rules.specs.State.{Answers}
 use Rattle.html_tokens.specs.Laws.{ReadsEscapes}
 use Rattle.html_tokens.specs.Table.{Row}
 use Rattle.html_tokens.specs.declared.options.TokenizerOpts.{TokenizerOpts}
-use Rattle.html_faithful.specs.Holes.{AfterComment, AfterDoctype, AfterElement, AfterText, AreAlike, Here, Hole, Holed, Within, filled, hole_of}
+use Rattle.html_faithful.specs.Holes.{AfterComment, AfterDoctype, AfterElement, AfterText, AreAlike, Here, Hole, Holed, Within, filled}
+use Rattle.html_faithful.specs.Holes.{hole_of}
 use Rattle.html_faithful.specs.Holes.{joined}
 use Rattle.html_faithful.specs.Walk.{is_faithful}
 use Rattle.html_faithful.proofs.Holes.{documents-filled}
@@ -34,14 +35,17 @@ written-joined : (scripting : Bool) (under : Entry) (value behind : Trees)
 unfolding written
 written-joined scripting under Nothing behind = refl
 written-joined scripting under (Text text rest) behind =
-    prefixed (text_under under text) (written scripting under rest) (written scripting under behind) (written-joined scripting under rest behind)
+    prefixed (text_under under text) (written scripting under rest) (written scripting under behind)
+    (written-joined scripting under rest behind)
 written-joined scripting under (Comment text rest) behind =
-    prefixed (written_comment text) (written scripting under rest) (written scripting under behind) (written-joined scripting under rest behind)
+    prefixed (written_comment text) (written scripting under rest) (written scripting under behind)
+    (written-joined scripting under rest behind)
 written-joined scripting under (ProcessingInstruction target text rest) behind =
     prefixed (written_instruction target text) (written scripting under rest) (written scripting under behind)
     (written-joined scripting under rest behind)
 written-joined scripting under (Doctype name public_id system_id rest) behind =
-    prefixed (written_doctype name) (written scripting under rest) (written scripting under behind) (written-joined scripting under rest behind)
+    prefixed (written_doctype name) (written scripting under rest) (written scripting under behind)
+    (written-joined scripting under rest behind)
 written-joined scripting under (Element name attributes template kids rest) behind =
     let own = entry_under scripting under name in
     let start = start_under under name attributes in

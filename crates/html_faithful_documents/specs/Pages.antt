@@ -1,17 +1,18 @@
 -- Page templates: what is written of a page with a value in a hole, and that it is read back.
-use Rattle.std.specs.Prelude.{◌≡◌, ℕ, Bool, true, false, List, [], ◌++◌, Some, None}
+use Rattle.std.specs.Prelude.{◌≡◌, ℕ, Bool, true, List, [], ◌++◌, Some, None}
 use Rattle.markup.specs.Escape.{written_comment, written_doctype}
 use Rattle.markup.specs.Trees.{Trees, Entry, default_entry, end_of, entry_under, start_under, text_under, written}
 use Rattle.html_rules.specs.State.{Answers}
 use Rattle.html_tokens.specs.Laws.{ReadsEscapes}
 use Rattle.html_tokens.specs.Table.{Row}
 use Rattle.html_tokens.specs.declared.options.TokenizerOpts.{TokenizerOpts}
-use Rattle.html_faithful.specs.Holes.{AfterComment, AfterDoctype, AfterElement, AfterText, AreAlike, Here, Hole, Holed, Within, filled, hole_of}
+use Rattle.html_faithful.specs.Holes.{AfterComment, AfterDoctype, AfterElement, AfterText, AreAlike, Here, Hole, Holed, Within, filled}
+use Rattle.html_faithful.specs.Holes.{hole_of}
 use Rattle.html_faithful.specs.Walk.{is_faithful}
 use Rattle.html_faithful_documents.specs.Documents.{IsReadBack, text_of}
 
--- A page template is judged once, with a sample in its hole. Then, with any value that is like the sample, what is written of the page is read
--- as just that page.
+-- A page template is judged once, with a sample in its hole. Then, with any value that is like the sample, what is written of the page
+-- is read as just that page.
 abbrev pub AreFilledPagesReadBack : Type 0
 AreFilledPagesReadBack = (rows : List Row) → ReadsEscapes rows → (opts : TokenizerOpts) → opts.initial_state ≡ None → (answers : Answers)
     (scripting : Bool) (page : Holed) (hole : Hole) (sample value : Trees)

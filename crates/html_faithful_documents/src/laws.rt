@@ -18,16 +18,16 @@ pub fn faithful_bytes_are_read_back()
     ensures { AreFaithfulBytesReadBack }
 {}
 
-/// A page template is judged once, with a sample in its hole. With any other value that is like the sample there, what is written of the page
-/// is read as just that page: no value breaks out of its hole. The laws of `html_faithful` say of texts and attributes that they are alike,
-/// that of `html_faithful_plain` of plain trees. In `script`, `style` and other raw text nothing is escaped: there a text is like another only
-/// if it doesn't end the element.
+/// A page template is judged once, with a sample in its hole. With any other value that is like the sample there, what is written of
+/// the page is read as just that page: no value breaks out of its hole. `texts_are_alike` and `values_are_alike` of `html_faithful` say
+/// which texts and values of attributes are alike, `plain_trees_are_alike` of `html_faithful_plain` which trees. In `script`, `style` and
+/// other raw text nothing is escaped: there a text is like another only if both come back as they are written.
 pub fn filled_pages_are_read_back()
     ensures { AreFilledPagesReadBack }
 {}
 
-/// What is written of a page with a value in a hole is what is written before the hole, of the value, and behind the hole; so a template
-/// engine may put texts together that it wrote before.
+/// What is written of a page with a value in a hole is what is written before the hole, of the value, and behind the hole; so a
+/// template engine may put texts together that it wrote before.
 pub fn filled_pages_are_written()
     ensures { AreFilledPagesWritten }
 {}

@@ -1,14 +1,12 @@
 -- The elements of plain trees are started and finished where plain nodes stand.
-use Rattle.std.proofs.Common.{◌≡◌, ◌∙◌, ℕ, Bool, true, false, not, List, [], ◌∷◌, map, Option, Some, None, refl, sym, ap, true≢false}
-use Rattle.std.specs.Prelude.{◌&&◌, ◌||◌, cond, codes, is_none}
-use Rattle.std.specs.Cmp.Lexicographic.{pointwise}
+use Rattle.std.proofs.Common.{◌≡◌, ◌∙◌, ℕ, Bool, true, false, not, List, [], ◌∷◌, Some, None, refl, sym, ap, true≢false}
+use Rattle.std.specs.Prelude.{◌&&◌, ◌||◌, cond, is_none}
 use Rattle.std.specs.Str.{bytes_eq}
 use Rattle.std.proofs.lemmas.Bool.{and_parts}
-use Rattle.markup.specs.Equality.{attribute_eq, attribute_lists_by_value, names_by_value, texts_by_value}
+use Rattle.markup.specs.Equality.{attribute_lists_by_value, names_by_value, texts_by_value}
 use Rattle.markup.specs.Names.{html_namespace}
 use Rattle.markup.specs.declared.attributes.Attribute.{Attribute}
-use Rattle.markup.specs.declared.names.QualName.{QualName}
-use Rattle.html_plain.specs.Elements.{elements, holds, html_name, inside, is_in_link, is_link, spelled}
+use Rattle.html_plain.specs.Elements.{html_name, is_link, spelled}
 use Rattle.html_plain.specs.Grammar.{are_plain_attributes}
 use Rattle.html_plain.specs.declared.elements.CellKind.TheVariants.{Data, Header}
 use Rattle.html_plain.specs.declared.elements.Format.TheVariants.{Bold, Italic, Emphasis, Code}
@@ -18,8 +16,6 @@ use Rattle.html_plain.specs.declared.elements.PlainElement.{PlainElement}
 use Rattle.html_plain.specs.declared.elements.PlainElement.TheVariants.{Html, Head, Title, Body, Paragraph, Heading, Division}
 use Rattle.html_plain.specs.declared.elements.PlainElement.TheVariants.{List as ListElement, Item, Table, TableBody, Row, Cell}
 use Rattle.html_plain.specs.declared.elements.PlainElement.TheVariants.{Break, Formatted, Link}
-use Rattle.html_plain.specs.declared.place.PlainPlace.{PlainPlace}
-use Rattle.html_rules.specs.Choice.{choose}
 use Rattle.html_rules.specs.Names as names
 use Rattle.html_rules.specs.Sets.{names_of}
 use Rattle.html_rules.specs.State.{Open}
@@ -28,15 +24,15 @@ use Rattle.html_tokens.specs.Tags.{named}
 use Rattle.html_tokens.specs.declared.tags.TagKind.TheVariants.{EndTag, StartTag}
 use Rattle.html_tokens.specs.declared.token.Token.TheVariants.{TagToken}
 use Rattle.html_faithful.specs.Checks.{closes_so, is_kept_so, opens_so}
-use Rattle.html_faithful.specs.Forms.{are_told, is_tag_name, lowered, told_attribute}
+use Rattle.html_faithful.specs.Forms.{is_tag_name, lowered}
 use Rattle.html_faithful.specs.Harmless.{FormKept, Made, and_then, made_of}
 use Rattle.html_faithful.specs.Harmless as put
 use Rattle.html_faithful.specs.Listing.{link_open}
 use Rattle.html_faithful.specs.Spots.{Spot}
-use Rattle.html_faithful.specs.Walk.{end_tag, finished, is_made, is_template, is_void, is_written_so, same_name, start_tag, started}
+use Rattle.html_faithful.specs.Walk.{finished, is_made, is_template, is_void, is_written_so, started}
 use Rattle.html_faithful.specs.Walk.{stays_open}
 use Rattle.html_faithful_plain.proofs.Forms.{attributes-same, attributes-told}
-use Rattle.html_faithful_plain.proofs.Stands.{Stands, in_cell, is_break, is_inner, mode_at, opened, there}
+use Rattle.html_faithful_plain.proofs.Stands.{is_break, opened, there}
 use Rattle.html_faithful_plain.proofs.Tags.{broken, change_back, change_of, closed_to, end_of, start_of, started_by}
 
 -- NAMES

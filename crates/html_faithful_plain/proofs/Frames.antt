@@ -1,6 +1,6 @@
 -- The frame of a plain document: its doctype, `html`, `head` with its title, and `body`.
 use Rattle.std.proofs.Common.{◌≡◌, ◌∙◌, ℕ, Bool, true, false, not, List, [], ◌∷◌, Option, Some, None, refl, sym, ap, subst, true≢false}
-use Rattle.std.specs.Prelude.{◌&&◌, codes, nat_eq}
+use Rattle.std.specs.Prelude.{◌&&◌, nat_eq}
 use Rattle.std.specs.List.{list_all}
 use Rattle.std.proofs.Common.{arith}
 use Rattle.std.proofs.lemmas.Bool.{and_parts}
@@ -15,7 +15,6 @@ use Rattle.html_plain.specs.Grammar as plain
 use Rattle.html_plain.specs.Grammar.{IsPlain, are_plain_attributes, is_plain_document, is_plain_text}
 use Rattle.html_plain.specs.declared.elements.PlainElement.{PlainElement}
 use Rattle.html_plain.specs.declared.elements.PlainElement.TheVariants.{Html, Head, Title, Body}
-use Rattle.html_plain.specs.declared.place.PlainPlace.{PlainPlace}
 use Rattle.html_plain.specs.declared.place.PlainPlace.TheVariants.{AfterTitle, BeforeDoctype, InFlow, InHead, InTitle}
 use Rattle.html_plain.proofs.Agreement.{computed-cases}
 use Rattle.html_plain.proofs.Frames.{documents-framed}
@@ -40,7 +39,7 @@ use Rattle.html_faithful.specs.Walk.{OfCurrent, OfDocument, OfRoot, finished, is
 use Rattle.html_faithful.specs.Walk.{is_void, is_written_so, started, text_walked, walk}
 use Rattle.html_faithful_plain.proofs.Elements.{and-so, finished-by, is-void, is-written, low-name, made-well, no-template}
 use Rattle.html_faithful_plain.proofs.Elements.{started-by, tag-name}
-use Rattle.html_faithful_plain.proofs.Forms.{all-white, text-kept, text-nonempty}
+use Rattle.html_faithful_plain.proofs.Forms.{all-white}
 use Rattle.html_faithful_plain.proofs.Stands.{Stands, is_break, opened}
 use Rattle.html_faithful_plain.proofs.Tags.{end_of, start_of}
 use Rattle.html_faithful_plain.proofs.Walks.{element-walked, is-text, text-walked, trees-walk}
@@ -158,12 +157,14 @@ module _ (sc : Bool) where
 
   -- THE TAGS, AS THEY ARE WRITTEN
 
-  frame-started : (k : PlainElement) (attributes : List Attribute) (q r : Spot) → is_break k ≡ false → are_plain_attributes attributes ≡ true
+  frame-started : (k : PlainElement) (attributes : List Attribute) (q r : Spot) → is_break k ≡ false → are_plain_attributes attributes
+      ≡ true
       → made_of (start_of k attributes) q ≡ Some (begun k attributes r) → is_kept_so (spelled k) q (begun k attributes r) ≡ true
       → started (html_name (spelled k)) attributes false q ≡ Some (begun k attributes r)
   frame-started k attributes q r v plain made kept =
       started-by (spelled k) attributes q (begun k attributes r) (low-name k) (tag-name k) (no-template k) plain made
-      (and-so _ _ (and-so _ _ (made-well (spelled k) attributes (not (is_void (html_name (spelled k)))) true (ap not (is-void true k ∙ v))) refl)
+      (and-so _ _ (and-so _ _ (made-well (spelled k) attributes (not (is_void (html_name (spelled k)))) true
+      (ap not (is-void true k ∙ v))) refl)
       kept)
 
   html-started : (attributes : List Attribute) → are_plain_attributes attributes ≡ true
@@ -180,7 +181,8 @@ module _ (sc : Bool) where
       → started (html_name (spelled Title)) attributes false in_head ≡ Some (record (begun Title attributes in_title) { raw = Some Rcdata })
   unfolding names_of
   title-started attributes plain =
-      started-by (spelled Title) attributes in_head (record (begun Title attributes in_title) { raw = Some Rcdata }) refl refl (no-template Title)
+      started-by (spelled Title) attributes in_head (record (begun Title attributes in_title) { raw = Some Rcdata }) refl refl
+      (no-template Title)
       plain (title-start attributes)
       (and-so _ _ (and-so _ _ (made-well (spelled Title) attributes (not (is_void (html_name (spelled Title)))) true
       (ap not (is-void true Title))) refl) refl)
@@ -248,8 +250,11 @@ module _ (sc : Bool) where
       → (walk sc OfCurrent false false kids in_title ≡ Some in_title) × (is_raw_inside Rcdata (spelled Title) kids ≡ true)
   unfolding walk
   title-kids Nothing h = (refl, refl)
-  title-kids (Text text Nothing) h =
-      (text-walked sc OfCurrent false false text Nothing in_title in_title (and-so _ _ (is-text false text refl h.1) refl) (title-text text), refl)
+  title-kids (Text text Nothing) h = (
+    text-walked sc OfCurrent false false text Nothing in_title in_title (and-so _ _ (is-text false text refl h.1) refl)
+        (title-text text),
+    refl,
+  )
   title-kids (Text text (Text other rest)) h = absurd (true≢false h.3.0)
   title-kids (Text text (Comment other rest)) h = no h.3.0
   title-kids (Text text (ProcessingInstruction target other rest)) h = absurd h.3
@@ -332,7 +337,8 @@ module _ (sc : Bool) where
       → IsRootWalked (Element (html_name (spelled Body)) attributes false flow Nothing) after_head before
   unfolding walk html_namespace names_of
   body-walked before attributes flow plain within =
-      let inner = trees-walk sc flow (body_spot mode.InBody false) InFlow false (path_of (Body ∷ Html ∷ [])) false false refl within body-stands in
+      let inner = trees-walk sc flow (body_spot mode.InBody false) InFlow false (path_of (Body ∷ Html ∷ [])) false false refl within
+      body-stands in
       record {
         flag = inner.flag;
         ends = element-walked sc OfRoot before false (html_name (spelled Body)) attributes flow Nothing after_head

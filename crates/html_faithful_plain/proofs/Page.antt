@@ -1,12 +1,11 @@
 -- The worked page is faithful, whatever is in its holes: it is judged with nothing in them, and they are filled, the last first.
 use Prim.Native.String.{String}
-use Rattle.std.proofs.Common.{◌≡◌, ◌∙◌, ℕ, Bool, true, false, not, List, [], ◌∷◌, Option, Some, None, refl, sym, ap}
-use Rattle.std.specs.Prelude.{codes, nat_eq}
-use Rattle.std.specs.Cmp.Lexicographic.{pointwise}
+use Rattle.std.proofs.Common.{◌≡◌, ◌∙◌, ℕ, Bool, true, false, List, [], ◌∷◌, Option, Some, None, refl, sym, ap}
+use Rattle.std.specs.Prelude.{codes}
 use Rattle.markup.specs.Equality.{texts_by_value}
 use Rattle.markup.specs.Names.{html_name, html_namespace}
 use Rattle.markup.specs.Namespaces.{known_namespace, name_of}
-use Rattle.markup.specs.Trees.{Trees, Nothing, Text, Element}
+use Rattle.markup.specs.Trees.{Trees, Nothing, Text}
 use Rattle.markup.specs.declared.quirks.QuirksMode.TheVariants.{NoQuirks}
 use Rattle.html_plain.specs.Grammar.{is_plain}
 use Rattle.html_plain.specs.declared.place.PlainPlace.TheVariants.{InFlow}
@@ -16,7 +15,7 @@ use Rattle.html_rules.specs.Sets.{names_of}
 use Rattle.html_rules.specs.declared.insertion_mode.InsertionMode.TheVariants.{BeforeHtml}
 use Rattle.html_faithful.specs.Forms.{is_kept}
 use Rattle.html_faithful.specs.Harmless.{Made, by_rows, made_of, nothing_yet}
-use Rattle.html_faithful.specs.Holes.{AfterDoctype, AfterElement, AfterText, AreAlike, AreTagsAlike, Here, Hole, Holed, Within, filled, hole_of}
+use Rattle.html_faithful.specs.Holes.{AfterDoctype, AfterElement, AfterText, AreTagsAlike, Here, Hole, Holed, Within, filled, hole_of}
 use Rattle.html_faithful.specs.Holes.{joined, text_value}
 use Rattle.html_faithful.specs.Walk.{OfDocument, first_spot, is_faithful, start_tag, walk}
 use Rattle.html_faithful.proofs.Holes.{attributes-alike, documents-filled}

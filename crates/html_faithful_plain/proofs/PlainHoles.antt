@@ -1,5 +1,5 @@
 -- Plain trees are alike in a hole for flow content or for a line.
-use Rattle.std.proofs.Common.{◌≡◌, ◌∙◌, ℕ, Bool, true, false, not, List, [], ◌∷◌, Option, Some, None, refl, sym, ap, subst, true≢false}
+use Rattle.std.proofs.Common.{◌≡◌, ◌∙◌, ℕ, Bool, true, false, not, List, [], ◌∷◌, Option, Some, None, refl, sym, ap, true≢false}
 use Rattle.std.specs.Prelude.{◌&&◌, ◌||◌, codes, is_none, is_some}
 use Rattle.std.proofs.lemmas.Bool.{and_parts}
 use Rattle.markup.specs.Trees.{Trees}
@@ -20,7 +20,7 @@ use Rattle.html_rules.specs.declared.tag_set.TagSet.TheVariants as set
 use Rattle.html_faithful.specs.Holes.{AreAlike, Hole, Raw, begins_with_text, fits_raw}
 use Rattle.html_faithful.specs.Listing.{link_open}
 use Rattle.html_faithful.specs.Spots.{Spot, entries_of, hollow}
-use Rattle.html_faithful.specs.Walk.{OfCurrent, OfDocument, OfRoot, Parent, walk}
+use Rattle.html_faithful.specs.Walk.{OfCurrent, Parent, walk}
 use Rattle.html_faithful_plain.specs.PlainHoles.{holds_plain, is_flow, is_in_current, is_line, is_mode_of, is_plain_hole}
 use Rattle.html_faithful_plain.proofs.Stands.{Faces, Stands, flow_mode, is_inner, mode_at, there}
 use Rattle.html_faithful_plain.proofs.Stands as stands
@@ -142,7 +142,8 @@ plain-spot place p w h =
     let p₂ = and_parts (own && moded) original p₃.0 in
     let p₁ = and_parts own moded p₂.0 in
     let m = same-mode p.mode (mode_of_open (hollow p) p.path) p₁.1 in
-    let unlinked = λ (e : is_in_link place ≡ false). and_parts (not listed) (not linked) (or-so (is_in_link place) (not listed && not linked) p₆.1 e) in
+    let unlinked = λ (e : is_in_link place ≡ false). and_parts (not listed) (not linked)
+    (or-so (is_in_link place) (not listed && not linked) p₆.1 e) in
     record {
       cell = is_cell p.mode;
       mode_is = m.0;

@@ -1,13 +1,13 @@
 -- Where plain nodes stand: what rows ask of the elements that are open there.
-use Rattle.std.proofs.Common.{◌≡◌, ◌∙◌, ℕ, Bool, true, false, not, List, [], ◌∷◌, Option, Some, None, refl, sym, ap, true≢false}
-use Rattle.std.specs.Prelude.{◌&&◌, ◌||◌, codes, is_some}
+use Rattle.std.proofs.Common.{◌≡◌, Bool, true, false, List, ◌∷◌, None, refl, sym, true≢false}
+use Rattle.std.specs.Prelude.{codes, is_some}
 use Rattle.html_plain.specs.Elements.{holds, inside, is_in_link, spelled}
 use Rattle.html_plain.specs.declared.elements.CellKind.TheVariants.{Data, Header}
 use Rattle.html_plain.specs.declared.elements.Format.TheVariants.{Bold, Italic, Emphasis, Code}
 use Rattle.html_plain.specs.declared.elements.Level.TheVariants.{One, Two, Three, Four, Five, Six}
 use Rattle.html_plain.specs.declared.elements.ListKind.TheVariants.{Unordered, Ordered}
 use Rattle.html_plain.specs.declared.elements.PlainElement.{PlainElement}
-use Rattle.html_plain.specs.declared.elements.PlainElement.TheVariants.{Html, Head, Title, Body, Paragraph, Heading, Division}
+use Rattle.html_plain.specs.declared.elements.PlainElement.TheVariants.{Paragraph, Heading, Division}
 use Rattle.html_plain.specs.declared.elements.PlainElement.TheVariants.{List as ListElement, Item, Table, TableBody, Row, Cell}
 use Rattle.html_plain.specs.declared.elements.PlainElement.TheVariants.{Break, Formatted, Link}
 use Rattle.html_plain.specs.declared.place.PlainPlace.{PlainPlace}

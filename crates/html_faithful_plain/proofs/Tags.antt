@@ -1,8 +1,7 @@
 -- The start tags and end tags of plain elements, where plain nodes stand.
-use Rattle.std.proofs.Common.{◌≡◌, ◌∙◌, ℕ, suc, Bool, true, false, not, List, [], ◌∷◌, map, Option, Some, None, refl, sym, ap, true≢false}
-use Rattle.std.specs.Prelude.{◌&&◌, ◌||◌, cond, codes, is_some}
+use Rattle.std.proofs.Common.{◌≡◌, ◌∙◌, ℕ, suc, Bool, true, false, List, [], ◌∷◌, Some, None, refl, sym, ap, true≢false}
+use Rattle.std.specs.Prelude.{◌&&◌, codes, is_some}
 use Rattle.markup.specs.declared.attributes.Attribute.{Attribute}
-use Rattle.markup.specs.declared.quirks.QuirksMode.TheVariants.{Quirks, LimitedQuirks, NoQuirks}
 use Rattle.html_plain.specs.Elements.{holds, inside, spelled}
 use Rattle.html_plain.specs.declared.elements.CellKind.{CellKind}
 use Rattle.html_plain.specs.declared.elements.CellKind.TheVariants.{Data, Header}
@@ -12,7 +11,7 @@ use Rattle.html_plain.specs.declared.elements.Level.{Level}
 use Rattle.html_plain.specs.declared.elements.Level.TheVariants.{One, Two, Three, Four, Five, Six}
 use Rattle.html_plain.specs.declared.elements.ListKind.TheVariants.{Unordered, Ordered}
 use Rattle.html_plain.specs.declared.elements.PlainElement.{PlainElement}
-use Rattle.html_plain.specs.declared.elements.PlainElement.TheVariants.{Html, Head, Title, Body, Paragraph, Heading, Division}
+use Rattle.html_plain.specs.declared.elements.PlainElement.TheVariants.{Paragraph, Heading, Division}
 use Rattle.html_plain.specs.declared.elements.PlainElement.TheVariants.{List as ListElement, Item, Table, TableBody, Row, Cell}
 use Rattle.html_plain.specs.declared.elements.PlainElement.TheVariants.{Break, Formatted, Link}
 use Rattle.html_plain.specs.declared.place.PlainPlace.{PlainPlace}
@@ -36,7 +35,8 @@ use Rattle.html_tokens.specs.Tags.{named}
 use Rattle.html_tokens.specs.declared.tags.TagKind.TheVariants.{EndTag, StartTag}
 use Rattle.html_tokens.specs.declared.token.Token.{Token}
 use Rattle.html_tokens.specs.declared.token.Token.TheVariants.{CharacterTokens, CommentToken, TagToken}
-use Rattle.html_faithful.specs.Harmless.{Change, Put, EntryLeft, EntryPushed, FormKept, Made, MarkerLeft, MarkerPushed, Unchanged, by_rows, made_of}
+use Rattle.html_faithful.specs.Harmless.{Change, Put, EntryLeft, EntryPushed, FormKept, Made, MarkerLeft, MarkerPushed, Unchanged}
+use Rattle.html_faithful.specs.Harmless.{by_rows, made_of}
 use Rattle.html_faithful.specs.Harmless.{nothing_yet}
 use Rattle.html_faithful.specs.Harmless as put
 use Rattle.html_faithful.specs.Spots.{Spot, entries_of, hollow}
@@ -129,7 +129,8 @@ put_there p m ys ok what = record {
 -- BY THE ROWS OF THE MODE
 
 -- in HTML content is not foreign
-own-at : (q : Spot) (ys : List Open) (t : Token) → current_is is_html_element ys ≡ true → is_foreign_at (hollow q) (adjusted_by None ys) t ≡ false
+own-at : (q : Spot) (ys : List Open) (t : Token) → current_is is_html_element ys ≡ true
+    → is_foreign_at (hollow q) (adjusted_by None ys) t ≡ false
 own-at q [] t h = absurd (true≢false (sym h))
 own-at q (x ∷ xs) t h = rw h refl
 
@@ -221,7 +222,8 @@ module _ (n : ℕ) (p : Spot) (m : InsertionMode) (ys : List Open) (ok : Bool) (
   unfolding by_rows rows names_of
   body-link h = rw h refl
 
-  body-break : by_rows (suc n) (rows mode.InBody) (start_of Break attributes) (nothing_yet (there p m ys ok)) ≡ Some (broken p m ys attributes)
+  body-break : by_rows (suc n) (rows mode.InBody) (start_of Break attributes) (nothing_yet (there p m ys ok))
+      ≡ Some (broken p m ys attributes)
   unfolding by_rows rows names_of
   body-break = refl
 

@@ -1,28 +1,24 @@
 -- Plain trees in the body walk from a spot to the same spot.
-use Rattle.std.proofs.Common.{◌≡◌, ◌∙◌, ℕ, Bool, true, false, not, List, [], ◌∷◌, Option, Some, None, refl, sym, ap, subst, true≢false}
-use Rattle.std.specs.Prelude.{◌&&◌, ◌||◌}
-use Rattle.std.specs.List.{list_all}
+use Rattle.std.proofs.Common.{◌≡◌, ◌∙◌, ℕ, Bool, true, false, not, List, [], ◌∷◌, Some, refl, sym, ap, subst, true≢false}
+use Rattle.std.specs.Prelude.{◌&&◌}
 use Rattle.markup.specs.Trees.{Trees, Nothing, Text, Comment, ProcessingInstruction, Doctype, Element}
 use Rattle.markup.specs.declared.attributes.Attribute.{Attribute}
 use Rattle.markup.specs.declared.names.QualName.{QualName}
 use Rattle.html_plain.specs.Elements.{holds, html_name, inside, is_in_link, is_link, place_after_element, place_after_text, spelled}
 use Rattle.html_plain.specs.Elements.{takes_comments, text_kind}
-use Rattle.html_plain.specs.Grammar as plain
-use Rattle.html_plain.specs.Grammar.{IsPlain, are_plain_attributes, is_plain_comment, is_plain_text, takes_text}
+use Rattle.html_plain.specs.Grammar.{IsPlain, are_plain_attributes, is_plain_text, takes_text}
 use Rattle.html_plain.specs.declared.elements.PlainElement.{PlainElement}
 use Rattle.html_plain.specs.declared.elements.PlainElement.TheVariants.{Html, Head, Title, Body, Break, Link}
 use Rattle.html_plain.specs.declared.elements.PlainElement.TheVariants.{Item, Table, TableBody, Row, Cell}
 use Rattle.html_plain.specs.declared.place.PlainPlace.{PlainPlace}
 use Rattle.html_plain.specs.declared.place.PlainPlace.TheVariants.{InBreak, InFlow, InLine, InList, InTable, InTableBody, InRow}
-use Rattle.html_rules.specs.Choice.{choose}
 use Rattle.html_rules.specs.ForeignContent.{is_html_element}
 use Rattle.html_rules.specs.State.{Open, current_is, is_in}
 use Rattle.html_rules.specs.Tokens.{is_white}
 use Rattle.html_rules.specs.declared.insertion_mode.InsertionMode.{InsertionMode}
-use Rattle.html_rules.specs.declared.insertion_mode.InsertionMode.TheVariants as mode
 use Rattle.html_rules.specs.declared.tag_set.TagSet.TheVariants as set
 use Rattle.html_faithful.specs.Forms.{is_comment_text}
-use Rattle.html_faithful.specs.Harmless.{Made, and_then}
+use Rattle.html_faithful.specs.Harmless.{Made}
 use Rattle.html_faithful.specs.Spots.{Spot}
 use Rattle.html_faithful.specs.Walk.{OfCurrent, Parent, below, comment_put, ends_there, finished, fits_inside, is_current, is_text}
 use Rattle.html_faithful.specs.Walk.{is_void, is_written_so, may_stay, started, text_put, text_walked, waits_at, walk}
@@ -41,7 +37,8 @@ module _ (scripting : Bool) (parent : Parent) (after_text drops : Bool) where
       → walk scripting (below parent) false made.drops_line_feed kids made.spot ≡ Some r → finished name r ≡ Some s
       → walk scripting parent after_text drops (Element name attributes false kids rest) q ≡ walk scripting parent false false rest s
   unfolding walk
-  element-walked name attributes kids rest q made r s stays start well full fits inner end = rw (stays, start, well, full, fits, inner, end) refl
+  element-walked name attributes kids rest q made r s stays start well full fits inner end =
+      rw (stays, start, well, full, fits, inner, end) refl
 
   pub void-walked : (name : QualName) (attributes : List Attribute) (kids rest : Trees) (q : Spot) (made : Made)
       → (is_current parent q && may_stay parent name) ≡ true → started name attributes false q ≡ Some made
@@ -255,9 +252,20 @@ record IsPut (p : Spot) (place : PlainPlace) (cell : Bool) (ys : List Open) (ok 
 
 text-in : (p : Spot) (place : PlainPlace) (cell : Bool) (ys : List Open) (ok : Bool) (text : List ℕ) → is_inner place ≡ true
     → Stands p place cell ys → takes_text (text_kind place) text ≡ true → IsPut p place cell ys ok text
-text-in p InFlow cell ys ok text i h t = record { flag = flag_after text ok; ends = flow-text p cell ys h.own text ok; stays_off = off-text text ok }
-text-in p (InLine in_link) cell ys ok text i h t = record { flag = flag_after text ok; ends = flow-text p cell ys h.own text ok; stays_off = off-text text ok }
-text-in p InList cell ys ok text i h t = record { flag = flag_after text ok; ends = flow-text p cell ys h.own text ok; stays_off = off-text text ok }
+text-in p InFlow cell ys ok text i h t = record {
+  flag = flag_after text ok;
+  ends = flow-text p cell ys h.own text ok;
+  stays_off =
+      off-text text ok;
+}
+text-in p (InLine in_link) cell ys ok text i h t =
+    record { flag = flag_after text ok; ends = flow-text p cell ys h.own text ok; stays_off = off-text text ok }
+text-in p InList cell ys ok text i h t = record {
+  flag = flag_after text ok;
+  ends = flow-text p cell ys h.own text ok;
+  stays_off =
+      off-text text ok;
+}
 text-in p InTable cell ys ok text i h t =
     record { flag = ok; ends = part-text p cell ys InTable refl (h.foster refl) text ok (all-white text t); stays_off = λ e. e }
 text-in p InTableBody cell ys ok text i h t =

@@ -1,6 +1,6 @@
 -- A worked page template: holes for text, among blocks, and in an attribute.
 use Prim.Native.String.{String}
-use Rattle.std.specs.Prelude.{◌≡◌, ℕ, Bool, true, false, List, [], ◌∷◌, codes, None}
+use Rattle.std.specs.Prelude.{◌≡◌, ℕ, true, false, List, [], ◌∷◌, codes, None}
 use Rattle.markup.specs.Names.{html_name}
 use Rattle.markup.specs.Trees.{Trees, Nothing, Text, Doctype, Element}
 use Rattle.markup.specs.declared.attributes.Attribute.{Attribute}
