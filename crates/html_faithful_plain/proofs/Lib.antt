@@ -4,5 +4,5 @@ pub mod Tags
 pub mod Elements
 pub mod Walks
 pub mod PlainHoles
-pub mod Page
+pub mod Template
 pub mod Frames

@@ -1,3 +1,4 @@
 pub mod Plain
 pub mod PlainHoles
-pub mod Page
+pub mod TemplateRows
+pub mod Template

@@ -1,7 +1,7 @@
 //! Laws of plain documents. Each function's contract is one law.
-ghost use Rattle.html_faithful_plain.specs.Page.{IsPageFaithful};
 ghost use Rattle.html_faithful_plain.specs.Plain.{ArePlainDocumentsFaithful};
 ghost use Rattle.html_faithful_plain.specs.PlainHoles.{ArePlainTreesAlike};
+ghost use Rattle.html_faithful_plain.specs.Template.{AreTemplatesFilled};
 
 /// Each plain document is faithful, written where scripts run or do not.
 pub fn plain_documents_are_faithful()
@@ -14,8 +14,8 @@ pub fn plain_trees_are_alike()
     ensures { ArePlainTreesAlike }
 {}
 
-/// A worked page template, with holes for a title, a name, blocks and an address: whatever is put into them, the page is faithful. It is
-/// judged once, with nothing in its holes.
-pub fn pages_stay_faithful()
-    ensures { IsPageFaithful }
+/// A page template with any number of holes is checked once. Then, whatever is put into them, the page is faithful: texts and values of
+/// attributes without U+0000 and U+000D, and plain trees.
+pub fn templates_are_filled()
+    ensures { AreTemplatesFilled }
 {}

@@ -1,4 +1,5 @@
-//! Plain documents are faithful, and plain trees may be put where flow content stands.
+//! Plain documents are faithful; and page templates are, with whatever is put into their holes.
 #![tactic(auto)]
 
 pub mod laws;
+pub mod rows;
