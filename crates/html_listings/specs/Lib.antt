@@ -1,0 +1,5 @@
+pub mod Json
+pub mod Srcset
+pub mod Links
+pub mod Listings
+pub mod Selected
