@@ -155,6 +155,7 @@ impl<Sink: TreeSink> Stack<Sink> {
     }
 
     /// The open elements up to the last that passes one of two tests, or more.
+    #[inline(always)]
     pub(crate) fn reached(&self, one: Sign, other: Sign) -> &[OpenElement<Sink::Handle>]
         ensures { IsBeyond (λ x. bears one x || bears other x) (opens_of Sink.node result.now) self.now.open_elems }
     {
@@ -176,11 +177,12 @@ impl<Sink: TreeSink> Stack<Sink> {
 
     /// Whether an element of a set is open, up to and with the first of a scope's bounds ("has an element in the specific scope", HTML
     /// Standard, section 13.2.4.2). Time grows with the number of elements up to there.
+    #[inline(always)]
     pub fn in_scope(&self, scope: TagSet, set: TagSet) -> bool
         ensures { result ≡ in_scope scope (is_in set) self.now.open_elems }
     {
         let open = self.reached(Sign::In(scope), Sign::In(set));
-        walks::is_in_scope(open, scope, Wanted::In(set))
+        walks::is_set_in_scope(open, scope, set)
     }
 
     /// The same for HTML elements of a name, which comes with its class.
@@ -308,7 +310,8 @@ impl<Sink: TreeSink> Stack<Sink> {
     }
 
     /// Pops elements whose end tags are implied, up to one that is excepted, and tells the sink of each.
-    pub(crate) fn close_implied(&mut self, sink: &mut Sink, implied: TagSet, except: Wanted<'_>)
+    #[inline(never)]
+    fn close_each_implied(&mut self, sink: &mut Sink, implied: TagSet, except: Wanted<'_>)
         requires wanted { IsWanted except }
         requires opened { AreOpened (Sink.forest sink.old) self.old.open_elems }
         ensures left { self.new ≡ record self.old { open_elems = left_by_implied implied (passes except.entry) self.old.open_elems } }
@@ -316,6 +319,19 @@ impl<Sink: TreeSink> Stack<Sink> {
     {
         while self.current_is_implied(implied, except) {
             drop(self.pop(sink));
+        }
+    }
+
+    /// The same. Mostly there is none.
+    #[inline(always)]
+    pub(crate) fn close_implied(&mut self, sink: &mut Sink, implied: TagSet, except: Wanted<'_>)
+        requires wanted { IsWanted except }
+        requires opened { AreOpened (Sink.forest sink.old) self.old.open_elems }
+        ensures left { self.new ≡ record self.old { open_elems = left_by_implied implied (passes except.entry) self.old.open_elems } }
+        ensures same { Sink.forest sink.new ≡ Sink.forest sink.old }
+    {
+        if self.current_is(Wanted::In(implied)) {
+            self.close_each_implied(sink, implied, except);
         }
     }
 

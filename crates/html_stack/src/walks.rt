@@ -36,6 +36,29 @@ pub(crate) fn is_in_scope<Handle>(
     false
 }
 
+/// The same for an element of a set.
+#[inline(always)]
+pub(crate) fn is_set_in_scope<Handle>(
+    elements: &[OpenElement<Handle>],
+    scope: TagSet,
+    set: TagSet,
+) -> bool
+    ensures { (node : Handle → ℕ) → result ≡ in_scope scope (is_in set) (opens_of node elements.now) }
+{
+    let mut i = elements.len();
+    while i > 0 {
+        i -= 1;
+        let element = &elements[i];
+        if element.name.is_in(set) {
+            return true;
+        }
+        if element.name.is_in(scope) {
+            return false;
+        }
+    }
+    false
+}
+
 /// Whether the current node is wanted.
 pub(crate) fn is_last<Handle>(elements: &[OpenElement<Handle>], wanted: Wanted<'_>) -> bool
     requires { IsWanted wanted }

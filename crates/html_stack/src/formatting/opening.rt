@@ -108,8 +108,33 @@ impl<Sink: TreeSink> Stack<Sink> {
     /// Inserts the HTML element that a tag makes, opens it, and lists it with the tag (HTML Standard, section 13.2.4.3, "push onto the list
     /// of active formatting elements"). The tag's name comes with its class. Before it, where three or more entries since the last marker
     /// are equal to the tag, up to the order of attributes, the earliest of them leaves. The element and its entry need attributes of
-    /// their own, so the tag is copied once. On [`ParseFault::Memory`], the only fault, the element may have been made, or inserted
-    /// without being listed, and the earliest entry may have left. Time grows with the number of entries since the marker.
+    /// their own, so the tag is copied once; its name and attributes are moved to the element. On [`ParseFault::Memory`], the only fault,
+    /// the element may have been made, or inserted without being listed, and the earliest entry may have left. Time grows with the number
+    /// of entries since the marker.
+    pub fn create_formatting_element_of(
+        &mut self,
+        sink: &mut Sink,
+        class: &ElementClass,
+        tag: &mut Tag,
+        foster: bool,
+    ) -> Result<Sink::Handle, ParseFault>
+        requires class { IsClassOf Html tag.old.name class.now }
+        requires standing { StandsIn (Sink.forest sink.old) self.old }
+        ensures named { MakesNext Sink.node (Sink.forest sink.old) result }
+        ensures ok { OnOk result (PerformsWith foster (create_formatting_element_for tag.old) self.old self.new
+            (Sink.forest sink.old) (Sink.forest sink.new)) }
+        ensures kept { StandsIn (Sink.forest sink.new) self.new }
+        ensures fault { IfErr result (λ fault. fault ≡ Memory) }
+    {
+        let own = tag.copy(self.allocator())?;
+        self.make_room(tag);
+        let made = self.insert_element_of(sink, class, tag, foster, None)?;
+        self.list(made, own)?;
+        Ok(made)
+    }
+
+    /// The same for a tag that is handed on.
+    #[inline(always)]
     pub fn create_formatting_element_for(
         &mut self,
         sink: &mut Sink,
@@ -125,11 +150,8 @@ impl<Sink: TreeSink> Stack<Sink> {
         ensures kept { StandsIn (Sink.forest sink.new) self.new }
         ensures fault { IfErr result (λ fault. fault ≡ Memory) }
     {
-        let own = tag.copy(self.allocator())?;
-        self.make_room(&tag);
-        let made = self.insert_element_for(sink, class, own, foster, None)?;
-        self.list(made, tag)?;
-        Ok(made)
+        let mut tag = tag;
+        self.create_formatting_element_of(sink, &class, &mut tag, foster)
     }
 
     /// Lists an element with the tag that it was made for.

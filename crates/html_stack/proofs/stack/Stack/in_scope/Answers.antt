@@ -9,7 +9,7 @@ use Rattle.html_stack.proofs.stack.Stack.in_scope.Goals as goal
 
 pub returns : goal.returns
 returns g c =
-    c.is_in_scope.ensures g.Sink.TreeSink.node
+    c.is_set_in_scope.ensures g.Sink.TreeSink.node
     ∙ scope-beyond c.args.scope (is_in c.args.set) (λ x. bears (In c.args.scope) x || bears (In c.args.set) x)
     (λ x h. or-right (bears (In c.args.scope) (known_as x)) (bears (In c.args.set) (known_as x)) h)
     (λ x h. or-left (bears (In c.args.scope) (known_as x)) (bears (In c.args.set) (known_as x)) h) _ _ c.reached-open.ensures

@@ -2,7 +2,7 @@ use Rattle.std.proofs.Common.{◌≡◌, length}
 use Rattle.html_rules.specs.Stack.{left_by_implied}
 use Rattle.html_rules_laws.specs.Soundness.{AreOpened}
 use Rattle.html_stack.specs.Wanted.{passes}
-use Rattle.html_stack.proofs.stack.Stack.close_implied.Given as goal
+use Rattle.html_stack.proofs.stack.Stack.close_each_implied.Given as goal
 
 abbrev pub invariant-loop-implied : goal.invariant-loop-implied
 invariant-loop-implied g l = record {
