@@ -65,22 +65,22 @@ impl<Sink: TreeSink> Construction<Sink> {
         Ok(())
     }
 
-    /// An element is inserted for a tag, and listed.
+    /// An element is inserted for a tag, whose name and attributes are moved to it, and listed.
     #[inline(never)]
     pub(crate) fn insert_formatting(
         &mut self,
         sink: &mut Sink,
-        class: ElementClass,
-        tag: Tag,
+        class: &ElementClass,
+        tag: &mut Tag,
     ) -> Result<(), ParseFault>
-        requires class { IsClassOf Html tag.name class }
+        requires class { IsClassOf Html tag.old.name class.now }
         requires stands { Stands (Sink.forest sink.old) self.old }
-        ensures ok { OnOk result (Performs (create_formatting_element_for tag) self.old self.new
+        ensures ok { OnOk result (Performs (create_formatting_element_for tag.old) self.old self.new
             (Sink.forest sink.old) (Sink.forest sink.new)) }
         ensures fault { IfErr result (λ fault. fault ≡ Memory) }
     {
         self.stack
-            .create_formatting_element_for(sink, class, tag, self.foster_parenting)?;
+            .create_formatting_element_of(sink, class, tag, self.foster_parenting)?;
         Ok(())
     }
 

@@ -13,7 +13,7 @@ impl<Sink: TreeSink> Construction<Sink> {
     ghost use Rattle.html_rules.specs.Names.{Html};
 
     /// "Run the adoption agency algorithm" for a name.
-    #[inline(never)]
+    #[inline(always)]
     pub(crate) fn adoption_agency(
         &mut self,
         sink: &mut Sink,

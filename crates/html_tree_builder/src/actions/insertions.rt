@@ -82,7 +82,7 @@ impl<Sink: TreeSink> Construction<Sink> {
         match insertion {
             Insertion::Element => self.insert_element_or_script(sink, class, tag),
             Insertion::Void => self.insert_void(sink, class, tag),
-            Insertion::Formatting => self.insert_formatting(sink, *class, tag.take()),
+            Insertion::Formatting => self.insert_formatting(sink, class, tag),
             Insertion::Foreign => self.insert_foreign(sink, tag.take()),
         }
     }

@@ -7,4 +7,4 @@ pub returns-clause-ok : goal.returns-clause-ok
 returns-clause-ok g c = λ a.
     rw (← c.self.view_is)
     (let s = state_of a (left_of c.self.view_is) (g.Sink.TreeSink.forest c.args.sink.now) in
-    c.in_ok-create_formatting_element_for.ensures.ok s refl)
+    c.in_ok-create_formatting_element_of.ensures.ok s refl)
