@@ -117,17 +117,45 @@ fn place_ahead(bytes: &[u8], from: usize, escaping: Escaping) -> usize
             at += 1;
         }
     }
-    at.max(place_at_end(bytes, quote))
+    at
+}
+
+// So few bytes are looked at one by one.
+const FEW: usize = 4;
+
+/// A place as far on or farther, before which there is no escaped character either, looked for in the last sixteen bytes at once.
+#[inline(always)]
+fn place_to_end(bytes: &[u8], at: usize, escaping: Escaping) -> usize
+    requires { IsClear (mode_of escaping) bytes.now 0 at }
+    ensures { IsClear (mode_of escaping) bytes.now 0 result }
+{
+    if bytes.len() - at >= 16 || bytes.len() < FEW {
+        return at;
+    }
+    at.max(place_at_end(bytes, quote_in(escaping)))
 }
 
 /// The next character from a place on that is escaped, or the end.
-#[inline(always)]
 fn next_escaped(bytes: &[u8], from: usize, escaping: Escaping) -> usize
     requires { from ≤ length bytes.now }
     ensures low { from ≤ result }
     ensures next { IsNext (is_replaced (mode_of escaping)) bytes.now from result }
 {
     for at in place_ahead(bytes, from, escaping)..bytes.len() {
+        if is_escaped_at(bytes, at, escaping) {
+            return at;
+        }
+    }
+    bytes.len()
+}
+
+/// The first character that is escaped, or the end.
+#[inline(always)]
+fn first_escaped(bytes: &[u8], escaping: Escaping) -> usize
+    ensures { IsNext (is_replaced (mode_of escaping)) bytes.now 0 result }
+{
+    let ahead = place_ahead(bytes, 0, escaping);
+    for at in place_to_end(bytes, ahead, escaping)..bytes.len() {
         if is_escaped_at(bytes, at, escaping) {
             return at;
         }
@@ -203,7 +231,7 @@ fn put_escaped_bytes<Wr: Target>(
         (escape_bytes (mode_of escaping) false bytes.now) result (told_by Wr.written Wr.failures writer.new) }
     ensures same_references { Wr.references writer.new ≡ Wr.references writer.old }
 {
-    let first = next_escaped(bytes, 0, escaping);
+    let first = first_escaped(bytes, escaping);
     if first == bytes.len() {
         return put(writer, bytes);
     }
