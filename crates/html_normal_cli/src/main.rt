@@ -4,11 +4,15 @@
 #![tactic(auto)]
 
 use devices::{StdSource, StdTarget};
+use gathered_writes::Gathered;
 use html_normal::{NormalFault, ProgramFault, Report};
 use html_normal_program::{HostFiles, normalised, tell};
 use std::env;
-use std::io::{self, BufWriter, ErrorKind};
+use std::io::{self, ErrorKind};
 use std::process::ExitCode;
+
+/// How many bytes of the text are gathered before a write.
+const ROOM: usize = 32_768;
 
 /// Why the program's arguments could not be read: out of memory, or one of them is not UTF-8.
 fn words_fault(error: &io::Error) -> ProgramFault {
@@ -33,23 +37,24 @@ fn words(rt: &HostRuntime) -> Result<Vec<String>, ProgramFault> {
     Ok(words)
 }
 
-/// Normalises standard input, and hands on what the writer still holds.
+/// Normalises standard input, and hands on what is still held, also where it ends with a fault.
 fn run(rt: &HostRuntime) -> Result<Report, ProgramFault> {
     let words = words(rt)?;
-    let Ok(buffer) = BufWriter::new(rt.alloc(), rt.stdout()) else {
+    let Ok(mut output) = Gathered::new(rt.alloc(), StdTarget::new(rt.stdout()), ROOM) else {
         return Err(ProgramFault::Normal(NormalFault::Memory));
     };
-    let mut output = StdTarget::new(buffer);
     let mut input = StdSource::new(rt.stdin());
     let files = HostFiles::new(rt);
-    let report = normalised(
+    let outcome = normalised(
         rt.alloc(),
         words.as_slice(),
         &files,
         &mut input,
         &mut output,
-    )?;
-    match output.flush() {
+    );
+    let flushed = output.flush();
+    let report = outcome?;
+    match flushed {
         Ok(()) => Ok(report),
         Err(_) => Err(ProgramFault::Normal(NormalFault::Write)),
     }
