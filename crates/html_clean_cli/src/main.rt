@@ -4,11 +4,15 @@
 #![tactic(auto)]
 
 use devices::{StdSource, StdTarget, Target};
+use gathered_writes::Gathered;
 use html_clean_program::{HostFiles, clean_pages, tell};
 use html_normal::{NormalFault, ProgramFault};
 use std::env;
-use std::io::{self, BufWriter, ErrorKind};
+use std::io::{self, ErrorKind};
 use std::process::ExitCode;
+
+/// How many bytes of the text are gathered before a write.
+const ROOM: usize = 32_768;
 
 /// Why the program's arguments could not be read: out of memory, or one of them is not UTF-8.
 fn words_fault(error: &io::Error) -> ProgramFault {
@@ -33,23 +37,24 @@ fn words(rt: &HostRuntime) -> Result<Vec<String>, ProgramFault> {
     Ok(words)
 }
 
-/// Cleans what is asked for, and hands on what the writer still holds.
+/// Cleans what is asked for, and hands on what is still held, also where it ends with a fault.
 fn run<Errors: Target>(rt: &HostRuntime, errors: &mut Errors) -> Result<(), ProgramFault> {
     let words = words(rt)?;
-    let Ok(buffer) = BufWriter::new(rt.alloc(), rt.stdout()) else {
+    let Ok(mut output) = Gathered::new(rt.alloc(), StdTarget::new(rt.stdout()), ROOM) else {
         return Err(ProgramFault::Normal(NormalFault::Memory));
     };
-    let mut output = StdTarget::new(buffer);
     let mut input = StdSource::new(rt.stdin());
-    clean_pages(
+    let outcome = clean_pages(
         rt.alloc(),
         words.as_slice(),
         &HostFiles::new(rt),
         &mut input,
         &mut output,
         errors,
-    )?;
-    match output.flush() {
+    );
+    let flushed = output.flush();
+    outcome?;
+    match flushed {
         Ok(()) => Ok(()),
         Err(_) => Err(ProgramFault::Normal(NormalFault::Write)),
     }
