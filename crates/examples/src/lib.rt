@@ -9,6 +9,7 @@ pub mod nodes;
 pub mod outlines;
 pub mod selecting;
 pub mod tags;
+pub mod templates;
 pub mod texts;
 pub mod tokens;
 pub mod trees;
