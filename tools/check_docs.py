@@ -5,7 +5,8 @@ For README.md, CONTRIBUTING.md, all of docs/ and bindings/ and the README.md of 
   - each relative link: its file, and the heading that it points to;
   - each file or folder that is named in backticks with a slash or with an extension of this repository;
   - each crate that a command in a code block enters, and each script that it runs;
-  - each crate of crates.txt that docs/ARCHITECTURE.md should list, and each that it lists.
+  - each crate of crates.txt that docs/ARCHITECTURE.md should list, and each that it lists;
+  - the files of docs/shell: that tools/shell_files.py writes just them.
 
     python3 tools/check_docs.py
 
@@ -14,6 +15,8 @@ prints `N names, 0 missing`, or each that is missing with its file and line, and
 import os
 import re
 import sys
+
+import shell_files
 
 ROOT = os.path.dirname(os.path.dirname(os.path.abspath(__file__)))
 EXTENSIONS = (".rt", ".antt", ".py", ".sh", ".md", ".edit", ".tsv", ".dat", ".c", ".h", ".rs")
@@ -136,6 +139,9 @@ def main():
     for crate in sorted(listed - named):
         bad += 1
         print(f"docs/ARCHITECTURE.md: lists {crate}, which crates.txt has not")
+    for name in shell_files.stale():
+        bad += 1
+        print(f"docs/shell/{name}: is not what tools/shell_files.py writes")
     print(f"{total} names, {bad} missing")
     return 1 if bad else 0
 

@@ -1,4 +1,4 @@
-//! The program `figpliers`: parse errors, trees, links, texts, Markdown, elements and normal texts of HTML pages.
+//! The program `figpliers`: parse errors, trees, links, texts, Markdown, checks, elements and normal texts of HTML pages.
 //!
 //! What it does is `figpliers_program`; here it gets its words, its files and its streams.
 #![tactic(auto)]
@@ -6,10 +6,13 @@
 mod output;
 
 use figpliers::{StdSource, StdTarget, Target};
-use figpliers_program::{Disk, PageFault, Verdict, obey, report, report_unwritten};
+use figpliers_program::{
+    Disk, PageFault, Verdict, obey, output_of, report, report_unwritten, why_of,
+};
 use output::Output;
 use std::env;
-use std::io::{BufWriter, ErrorKind};
+use std::fs::File;
+use std::io::{BufWriter, ErrorKind, Write};
 use std::process::ExitCode;
 
 /// The words with which the program was started.
@@ -26,11 +29,15 @@ fn words(rt: &HostRuntime) -> Result<Vec<String>, PageFault> {
     }
 }
 
-/// Does what the program was started for, and hands on what the writer still holds. Where what reads standard output has closed it, the
-/// program is done.
-fn serve<Errors: Target>(rt: &HostRuntime, errors: &mut Errors) -> Result<Verdict, PageFault> {
-    let words = words(rt)?;
-    let Ok(buffer) = BufWriter::new(rt.alloc(), rt.stdout()) else {
+/// Does what the words ask for, and hands on what the writer still holds. Where what reads the output has closed it, the program is done.
+fn run<W: Write + Drop, Errors: Target>(
+    rt: &HostRuntime,
+    words: &[String],
+    output: W,
+    place: &str,
+    errors: &mut Errors,
+) -> Result<Verdict, PageFault> {
+    let Ok(buffer) = BufWriter::new(rt.alloc(), output) else {
         return Err(PageFault::Memory);
     };
     let mut output = Output::new(buffer);
@@ -38,7 +45,7 @@ fn serve<Errors: Target>(rt: &HostRuntime, errors: &mut Errors) -> Result<Verdic
     let files = Disk::new(rt);
     let mut verdict = obey(
         rt.alloc(),
-        words.as_slice(),
+        words,
         &files,
         &mut input,
         &mut output,
@@ -51,9 +58,25 @@ fn serve<Errors: Target>(rt: &HostRuntime, errors: &mut Errors) -> Result<Verdic
         if output.is_closed() {
             return Ok(Verdict::Fine);
         }
-        report_unwritten(errors);
+        report_unwritten(errors, place);
     }
     Ok(verdict)
+}
+
+/// Does what the program was started for: to the file that is named for it, or to standard output.
+fn serve<Errors: Target>(rt: &HostRuntime, errors: &mut Errors) -> Result<Verdict, PageFault> {
+    let words = words(rt)?;
+    let words = words.as_slice();
+    let Some(name) = output_of(rt.alloc(), words)? else {
+        return run(rt, words, rt.stdout(), "standard output", errors);
+    };
+    match File::create(rt, name.as_str()) {
+        Ok(file) => run(rt, words, file, name.as_str(), errors),
+        Err(error) => {
+            let why = why_of(&error);
+            Ok(report(errors, name.as_str(), PageFault::Open { why }))
+        }
+    }
 }
 
 fn main(rt: HostRuntime) -> ExitCode {

@@ -1,8 +1,11 @@
 mod Building
 mod Found
 mod Texts
+mod Made
 mod Notes
 mod Outcomes
+mod Paths
 mod Printing
+mod Reading
 mod Sources
 mod Told

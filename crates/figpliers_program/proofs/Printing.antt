@@ -1,5 +1,5 @@
 -- Texts written one after another.
-use Rattle.std.proofs.Common.{◌≡◌, ◌∙◌, ℕ, ◌+◌, List, ◌++◌, Result, Ok, Err, sym, ap, arith}
+use Rattle.std.proofs.Common.{◌≡◌, ◌∙◌, ℕ, ◌+◌, List, ◌++◌, Result, Ok, Err, inl, inr, sym, ap, arith}
 use Rattle.std.proofs.Common.{length, length-append, take}
 use Rattle.std.proofs.lemmas.List.{take-append-le}
 use Rattle.std.proofs.Math.Seq.{take-append-add}
@@ -9,7 +9,7 @@ use Rattle.figpliers.specs.Serializing.{Began, Writes}
 use Rattle.figpliers.specs.SerializeFault.{SerializeFault}
 use Rattle.figpliers.specs.SerializeFault.TheVariants as writing
 use Rattle.figpliers_program.specs.Faults.{serialize_fault_of}
-use Rattle.figpliers_program.specs.Printing.{IsCut, Prints}
+use Rattle.figpliers_program.specs.Printing.{IsCut, Prints, PrintsSome}
 use Rattle.figpliers_program.specs.declared.faults.PageFault.{PageFault}
 use Rattle.figpliers_program.specs.declared.faults.PageFault.TheVariants.{Memory, NotUtf8, Open, Read, Words, Write}
 
@@ -57,3 +57,10 @@ cut-as R text old new writing.Memory wrote = wrote
 cut-as R text old new writing.NoParent wrote = absurd wrote
 cut-as R text old new writing.NoElemInfo wrote = absurd wrote
 cut-as R text old new writing.Failed wrote = absurd wrote
+
+-- a text that P describes, where each such text is one that Q does
+pub prints-as : {R : Type 0} (P Q : List ℕ → R → Type 0) (old new : WriterView) (result : Result R PageFault)
+    → ((text : List ℕ) (answer : R) → P text answer → Q text answer) → PrintsSome P old result new → PrintsSome Q old result new
+prints-as P Q old new (Ok answer) gives (text, is, put) = (text, gives text answer is, put)
+prints-as P Q old new (Err fault) gives (inl nothing) = inl nothing
+prints-as P Q old new (Err fault) gives (inr (text, answer, is, cut)) = inr (text, answer, gives text answer is, cut)

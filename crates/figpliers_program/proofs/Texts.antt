@@ -1,5 +1,5 @@
 -- What each command writes of a page, from what the calls answered.
-use Rattle.std.proofs.Common.{◌≡◌, ◌∙◌, ◌+◌, ◌<◌, ℕ, Bool, false, true, List, [], ◌∷◌, ◌++◌, Option, Some, Ok, Err, ap}
+use Rattle.std.proofs.Common.{◌≡◌, ◌∙◌, ◌+◌, ◌<◌, ℕ, Bool, true, List, [], ◌∷◌, ◌++◌, Option, Some, Ok, Err, ap}
 use Rattle.std.proofs.Common.{append_assoc, drop, get_or, inl, inr, length, map, refl, sym, take}
 use Rattle.std.proofs.lemmas.List.{append-nil, map-append, take-append-drop, take_more}
 use Rattle.std.specs.Prelude.{◌==◌, if◌then◌else◌}
@@ -17,7 +17,7 @@ use Rattle.figpliers.specs.Puts.{WriterView, with_bytes}
 use Rattle.figpliers.specs.Report.{Report}
 use Rattle.figpliers.specs.Table.{Row}
 use Rattle.figpliers_program.specs.Faults.{memory_fault_of}
-use Rattle.figpliers_program.specs.Pages.{ErrorsText, FragmentText, NormalText, RenderedText, TreeText}
+use Rattle.figpliers_program.specs.Pages.{ErrorsText, FragmentText, NormalText, RenderedText}
 use Rattle.figpliers_program.specs.Pages.{ended, error_line, error_lines, top_of}
 use Rattle.figpliers_program.specs.Printing.{IsCut, PrintsSome}
 use Rattle.figpliers_program.specs.declared.faults.PageFault.{PageFault}
@@ -25,21 +25,14 @@ use Rattle.figpliers_program.specs.declared.faults.Verdict.{Verdict}
 use Rattle.figpliers_program.specs.declared.faults.Verdict.TheVariants.{Errors, Fine}
 use Rattle.figpliers_program.proofs.Printing.{cut-longer, prints-behind}
 
-pub rendered : (table : List Row) (page text : List ℕ) (document : Forest) (node : ℕ) → node ≡ 0 → IsPage table false page document
-    → IsInnerText document node (chars text) → RenderedText table page (ended text) Fine
-rendered table page text document node is page_is text_is = record {
-  document = document;
-  is_page = page_is;
+pub rendered : (document : Forest) (node : ℕ) (text : List ℕ) → node ≡ 0 → IsInnerText document node (chars text)
+    → RenderedText document (ended text) Fine
+rendered document node text is text_is = record {
   rendered = text;
   is_rendered = rw is at text_is;
   written = refl;
   done = refl;
 }
-
-pub lines : (table : List Row) (page : List ℕ) (document : Forest) (node : ℕ) → node ≡ 0 → IsPage table false page document
-    → TreeText table page (tree_lines document node) Fine
-lines table page document node is page_is =
-    record { document = document; is_page = page_is; written = ap (tree_lines document) is; done = refl }
 
 pub fragment_lines : (table : List Row) (element page : List ℕ) (document : Forest) (node : ℕ) → node ≡ top_of (children_of document 0)
     → IsFragment table (html_name (chars element)) (chars page) document → FragmentText table element page (tree_lines document node) Fine

@@ -1,6 +1,7 @@
 -- What the words after the program's name ask for, by what clap makes of them.
-use Rattle.std.specs.Prelude.{◌≡◌, Bool, true, false, not, List, [], map, Option, Some, None, codes, option_map, unwrap_or}
+use Rattle.std.specs.Prelude.{◌≡◌, ◌⊎◌, Bool, String, true, false, not, List, [], map, Option, Some, None, codes, option_map, unwrap_or}
 use Rattle.std.specs.Prelude.{is_some}
+use Rattle.std.specs.declared.alloc.Global.{Global}
 use Rattle.std.specs.Char.{to_ascii_lowercase}
 use Rattle.std.specs.String.{string_bytes}
 use Rattle.clap.specs.Simple.{subcommand_of}
@@ -8,15 +9,19 @@ use Rattle.clap.specs.Walk.{Row, Text, all_of, first_of, one_of}
 use Rattle.figpliers.specs.EncodingLabels.{label_encoding}
 use Rattle.figpliers_program.specs.CommandLine.{figpliers}
 use Rattle.figpliers_program.specs.declared.command.Asked.{Asked}
+use Rattle.figpliers_program.specs.declared.command.DocumentJob.{DocumentJob}
+use Rattle.figpliers_program.specs.declared.command.DocumentJob.TheVariants.{Check, Links, Markdown, Select, Tree}
+use Rattle.figpliers_program.specs.declared.command.DocumentJob.TheVariants as job
 use Rattle.figpliers_program.specs.declared.command.Job.{Job}
-use Rattle.figpliers_program.specs.declared.command.Job.TheVariants.{Errors, Links, Markdown, Normal, Select, Tree}
-use Rattle.figpliers_program.specs.declared.command.Job.TheVariants as job
+use Rattle.figpliers_program.specs.declared.command.Job.TheVariants.{OfDocument, OfText}
 use Rattle.figpliers_program.specs.declared.command.Reading.{Reading}
 use Rattle.figpliers_program.specs.declared.command.Reading.TheVariants.{Found, Lossy, Utf8}
-use Rattle.figpliers_program.specs.declared.linking.Listing.{Listing}
-use Rattle.figpliers_program.specs.declared.selecting.Show.{Show}
-use Rattle.figpliers_program.specs.declared.selecting.Show.TheVariants.{Attribute, Count, Html, Json}
-use Rattle.figpliers_program.specs.declared.selecting.Show.TheVariants as show
+use Rattle.figpliers_program.specs.declared.command.TextJob.{TextJob}
+use Rattle.figpliers_program.specs.declared.command.TextJob.TheVariants.{Errors, Fragment, Normal}
+use Rattle.html_listings.specs.declared.listing.Listing.{Listing}
+use Rattle.html_listings.specs.declared.selected.Show.{Show}
+use Rattle.html_listings.specs.declared.selected.Show.TheVariants.{Attribute, Count, Html, Json}
+use Rattle.html_listings.specs.declared.selected.Show.TheVariants as show
 
 -- OPTIONS, by the rows that clap found for a command
 
@@ -58,22 +63,36 @@ pub record IsListing (rows : List Row) (listing : Listing) : Type 0 where
 
 -- COMMANDS
 
+-- the value of an option, in lower case
+abbrev pub lowered_value : Text → List Row → Option Text
+lowered_value name rows = option_map (map to_ascii_lowercase) (first_of name rows)
+
+-- what a command of that name does with the text of each page
+abbrev pub IsTextJob : Text → List Row → TextJob → Type 0
+IsTextJob name rows Errors = name ≡ codes "errors"
+IsTextJob name rows (Fragment element) = (name ≡ codes "tree") × (Some (string_bytes element) ≡ lowered_value (codes "fragment") rows)
+IsTextJob name rows Normal = name ≡ codes "normal"
+
+-- and with its document
+abbrev pub IsDocumentJob : Text → List Row → DocumentJob → Type 0
+IsDocumentJob name rows Tree = (name ≡ codes "tree") × (lowered_value (codes "fragment") rows ≡ None)
+IsDocumentJob name rows (Links listing) = (name ≡ codes "links") × IsListing rows listing
+IsDocumentJob name rows Markdown = name ≡ codes "markdown"
+IsDocumentJob name rows job.Text = name ≡ codes "text"
+IsDocumentJob name rows Check = name ≡ codes "check"
+IsDocumentJob name rows (Select selector show) = (name ≡ codes "select")
+    × (string_bytes selector ≡ unwrap_or (first_of (codes "selector") rows) []) × IsShow rows show
+
 -- what a command of that name does
 abbrev pub IsJob : Text → List Row → Job → Type 0
-IsJob name rows Errors = name ≡ codes "errors"
-IsJob name rows (Tree fragment) = (name ≡ codes "tree")
-    × (option_map string_bytes fragment ≡ option_map (map to_ascii_lowercase) (first_of (codes "fragment") rows))
-IsJob name rows (Links listing) = (name ≡ codes "links") × IsListing rows listing
-IsJob name rows Markdown = name ≡ codes "markdown"
-IsJob name rows job.Text = name ≡ codes "text"
-IsJob name rows Normal = name ≡ codes "normal"
-IsJob name rows (Select selector show) = (name ≡ codes "select")
-    × (string_bytes selector ≡ unwrap_or (first_of (codes "selector") rows) []) × IsShow rows show
+IsJob name rows (OfText job) = IsTextJob name rows job
+IsJob name rows (OfDocument job) = IsDocumentJob name rows job
 
 -- a command with what it found
 pub record IsAsked (name : Text) (rows : List Row) (asked : Asked) : Type 0 where
   pub job : IsJob name rows asked.job
   pub reading : IsReading rows asked.reading
+  pub output : option_map string_bytes asked.output ≡ first_of (codes "output") rows
   pub files : map string_bytes asked.files.items ≡ unwrap_or (all_of (codes "files") rows) []
 
 -- a label that is given is that of an encoding
@@ -91,3 +110,7 @@ IsCommandOf (Some (name, rows)) asked = IsAsked name rows asked
 pub record AsksFor (words : List Text) (asked : Asked) : Type 0 where
   pub is : IsCommandOf (subcommand_of figpliers words) asked
   pub label : has_unknown_label asked.reading ≡ false
+
+-- The words name this file to write to, or none; or they name no command.
+abbrev pub IsOutputOf : List Text → Option (String Global) → Type 0
+IsOutputOf words found = ((asked : Asked) × AsksFor words asked × (found ≡ asked.output)) ⊎ (found ≡ None)

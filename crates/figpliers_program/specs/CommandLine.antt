@@ -34,6 +34,9 @@ IsLocal command = (out-Command command).has_globals ≡ false
 abbrev pub pages_rule : ArgAction → Rule
 pages_rule action = record (new_rule (codes "files")) { action = Some action; value_names = 1 }
 
+abbrev pub output_rule : Rule
+output_rule = record (option_rule (codes "output")) { short = Some 111 }
+
 abbrev pub selector_rule : Rule
 selector_rule = record (new_rule (codes "selector")) { action = Some Set; value_names = 1; required = true }
 
@@ -53,9 +56,9 @@ abbrev pub with_reading : App → App
 with_reading command = with_rule (with_rule (with_rule command (excluding (option_rule (codes "encoding"))))
     (excluding (flag_rule (codes "utf-8")))) (flag_rule (codes "lossy"))
 
--- the same, and the pages
+-- the same, where to write to, and the pages
 abbrev pub with_pages : ArgAction → App → App
-with_pages action command = with_rule (with_reading command) (pages_rule action)
+with_pages action command = with_rule (with_rule (with_reading command) output_rule) (pages_rule action)
 
 -- what is printed of elements
 abbrev pub with_shows : App → App
@@ -90,10 +93,10 @@ links_command = with_naming (with_listing (pages_command (codes "links") Append)
 abbrev pub program : App
 program = on_top (λ s. record s { propagate_version = true; has_version = true; subcommand_required = true }) (new_app (codes "figpliers"))
 
--- `markdown` and `text`, which have no options of their own
+-- `markdown`, `text` and `check`, which have no options of their own
 abbrev pub with_plain : App → App
-with_plain command = with_subcommand (with_subcommand command (pages_command (codes "markdown") Append).top)
-    (pages_command (codes "text") Append).top
+with_plain command = with_subcommand (with_subcommand (with_subcommand command (pages_command (codes "markdown") Append).top)
+    (pages_command (codes "text") Append).top) (pages_command (codes "check") Append).top
 
 -- the program
 unfoldable pub figpliers : App

@@ -1,17 +1,10 @@
--- The faults of pages that those of reading, of parsing and of writing are.
+-- The faults of pages that those of parsing and of writing are.
 use Rattle.figpliers.specs.NormalFault.{NormalFault}
 use Rattle.figpliers.specs.NormalFault.TheVariants as normal
 use Rattle.figpliers.specs.SerializeFault.{SerializeFault}
 use Rattle.figpliers.specs.SerializeFault.TheVariants as writing
-use Rattle.figpliers.specs.TextFault.{TextFault}
-use Rattle.figpliers.specs.TextFault.TheVariants as text
 use Rattle.figpliers_program.specs.declared.faults.PageFault.{PageFault}
 use Rattle.figpliers_program.specs.declared.faults.PageFault.TheVariants.{Memory, NotUtf8, Read, Write}
-
-abbrev pub text_fault_of : TextFault → PageFault
-text_fault_of (text.NotUtf8 at) = NotUtf8 at
-text_fault_of text.Read = Read
-text_fault_of text.Memory = Memory
 
 -- no text is refused
 abbrev pub normal_fault_of : NormalFault → PageFault

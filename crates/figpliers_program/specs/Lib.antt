@@ -1,4 +1,5 @@
 pub mod Asked
+pub mod Checking
 pub mod CommandLine
 pub mod Faults
 pub mod Jobs

@@ -4,7 +4,6 @@ use Rattle.figpliers.specs.Puts.{WriterView}
 use Rattle.html_normal_program.specs.Program.{Files}
 use Rattle.figpliers_program.specs.Reading.{IsNotRead, IsRead}
 use Rattle.figpliers_program.specs.Verdicts.{Tells, graver, verdict_of}
-use Rattle.figpliers_program.specs.declared.command.Reading.{Reading}
 use Rattle.figpliers_program.specs.declared.faults.PageFault.{PageFault}
 use Rattle.figpliers_program.specs.declared.faults.Verdict.{Verdict}
 use Rattle.figpliers_program.specs.declared.faults.Verdict.TheVariants.{Unwritten}
@@ -22,14 +21,13 @@ abbrev pub IfUnwritten : Verdict → Type 0 → Type 0 → Type 0
 IfUnwritten Unwritten P Q = P
 IfUnwritten verdict P Q = Q
 
--- By the files, by how pages are read, and by what is written of a page with a name and a text.
-module _ (files : Files) (reading : Reading)
-    (IsWritten : (name page : List ℕ) → WriterView → Result Verdict PageFault → WriterView → Type 0) where
-  -- the page of that name was not read, or it was and what it makes was written, or a beginning of that
+-- By the files, and by what is made of a page with a name and bytes.
+module _ (files : Files) (IsMadeOf : (name bytes : List ℕ) → WriterView → Result Verdict PageFault → WriterView → Type 0) where
+  -- the page of that name was not read, or it was, and this is what is made of it
   abbrev pub IsMade : (name : List ℕ) → (left left' : Stream) (out out' : WriterView) → Result Verdict PageFault → Type 0
   IsMade name left left' out out' result =
-      ((fault : PageFault) × (result ≡ Err fault) × IsNotRead files reading name left left' fault × (out' ≡ out))
-      ⊎ ((page : List ℕ) × IsRead files reading name left left' page × IsWritten name page out result out')
+      ((fault : PageFault) × (result ≡ Err fault) × IsNotRead files name left left' fault × (out' ≡ out))
+      ⊎ ((bytes : List ℕ) × IsRead files name left left' bytes × IsMadeOf name bytes out result out')
 
   -- the outcome of the page of that name
   abbrev pub IsPageDone : (name : List ℕ) → (left left' : Stream) (out out' : WriterView) (errors errors' : Stream) → Verdict → Type 0

@@ -1,36 +1,72 @@
 -- What each command writes of a page, and the verdict.
-use Rattle.std.specs.Prelude.{◌≡◌, ◌++◌, ◌∷◌, ◌==◌, false, true, ℕ, List, [], codes, length, if◌then◌else◌}
+use Rattle.std.specs.Prelude.{◌≡◌, ◌++◌, ◌∷◌, ◌==◌, false, true, ℕ, Bool, List, [], Ok, codes, length, if◌then◌else◌}
 use Rattle.std.specs.Fmt.{decimal}
 use Rattle.std.specs.List.{ends_with}
 use Rattle.std.specs.Str.{chars}
+use Rattle.std.specs.String.{string_bytes}
+use Rattle.selectors.specs.declared.selector.Selectors.{Selectors}
+use Rattle.html_selector_text.specs.Grammar.{parsed}
+use Rattle.html_selector_text.specs.Trees.{list_tree}
+use Rattle.html_listings.specs.Listings.{links_text}
+use Rattle.html_listings.specs.Selected.{selected_in, selected_text}
+use Rattle.html_listings.specs.declared.selected.Show.{Show}
 use Rattle.figpliers.specs.Document.{IsDocument, document_bytes}
 use Rattle.figpliers.specs.Forest.{Forest, children_of}
 use Rattle.figpliers.specs.InnerText.{IsInnerText}
 use Rattle.figpliers.specs.Lines.{tree_lines}
 use Rattle.figpliers.specs.Pages.{IsFragment, IsPage, html_name}
 use Rattle.figpliers.specs.Table.{Row}
+use Rattle.figpliers_program.specs.declared.command.DocumentJob.{DocumentJob}
+use Rattle.figpliers_program.specs.declared.command.DocumentJob.TheVariants.{Check, Links, Markdown, Select, Text, Tree}
+use Rattle.figpliers_program.specs.declared.command.TextJob.{TextJob}
+use Rattle.figpliers_program.specs.declared.command.TextJob.TheVariants as job
+use Rattle.figpliers_program.specs.declared.command.TextJob.TheVariants.{Fragment, Normal}
+use Rattle.figpliers_program.specs.Checking.{CheckText}
 use Rattle.figpliers_program.specs.declared.faults.Verdict.{Verdict}
-use Rattle.figpliers_program.specs.declared.faults.Verdict.TheVariants.{Errors, Fine}
+use Rattle.figpliers_program.specs.declared.faults.Verdict.TheVariants.{Errors, Fine, Nothing}
+
+-- OF A DOCUMENT
 
 -- a text, and a line feed after it unless it ends with one
 abbrev pub ended : List ℕ → List ℕ
 ended text = if ends_with (λ a b. a == b) text (10 ∷ []) then text else text ++ 10 ∷ []
 
--- `text`: the rendered text of the document
-pub record RenderedText (table : List Row) (page text : List ℕ) (verdict : Verdict) : Type 0 where
-  pub document : Forest
-  pub is_page : IsPage table false page document
+-- `text`: the rendered text
+pub record RenderedText (document : Forest) (text : List ℕ) (verdict : Verdict) : Type 0 where
   pub rendered : List ℕ
   pub is_rendered : IsInnerText document 0 (chars rendered)
   pub written : text ≡ ended rendered
   pub done : verdict ≡ Fine
 
--- `tree`: the lines of the document
-pub record TreeText (table : List Row) (page text : List ℕ) (verdict : Verdict) : Type 0 where
-  pub document : Forest
-  pub is_page : IsPage table false page document
-  pub written : text ≡ tree_lines document 0
-  pub done : verdict ≡ Fine
+-- the verdict of a page in which so many elements were selected
+abbrev pub verdict_on : ℕ → Verdict
+verdict_on count = if count == 0 then Nothing else Fine
+
+-- `select`: what is asked for of the elements that the selectors of a text select
+pub record SelectedText (selector : List ℕ) (show : Show) (name : List ℕ) (several : Bool) (document : Forest) (text : List ℕ)
+    (verdict : Verdict) : Type 0 where
+  pub selectors : Selectors
+  pub is_parsed : parsed (chars selector) ≡ Ok (list_tree selectors)
+  pub written : text ≡ selected_text show selectors document name several
+  pub done : verdict ≡ verdict_on (length (selected_in selectors document))
+
+-- What a command writes of the document of a page that has a name; `several` is whether there are several pages. Of Markdown only that it is
+-- some text.
+abbrev pub DocumentText : DocumentJob → (several : Bool) → (name : List ℕ) → Forest → (text : List ℕ) → Verdict → Type 0
+DocumentText Tree several name document text verdict = (text ≡ tree_lines document 0) × (verdict ≡ Fine)
+DocumentText Text several name document text verdict = RenderedText document text verdict
+DocumentText Markdown several name document text verdict = verdict ≡ Fine
+DocumentText Check several name document text verdict = CheckText name document text verdict
+DocumentText (Links listing) several name document text verdict = (text ≡ links_text listing document name several) × (verdict ≡ Fine)
+DocumentText (Select selector show) several name document text verdict =
+    SelectedText (string_bytes selector) show name several document text verdict
+
+-- of the page of a text
+abbrev pub PageText : List Row → DocumentJob → (several : Bool) → (name page : List ℕ) → (text : List ℕ) → Verdict → Type 0
+PageText table asked several name page text verdict =
+    (document : Forest) × IsPage table false page document × DocumentText asked several name document text verdict
+
+-- OF A TEXT
 
 -- the node in which the nodes of a fragment stand: the first one in the document
 abbrev pub top_of : List ℕ → ℕ
@@ -67,3 +103,9 @@ pub record ErrorsText (table : List Row) (name page text : List ℕ) (verdict : 
   pub each : length errors ≡ document.errors
   pub written : text ≡ error_lines name errors
   pub done : verdict ≡ (if document.errors == 0 then Fine else Errors)
+
+-- what a command writes of the text of a page that has a name
+abbrev pub TextText : List Row → TextJob → (name page : List ℕ) → (text : List ℕ) → Verdict → Type 0
+TextText table job.Errors name page text verdict = ErrorsText table name page text verdict
+TextText table (Fragment element) name page text verdict = FragmentText table (string_bytes element) page text verdict
+TextText table Normal name page text verdict = NormalText table page text verdict

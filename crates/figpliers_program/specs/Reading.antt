@@ -1,16 +1,19 @@
--- The text of a page, by how its bytes are read.
-use Rattle.std.specs.Prelude.{◌≡◌, ◌⊎◌, ℕ, Bool, List, drop, Option, Some, codes, encode_utf8_all}
-use Rattle.std.specs.Prelude.{IsUtf8, option_map}
+-- The bytes of a page, and its text, by how its bytes are read.
+use Rattle.std.specs.Prelude.{◌≡◌, ◌⊎◌, ℕ, Bool, false, List, Option, codes, option_map}
+use Rattle.std.specs.Prelude.{IsUtf8}
 use Rattle.std.specs.Bool.{MatchBool}
 use Rattle.std.specs.Io.KnownBytes.{IsAtEnd, prepend_known}
-use Rattle.std.specs.Str.{IsValidUpTo, bytes_eq}
-use Rattle.std.specs.Str.Lossy.{utf8_lossy}
+use Rattle.std.specs.Str.{bytes_eq}
+use Rattle.std.specs.Str.Lossy.{utf8_lossy, utf8_valid_len}
 use Rattle.std.specs.String.{string_bytes}
-use Rattle.figpliers.specs.Decoding.{decoded}
-use Rattle.figpliers.specs.Encoding.TheVariants.{Windows1252}
+use Rattle.figpliers.specs.Encoding.{Encoding}
+use Rattle.figpliers.specs.Encoding.TheVariants as encoding
+use Rattle.figpliers.specs.Forest.{Forest}
+use Rattle.figpliers.specs.Pages.{IsPage}
 use Rattle.figpliers.specs.Sniffed.{Sniffed}
 use Rattle.figpliers.specs.Sniffing.{sniffed}
-use Rattle.figpliers.specs.Why.TheVariants.{Fallback}
+use Rattle.figpliers.specs.Table.{Row}
+use Rattle.html_decoded_pages.specs.DecodedPages.{encoding_of, text_in, unmarked}
 use Rattle.html_normal_program.specs.Program.{Files}
 use Rattle.html_normal_program.specs.Streams.{IsMissing, IsOpened}
 use Rattle.figpliers_program.specs.declared.command.Reading.{Reading}
@@ -20,51 +23,66 @@ use Rattle.figpliers_program.specs.declared.faults.PageFault.TheVariants.{Memory
 
 -- TEXTS
 
--- The text of bytes by the encoding that was found. Where nothing says which it is, bytes that are UTF-8 are taken as they are (HTML
--- Standard, section 13.2.3.2).
-abbrev pub IsFoundText : Sniffed → (bytes text : List ℕ) → Type 0
-IsFoundText found bytes text = ((found.why ≡ Fallback) × IsUtf8 bytes × (text ≡ bytes))
-    ⊎ ((found.why ≡ Fallback → IsUtf8 bytes → ⊥) × (text ≡ encode_utf8_all (decoded found.encoding (drop found.mark_length bytes))))
+-- the encoding of bytes of which nothing says which it is: that of bytes in UTF-8 is UTF-8, as that of most files (HTML Standard, section
+-- 13.2.3.2)
+abbrev pub IsFallback : (bytes : List ℕ) → Encoding → Type 0
+IsFallback bytes fallback = (IsUtf8 bytes × (fallback ≡ encoding.Utf8)) ⊎ ((IsUtf8 bytes → ⊥) × (fallback ≡ encoding.Windows1252))
 
-abbrev pub IsTextOf : Reading → (bytes text : List ℕ) → Type 0
-IsTextOf Utf8 bytes text = text ≡ bytes
-IsTextOf Lossy bytes text = text ≡ utf8_lossy bytes
-IsTextOf (Found label) bytes text = IsFoundText (sniffed bytes (option_map string_bytes label) Windows1252) bytes text
+-- the text of bytes in the encoding that was found, unless a `meta` of its document says otherwise
+abbrev pub text_by : List Row → Sniffed → (bytes : List ℕ) → List ℕ
+text_by table found bytes = text_in (encoding_of table found (unmarked found bytes)) (unmarked found bytes)
 
--- A source was read to its end, and this is the text of its bytes.
-abbrev pub IsReadFrom : Reading → (left left' : Option (List ℕ)) → (text : List ℕ) → Type 0
-IsReadFrom reading left left' text = (bytes : List ℕ) × IsTextOf reading bytes text × (left ≡ prepend_known bytes left') × IsAtEnd left'
+-- the text of bytes in the encoding that is found by a label, if there is one, or by what they say (section 13.2.3)
+abbrev pub IsFoundText : List Row → Option (List ℕ) → (bytes text : List ℕ) → Type 0
+IsFoundText table label bytes text = (fallback : Encoding) × IsFallback bytes fallback × (text ≡ text_by table (sniffed bytes label fallback) bytes)
+
+abbrev pub IsTextOf : List Row → Reading → (bytes text : List ℕ) → Type 0
+IsTextOf table Utf8 bytes text = text ≡ bytes
+IsTextOf table Lossy bytes text = text ≡ utf8_lossy bytes
+IsTextOf table (Found label) bytes text = IsFoundText table (option_map string_bytes label) bytes text
+
+-- why bytes have no text: they are to be UTF-8 and are not, from this place on; or memory ran out
+abbrev pub HasNoText : Reading → (bytes : List ℕ) → PageFault → Type 0
+HasNoText reading bytes (NotUtf8 at) = (reading ≡ Utf8) × (IsUtf8 bytes → ⊥) × (at ≡ utf8_valid_len bytes)
+HasNoText reading bytes Memory = Unit {0}
+HasNoText reading bytes fault = ⊥
+
+-- a forest is the document of the text of bytes
+abbrev pub IsDocumentOf : List Row → Reading → (bytes : List ℕ) → Forest → Type 0
+IsDocumentOf table reading bytes document = (text : List ℕ) × IsTextOf table reading bytes text × IsPage table false text document
+
+-- BYTES
+
+-- a source was read to its end, and these are its bytes
+abbrev pub IsReadFrom : (left left' : Option (List ℕ)) → (bytes : List ℕ) → Type 0
+IsReadFrom left left' bytes = (left ≡ prepend_known bytes left') × IsAtEnd left'
 
 -- why a source was not
-abbrev pub IsUnread : Reading → (left left' : Option (List ℕ)) → PageFault → Type 0
-IsUnread reading left left' (NotUtf8 at) = (reading ≡ Utf8)
-    × ((whole rest : List ℕ) → left ≡ Some whole → left' ≡ Some rest → IsValidUpTo whole at)
-IsUnread reading left left' Read = Unit {0}
-IsUnread reading left left' Memory = Unit {0}
-IsUnread reading left left' fault = ⊥
+abbrev pub IsUnread : PageFault → Type 0
+IsUnread Read = Unit {0}
+IsUnread Memory = Unit {0}
+IsUnread fault = ⊥
 
 -- FILES, by what is stated of the file of a name
 
-abbrev pub IsFileRead : Reading → Option (Option (List ℕ)) → (text : List ℕ) → Type 0
-IsFileRead reading told text = (left : Option (List ℕ)) × (left' : Option (List ℕ))
-    × IsOpened told left × IsReadFrom reading left left' text
+abbrev pub IsFileRead : Option (Option (List ℕ)) → (bytes : List ℕ) → Type 0
+IsFileRead told bytes = (left : Option (List ℕ)) × (left' : Option (List ℕ)) × IsOpened told left × IsReadFrom left left' bytes
 
-abbrev pub IsFileUnread : Reading → Option (Option (List ℕ)) → PageFault → Type 0
-IsFileUnread reading told (Open why) = IsMissing told
-IsFileUnread reading told fault = (left : Option (List ℕ)) × (left' : Option (List ℕ))
-    × IsOpened told left × IsUnread reading left left' fault
+abbrev pub IsFileUnread : Option (Option (List ℕ)) → PageFault → Type 0
+IsFileUnread told (Open why) = IsMissing told
+IsFileUnread told fault = (left : Option (List ℕ)) × IsOpened told left × IsUnread fault
 
 -- PAGES: the name - is that of standard input
 
 abbrev pub is_input : List ℕ → Bool
 is_input name = bytes_eq name (codes "-")
 
--- the page of that name was read, and this is its text
-abbrev pub IsRead : Files → Reading → (name : List ℕ) → (left left' : Option (List ℕ)) → (text : List ℕ) → Type 0
-IsRead files reading name left left' text = MatchBool (is_input name) (IsReadFrom reading left left' text)
-    ((left' ≡ left) × IsFileRead reading (files name) text)
+-- the page of that name was read, and these are its bytes
+abbrev pub IsRead : Files → (name : List ℕ) → (left left' : Option (List ℕ)) → (bytes : List ℕ) → Type 0
+IsRead files name left left' bytes = MatchBool (is_input name) (IsReadFrom left left' bytes)
+    ((left' ≡ left) × IsFileRead (files name) bytes)
 
 -- it was not
-abbrev pub IsNotRead : Files → Reading → (name : List ℕ) → (left left' : Option (List ℕ)) → PageFault → Type 0
-IsNotRead files reading name left left' fault = MatchBool (is_input name) (IsUnread reading left left' fault)
-    ((left' ≡ left) × IsFileUnread reading (files name) fault)
+abbrev pub IsNotRead : Files → (name : List ℕ) → (left left' : Option (List ℕ)) → PageFault → Type 0
+IsNotRead files name left left' fault = MatchBool (is_input name) (IsUnread fault)
+    ((left' ≡ left) × IsFileUnread (files name) fault)

@@ -50,6 +50,10 @@ fault_words Memory = codes "no memory was left"
 abbrev pub fault_line : List ℕ → PageFault → List ℕ
 fault_line name fault = name ++ (codes ": " ++ (fault_words fault ++ 10 ∷ []))
 
+-- what is reported where not all was written to standard output or to a file
+abbrev pub unwritten_line : List ℕ → List ℕ
+unwritten_line output = codes "figpliers: " ++ (output ++ codes " cannot be written\n")
+
 -- the verdict of a page that had a fault
 abbrev pub verdict_of : PageFault → Verdict
 verdict_of Write = Unwritten

@@ -1,45 +1,61 @@
 //! The words after the program's name.
 
 ghost use Rattle.std.specs.Prelude.{◌≡◌, IfOk, IfSome, Some, [], codes, map, option_map, unwrap_or};
-ghost use Rattle.std.specs.Char.{to_ascii_lowercase};
 ghost use Rattle.std.specs.String.{string_bytes};
 ghost use Rattle.clap.specs.Matches.{found_of};
 ghost use Rattle.clap.specs.Simple.{subcommand_rows_of};
 ghost use Rattle.clap.specs.Walk.{all_of, first_of, rows_of};
 ghost use Rattle.figpliers_program.specs.Asked as spec;
-ghost use Rattle.figpliers_program.specs.Asked.{AsksFor, IsJob, IsListing, IsNaming, IsReading, IsSet, IsShow};
+ghost use Rattle.figpliers_program.specs.Asked.{AsksFor, IsJob, IsListing, IsNaming, IsReading, IsSet, IsShow, lowered_value};
 
 use crate::command_line::command_line;
-use crate::linking::Listing;
-use crate::selecting::Show;
 use clap::error::ErrorKind;
 use clap::{ArgMatches, Error};
 use figpliers::encoding_of_label;
+use html_listings::{Listing, Show};
 use std::alloc::{AllocError, Global};
 
-/// What is done with each page.
+/// What is done with the text of each page.
 #[derive(Drop)]
-pub enum Job {
+pub enum TextJob {
     /// Its parse errors are listed.
     Errors,
-    /// Its tree is written line by line; of a fragment, in an element of this name.
-    Tree { fragment: Option<String> },
+    /// The tree that it makes in an element of this name is written line by line.
+    Fragment { element: String },
+    /// Its normal text is written.
+    Normal,
+}
+
+/// What is done with the document of each page.
+#[derive(Drop)]
+pub enum DocumentJob {
+    /// Its tree is written line by line.
+    Tree,
     /// Its links are listed.
     Links { listing: Listing },
     /// It is written as Markdown.
     Markdown,
     /// Its text is written.
     Text,
-    /// Its normal text is written.
-    Normal,
+    /// Whether it is faithful is written.
+    Check,
     /// The elements that selectors select are written.
     Select { selector: String, show: Show },
+}
+
+/// What is done with each page.
+#[derive(Drop)]
+pub enum Job {
+    /// With its text.
+    OfText(TextJob),
+    /// With its document.
+    OfDocument(DocumentJob),
 }
 
 /// How the bytes of pages are read.
 #[derive(Drop)]
 pub enum Reading {
-    /// In the encoding that is found: by a byte order mark, the label that is given, or else a declaration in the first 1,024 bytes.
+    /// In the encoding that is found: by a byte order mark, the label that is given, or else a declaration.
     Found { label: Option<String> },
     /// As UTF-8; what is not is refused.
     Utf8,
@@ -54,6 +70,8 @@ pub struct Asked {
     pub job: Job,
     /// How the bytes of pages are read.
     pub reading: Reading,
+    /// The file to write to; standard output, where there is none.
+    pub output: Option<String>,
     /// The files with the pages; standard input, where there are none.
     pub files: Vec<String>,
 }
@@ -88,8 +106,7 @@ fn is_set(matches: &ArgMatches<'_>, name: &str) -> bool
 
 /// The element in which a fragment is read, where one is named; the names of HTML elements are in lower case.
 fn fragment_of(alloc: Global, matches: &ArgMatches<'_>) -> Result<Option<String>, AllocError>
-    ensures { IfOk result (λ found. option_map string_bytes found
-        ≡ option_map (map to_ascii_lowercase) (first_of (codes "fragment") (rows_of (found_of matches.now)))) }
+    ensures { IfOk result (λ found. option_map string_bytes found ≡ lowered_value (codes "fragment") (rows_of (found_of matches.now))) }
 {
     match value_of(alloc, matches, "fragment")? {
         Some(mut name) => {
@@ -109,9 +126,7 @@ fn is_name(name: &str) -> bool {
 /// Whether a fragment is to be read in an element of a name that none has.
 fn has_no_name(job: &Job) -> bool {
     match job {
-        Job::Tree {
-            fragment: Some(name),
-        } => !is_name(name.as_str()),
+        Job::OfText(TextJob::Fragment { element }) => !is_name(element.as_str()),
         _ => false,
     }
 }
@@ -176,10 +191,29 @@ fn selector_of(alloc: Global, matches: &ArgMatches<'_>) -> Result<String, AllocE
 fn select_of(alloc: Global, matches: &ArgMatches<'_>) -> Result<Job, AllocError>
     ensures { IfOk result (IsJob (codes "select") (rows_of (found_of matches.now))) }
 {
-    Ok(Job::Select {
+    Ok(Job::OfDocument(DocumentJob::Select {
         selector: selector_of(alloc, matches)?,
         show: show_of(alloc, matches)?,
-    })
+    }))
+}
+
+/// The command `tree`.
+fn tree_of(alloc: Global, matches: &ArgMatches<'_>) -> Result<Job, AllocError>
+    ensures { IfOk result (IsJob (codes "tree") (rows_of (found_of matches.now))) }
+{
+    match fragment_of(alloc, matches)? {
+        Some(element) => Ok(Job::OfText(TextJob::Fragment { element })),
+        None => Ok(Job::OfDocument(DocumentJob::Tree)),
+    }
+}
+
+/// The command `links`.
+fn links_of(alloc: Global, matches: &ArgMatches<'_>) -> Result<Job, AllocError>
+    ensures { IfOk result (IsJob (codes "links") (rows_of (found_of matches.now))) }
+{
+    Ok(Job::OfDocument(DocumentJob::Links {
+        listing: listing_of(alloc, matches)?,
+    }))
 }
 
 /// What a command of that name does; nothing where there is none of that name.
@@ -187,16 +221,13 @@ fn job_of(alloc: Global, name: &str, matches: &ArgMatches<'_>) -> Result<Option<
     ensures { IfOk result (λ found. IfSome found (IsJob name.now (rows_of (found_of matches.now)))) }
 {
     match name {
-        "errors" => Ok(Some(Job::Errors)),
-        "tree" => Ok(Some(Job::Tree {
-            fragment: fragment_of(alloc, matches)?,
-        })),
-        "links" => Ok(Some(Job::Links {
-            listing: listing_of(alloc, matches)?,
-        })),
-        "markdown" => Ok(Some(Job::Markdown)),
-        "text" => Ok(Some(Job::Text)),
-        "normal" => Ok(Some(Job::Normal)),
+        "errors" => Ok(Some(Job::OfText(TextJob::Errors))),
+        "tree" => Ok(Some(tree_of(alloc, matches)?)),
+        "links" => Ok(Some(links_of(alloc, matches)?)),
+        "markdown" => Ok(Some(Job::OfDocument(DocumentJob::Markdown))),
+        "text" => Ok(Some(Job::OfDocument(DocumentJob::Text))),
+        "check" => Ok(Some(Job::OfDocument(DocumentJob::Check))),
+        "normal" => Ok(Some(Job::OfText(TextJob::Normal))),
         "select" => Ok(Some(select_of(alloc, matches)?)),
         _ => Ok(None),
     }
@@ -263,6 +294,7 @@ fn asked_of(
     Ok(Some(Asked {
         job,
         reading: reading_of(alloc, matches)?,
+        output: value_of(alloc, matches, "output")?,
         files: files_of(alloc, matches)?,
     }))
 }

@@ -3,7 +3,7 @@ ghost use Rattle.std.specs.Prelude.{◌≡◌, IfOk, false};
 ghost use Rattle.clap.specs.Simple.{app_of};
 ghost use Rattle.clap.specs.Walk.{rule_of};
 ghost use Rattle.figpliers_program.specs.CommandLine as spec;
-ghost use Rattle.figpliers_program.specs.CommandLine.{IsLocal, IsPlainOption, flag_rule, option_rule, pages_command};
+ghost use Rattle.figpliers_program.specs.CommandLine.{IsLocal, IsPlainOption, flag_rule, option_rule, output_rule, pages_command};
 ghost use Rattle.figpliers_program.specs.CommandLine.{pages_rule, with_pages};
 
 use clap::{Arg, ArgAction, Command};
@@ -43,6 +43,20 @@ fn pages<'a>(alloc: Global, action: ArgAction) -> Arg<'a>
         .help("HTML pages; standard input, where none is named or for the name -")
 }
 
+/// Where to write to.
+fn output<'a>(alloc: Global) -> Arg<'a>
+    ensures rule { rule_of result ≡ output_rule }
+    ensures plain { IsPlainOption result }
+{
+    option(
+        alloc,
+        "output",
+        "FILE",
+        "Write to this file in place of standard output",
+    )
+    .short('o')
+}
+
 /// A command with the options that say how pages are read.
 fn reads<'a>(alloc: Global, command: Command<'a>) -> Result<Command<'a>, AllocError>
     ensures app { IfOk result (λ made. app_of made ≡ spec.with_reading (app_of command.entry)) }
@@ -78,7 +92,9 @@ fn reads_pages<'a>(
     ensures app { IfOk result (λ made. app_of made ≡ with_pages action (app_of command.entry)) }
     ensures local { IsLocal command.entry → IfOk result IsLocal }
 {
-    reads(alloc, command)?.arg(pages(alloc, action))
+    reads(alloc, command)?
+        .arg(output(alloc))?
+        .arg(pages(alloc, action))
 }
 
 /// A command over pages, with its options.
@@ -245,16 +261,16 @@ fn program<'a>(alloc: Global) -> Result<Command<'a>, AllocError>
     Ok(
         command
             .about(
-                "Parse errors, trees, links, texts, Markdown, elements and normal texts of HTML pages",
+                "Parse errors, trees, links, texts, Markdown, checks, elements and normal texts of HTML pages",
             )
             .after_help(
-                "Status: 0 done; 1 a page has parse errors, or no element was selected; 2 a fault",
+                "Status: 0 done; 1 a page has parse errors or is not read back, or no element was selected; 2 a fault",
             )
             .subcommand_required(true),
     )
 }
 
-/// A command with the commands that have no options of their own but `normal`.
+/// A command with the commands that have no options of their own but `errors` and `normal`.
 fn with_plain<'a>(alloc: Global, command: Command<'a>) -> Result<Command<'a>, AllocError>
     ensures { IfOk result (λ made. app_of made ≡ spec.with_plain (app_of command.entry)) }
 {
@@ -270,7 +286,16 @@ fn with_plain<'a>(alloc: Global, command: Command<'a>) -> Result<Command<'a>, Al
         "Print the text of pages, without scripts and style sheets",
         ArgAction::Append,
     )?;
-    command.subcommand(markdown)?.subcommand(text)
+    let check = over_pages(
+        alloc,
+        "check",
+        "Say whether what is written of pages is read back as it was, and if not where; status 1 where one is not",
+        ArgAction::Append,
+    )?;
+    command
+        .subcommand(markdown)?
+        .subcommand(text)?
+        .subcommand(check)
 }
 
 /// The command line of the program.

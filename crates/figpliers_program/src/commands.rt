@@ -1,66 +1,94 @@
 //! What each command writes of a page.
-ghost use Rattle.std.specs.Prelude.{◌≡◌, ◌==◌, if◌then◌else◌};
+ghost use Rattle.std.specs.Prelude.{◌≡◌, ◌==◌, if◌then◌else◌, length};
 ghost use Rattle.std.specs.String.{string_bytes};
 ghost use Rattle.figpliers.specs.Forest.{children_of};
+ghost use Rattle.figpliers.specs.Lines.{tree_lines};
 ghost use Rattle.figpliers.specs.Puts.{told_by};
+ghost use Rattle.html_listings.specs.Listings.{links_text};
+ghost use Rattle.html_listings.specs.Selected.{selected_in, selected_text};
 ghost use Rattle.figpliers_program.specs.Faults.{memory_fault_of};
-ghost use Rattle.figpliers_program.specs.Pages.{ErrorsText, FragmentText, NormalText, RenderedText, TreeText, error_line, top_of};
+ghost use Rattle.figpliers_program.specs.Pages.{ErrorsText, FragmentText, NormalText, RenderedText, error_line, top_of, verdict_on};
 ghost use Rattle.figpliers_program.specs.Printing.{Prints, PrintsSome};
 ghost use Rattle.figpliers_program.specs.declared.faults.Verdict.TheVariants.{Errors, Fine};
 
 use crate::faults::{PageFault, Verdict};
 use crate::writing::{put, put_ended};
 use figpliers::{
-    Exact, Forest, MemReader, NodeId, NormalFault, References, Target, document, fragment,
-    inner_text, markdown, normalise, noted_document, write_tree,
+    Exact, Forest, MemReader, NodeId, NormalFault, References, Target, fragment, inner_text,
+    markdown, normalise, noted_document, write_tree,
 };
+use html_listings::{Listing, Show, write_links, write_selected};
+use selectors::Selectors;
 use std::alloc::Global;
 
-/// Writes the text of a page as it is rendered, with a line feed at its end.
-pub fn text<W: Target>(
-    alloc: Global,
-    table: References,
-    page: String,
-    writer: &mut W,
-) -> Result<Verdict, PageFault>
-    ensures { PrintsSome (RenderedText table (string_bytes page)) (told_by W.written W.failures writer.old) result
+/// Writes the text of a document as it is rendered, with a line feed at its end.
+pub fn text<W: Target>(alloc: Global, forest: &Forest, writer: &mut W) -> Result<Verdict, PageFault>
+    ensures { PrintsSome (RenderedText forest.now) (told_by W.written W.failures writer.old) result
         (told_by W.written W.failures writer.new) }
 {
-    let forest = document(alloc, table, page)?;
-    let text = inner_text(alloc, &forest, forest.document())?;
+    let text = inner_text(alloc, forest, forest.document())?;
     put_ended(writer, text.as_str())?;
     Ok(Verdict::Fine)
 }
 
-/// Writes a page as Markdown.
+/// Writes a document as Markdown.
 pub fn write_markdown<W: Target>(
     alloc: Global,
-    table: References,
-    page: String,
+    forest: &Forest,
     writer: &mut W,
 ) -> Result<Verdict, PageFault>
     ensures { PrintsSome (λ _ verdict. verdict ≡ Fine) (told_by W.written W.failures writer.old) result
         (told_by W.written W.failures writer.new) }
 {
-    let forest = document(alloc, table, page)?;
-    let text = markdown(alloc, &forest, forest.document())?;
+    let text = markdown(alloc, forest, forest.document())?;
     put(writer, text.as_str())?;
     Ok(Verdict::Fine)
 }
 
-/// Writes the tree of a page.
-pub fn tree<W: Target>(
-    alloc: Global,
-    table: References,
-    page: String,
-    writer: &mut W,
-) -> Result<Verdict, PageFault>
-    ensures { PrintsSome (TreeText table (string_bytes page)) (told_by W.written W.failures writer.old) result
+/// Writes the tree of a document.
+pub fn tree<W: Target>(alloc: Global, forest: &Forest, writer: &mut W) -> Result<Verdict, PageFault>
+    ensures { PrintsSome (λ text verdict. (text ≡ tree_lines forest.now 0) × (verdict ≡ Fine)) (told_by W.written W.failures writer.old) result
         (told_by W.written W.failures writer.new) }
 {
-    let forest = document(alloc, table, page)?;
-    write_tree(alloc, &forest, forest.document(), writer)?;
+    write_tree(alloc, forest, forest.document(), writer)?;
     Ok(Verdict::Fine)
+}
+
+/// Lists the links of a document.
+pub fn links<W: Target>(
+    alloc: Global,
+    forest: &Forest,
+    listing: &Listing,
+    name: &str,
+    has_several: bool,
+    writer: &mut W,
+) -> Result<Verdict, PageFault>
+    ensures { PrintsSome (λ text verdict. (text ≡ links_text listing.now forest.now name.now has_several) × (verdict ≡ Fine))
+        (told_by W.written W.failures writer.old) result (told_by W.written W.failures writer.new) }
+{
+    write_links(alloc, forest, listing, name, has_several, writer)?;
+    Ok(Verdict::Fine)
+}
+
+/// Writes what is asked for of the elements of a document that are selected.
+pub fn select<W: Target>(
+    alloc: Global,
+    forest: &Forest,
+    selectors: &Selectors,
+    show: &Show,
+    name: &str,
+    has_several: bool,
+    writer: &mut W,
+) -> Result<Verdict, PageFault>
+    ensures { PrintsSome (λ text verdict. (text ≡ selected_text show.now selectors.now forest.now name.now has_several)
+        × (verdict ≡ verdict_on (length (selected_in selectors.now forest.now))))
+        (told_by W.written W.failures writer.old) result (told_by W.written W.failures writer.new) }
+{
+    if write_selected(alloc, forest, selectors, show, name, has_several, writer)? {
+        Ok(Verdict::Fine)
+    } else {
+        Ok(Verdict::Nothing)
+    }
 }
 
 /// The node in which the nodes of a fragment stand.

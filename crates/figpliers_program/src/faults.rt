@@ -1,11 +1,12 @@
 //! What is said on standard error, and by the status.
 ghost use Rattle.std.specs.Prelude.{◌≡◌, ◌++◌, ◌∷◌, [], Bool, codes, is_err};
 ghost use Rattle.html_normal_program.specs.Streams.{IsPut};
-ghost use Rattle.figpliers_program.specs.Verdicts.{Tells, fault_line, fault_words, graver, open_words, status_of, verdict_of};
-ghost use Rattle.figpliers_program.specs.Faults.{normal_fault_of, serialize_fault_of, text_fault_of};
+ghost use Rattle.figpliers_program.specs.Verdicts.{Tells, fault_line, fault_words, graver, open_words, status_of};
+ghost use Rattle.figpliers_program.specs.Verdicts.{unwritten_line, verdict_of};
+ghost use Rattle.figpliers_program.specs.Faults.{normal_fault_of, serialize_fault_of};
 ghost use Rattle.figpliers_program.specs.declared.faults.PageFault.TheVariants.{Memory, Write};
 
-use figpliers::{DeviceFault, NormalFault, ParseFault, SerializeFault, Target, TextFault};
+use figpliers::{DeviceFault, NormalFault, ParseFault, SerializeFault, Target};
 use html_normal_program::{put, put_numbered};
 use std::alloc::AllocError;
 
@@ -16,7 +17,7 @@ pub enum Verdict {
     Nothing,
     /// Done.
     Fine,
-    /// A page has parse errors, which were asked for.
+    /// A page has parse errors, or is not read back, as was asked.
     Errors,
     /// A page was not read.
     Fault,
@@ -83,18 +84,6 @@ impl From<AllocError> for PageFault {
 
     fn from(_fault: AllocError) -> PageFault {
         PageFault::Memory
-    }
-}
-
-impl From<TextFault> for PageFault {
-    ghost from_gives = { λ fault made. made ≡ text_fault_of fault };
-
-    fn from(fault: TextFault) -> PageFault {
-        match fault {
-            TextFault::NotUtf8 { at } => PageFault::NotUtf8 { at },
-            TextFault::Read => PageFault::Read,
-            TextFault::Memory => PageFault::Memory,
-        }
     }
 }
 
@@ -200,10 +189,25 @@ pub fn report<Errors: Target>(errors: &mut Errors, name: &str, fault: PageFault)
     }
 }
 
-/// Writes to standard error that not all was written to standard output.
-pub fn report_unwritten<Errors: Target>(errors: &mut Errors)
-    ensures { (failed : Bool) × IsPut (fault_line (codes "figpliers") Write)
-        (Errors.written errors.old) (Errors.written errors.new) failed }
+/// Writes what was not written, and the end of the line.
+fn put_unwritten<Errors: Target>(errors: &mut Errors, output: &str) -> Result<(), DeviceFault>
+    ensures { IsPut (output.now ++ codes " cannot be written\n") (Errors.written errors.old) (Errors.written errors.new) (is_err result) }
 {
-    let _ = put_line(errors, "figpliers", PageFault::Write);
+    put(errors, output)?;
+    put(errors, " cannot be written\n")
+}
+
+/// Writes a line that says what was not written.
+fn put_unwritten_line<Errors: Target>(errors: &mut Errors, output: &str) -> Result<(), DeviceFault>
+    ensures { IsPut (unwritten_line output.now) (Errors.written errors.old) (Errors.written errors.new) (is_err result) }
+{
+    put(errors, "figpliers: ")?;
+    put_unwritten(errors, output)
+}
+
+/// Writes to standard error that not all was written to standard output, or to the file that is named.
+pub fn report_unwritten<Errors: Target>(errors: &mut Errors, output: &str)
+    ensures { (failed : Bool) × IsPut (unwritten_line output.now) (Errors.written errors.old) (Errors.written errors.new) failed }
+{
+    let _ = put_unwritten_line(errors, output);
 }

@@ -4,12 +4,21 @@ use crate::faults::Why;
 use figpliers::{Source, StdSource};
 use html_normal_program::Opener;
 use std::fs::File;
-use std::io::ErrorKind;
+use std::io::{Error, ErrorKind};
 
 /// What opens files by their names, and says why it doesn't.
 pub trait Files<Opened: Source>: Opener<Opened> {
     /// Why the file of that name can't be opened.
     fn why(&self, name: &str) -> Why;
+}
+
+/// Why a file can't be opened, by the error of the operating system.
+pub fn why_of(error: &Error) -> Why {
+    match error.kind() {
+        ErrorKind::NotFound => Why::Missing,
+        ErrorKind::PermissionDenied => Why::Forbidden,
+        _ => Why::Other,
+    }
 }
 
 /// The files of the operating system.
@@ -42,11 +51,7 @@ impl Files<StdSource<File>> for Disk<'_> {
     fn why(&self, name: &str) -> Why {
         match File::open(self.rt, name) {
             Ok(_) => Why::Other,
-            Err(error) => match error.kind() {
-                ErrorKind::NotFound => Why::Missing,
-                ErrorKind::PermissionDenied => Why::Forbidden,
-                _ => Why::Other,
-            },
+            Err(error) => why_of(&error),
         }
     }
 }

@@ -1,20 +1,21 @@
 //! What is made of pages.
-ghost use Rattle.std.specs.Prelude.{◌≡◌, map};
+ghost use Rattle.std.specs.Prelude.{◌≡◌, IfOk, map};
 ghost use Rattle.std.specs.String.{string_bytes};
 ghost use Rattle.figpliers.specs.Puts.{told_by};
-ghost use Rattle.figpliers_program.specs.Jobs.{ArePagesDone, IsRefused, IsRun, IsWritten};
+ghost use Rattle.figpliers_program.specs.Jobs.{AreSelectorsIn, AreSelectorsOf, ArePagesDone, IsMadeOf, IsRefused, IsRun};
 ghost use Rattle.figpliers_program.specs.Outcome.{AreDone, IsPageDone};
+ghost use Rattle.figpliers_program.specs.Pages.{DocumentText, TextText};
+ghost use Rattle.figpliers_program.specs.Printing.{PrintsSome};
 ghost use Rattle.figpliers_program.specs.declared.faults.Verdict.TheVariants.{Fault, Nothing};
 
-use crate::command::{Asked, Job};
-use crate::commands::{errors, fragment_tree, normal, text, tree, write_markdown};
+use crate::checking::check;
+use crate::command::{Asked, DocumentJob, Job, TextJob};
+use crate::commands::{errors, fragment_tree, links, normal, select, text, tree, write_markdown};
 use crate::faults::{PageFault, Verdict, report};
 use crate::files::Files;
-use crate::linking::list_links;
-use crate::pages::read_page;
-use crate::selecting::select_in;
+use crate::pages::{document_of, read_page, text_of};
 use figpliers::{
-    DeviceFault, References, SelectorError, Selectors, Source, SyntaxFault, Target,
+    DeviceFault, Forest, References, SelectorError, Selectors, Source, SyntaxFault, Target,
     parse_selectors, standard, write_whole,
 };
 use std::alloc::Global;
@@ -28,49 +29,95 @@ struct Work<'a> {
     selectors: &'a Selectors,
 }
 
+/// Does with the text of a page what is asked for.
+fn run_text<W: Target>(
+    alloc: Global,
+    job: &TextJob,
+    table: References,
+    name: &str,
+    page: String,
+    writer: &mut W,
+) -> Result<Verdict, PageFault>
+    ensures { PrintsSome (TextText table job.now name.now (string_bytes page)) (told_by W.written W.failures writer.old) result
+        (told_by W.written W.failures writer.new) }
+{
+    match job {
+        TextJob::Errors => errors(alloc, table, name, page, writer),
+        TextJob::Fragment { element } => {
+            fragment_tree(alloc, table, element.as_str(), page, writer)
+        }
+        TextJob::Normal => normal(alloc, table, page, writer),
+    }
+}
+
+/// Does with the document of a page what is asked for; `selectors` are those of the command `select`.
+fn run_document<W: Target>(
+    alloc: Global,
+    job: &DocumentJob,
+    selectors: &Selectors,
+    name: &str,
+    has_several: bool,
+    forest: &Forest,
+    writer: &mut W,
+) -> Result<Verdict, PageFault>
+    requires { AreSelectorsOf job.now selectors.now }
+    ensures { PrintsSome (DocumentText job.now has_several name.now forest.now) (told_by W.written W.failures writer.old) result
+        (told_by W.written W.failures writer.new) }
+{
+    match job {
+        DocumentJob::Tree => tree(alloc, forest, writer),
+        DocumentJob::Links { listing } => {
+            links(alloc, forest, listing, name, has_several, writer)
+        }
+        DocumentJob::Markdown => write_markdown(alloc, forest, writer),
+        DocumentJob::Text => text(alloc, forest, writer),
+        DocumentJob::Check => check(alloc, forest, name, writer),
+        DocumentJob::Select { show, .. } => select(
+            alloc,
+            forest,
+            selectors,
+            show,
+            name,
+            has_several,
+            writer,
+        ),
+    }
+}
+
 /// Does with a page what is asked for.
 fn run_job<W: Target>(
     alloc: Global,
     work: &Work<'_>,
     name: &str,
-    page: String,
+    bytes: Vec<u8>,
     writer: &mut W,
 ) -> Result<Verdict, PageFault>
-    ensures { IsWritten work.now.table.now work.now.asked.now.job name.now (string_bytes page)
+    requires { AreSelectorsIn work.now.asked.now.job work.now.selectors.now }
+    ensures { IsMadeOf work.now.table.now work.now.asked.now name.now bytes.items
         (told_by W.written W.failures writer.old) result (told_by W.written W.failures writer.new) }
 {
     let Ok(table) = work.table.copy(alloc) else {
         return Err(PageFault::Memory);
     };
-    let has_several = work.asked.files.len() > 1;
+    let reading = &work.asked.reading;
     match &work.asked.job {
-        Job::Errors => errors(alloc, table, name, page, writer),
-        Job::Tree { fragment: None } => tree(alloc, table, page, writer),
-        Job::Tree {
-            fragment: Some(element),
-        } => fragment_tree(alloc, table, element.as_str(), page, writer),
-        Job::Links { listing } => list_links(
-            alloc,
-            table,
-            listing,
-            name,
-            has_several,
-            page,
-            writer,
-        ),
-        Job::Markdown => write_markdown(alloc, table, page, writer),
-        Job::Text => text(alloc, table, page, writer),
-        Job::Normal => normal(alloc, table, page, writer),
-        Job::Select { show, .. } => select_in(
-            alloc,
-            table,
-            work.selectors,
-            show,
-            name,
-            has_several,
-            page,
-            writer,
-        ),
+        Job::OfText(job) => {
+            let page = text_of(alloc, &table, reading, bytes)?;
+            run_text(alloc, job, table, name, page, writer)
+        }
+        Job::OfDocument(job) => {
+            let forest = document_of(alloc, table, reading, bytes)?;
+            let has_several = work.asked.files.len() > 1;
+            run_document(
+                alloc,
+                job,
+                work.selectors,
+                name,
+                has_several,
+                &forest,
+                writer,
+            )
+        }
     }
 }
 
@@ -84,15 +131,16 @@ fn run_page<File: Source + Drop, Opens: Files<File>, Input: Source, Output: Targ
     output: &mut Output,
     errors: &mut Errors,
 ) -> Verdict
-    ensures { IsPageDone (Opens.files opener.now) work.now.asked.now.reading (IsWritten work.now.table.now work.now.asked.now.job) name.now
+    requires { AreSelectorsIn work.now.asked.now.job work.now.selectors.now }
+    ensures { IsPageDone (Opens.files opener.now) (IsMadeOf work.now.table.now work.now.asked.now) name.now
         (Input.left input.old) (Input.left input.new) (told_by Output.written Output.failures output.old)
         (told_by Output.written Output.failures output.new) (Errors.written errors.old) (Errors.written errors.new) result }
 {
-    let page = match read_page(alloc, opener, input, name, &work.asked.reading) {
-        Ok(page) => page,
+    let bytes = match read_page(alloc, opener, input, name) {
+        Ok(bytes) => bytes,
         Err(fault) => return report(errors, name, fault),
     };
-    match run_job(alloc, work, name, page, output) {
+    match run_job(alloc, work, name, bytes, output) {
         Ok(verdict) => verdict,
         Err(fault) => report(errors, name, fault),
     }
@@ -114,7 +162,8 @@ fn run_files<
     output: &mut Output,
     errors: &mut Errors,
 ) -> Verdict
-    ensures { AreDone (Opens.files opener.now) work.now.asked.now.reading (IsWritten work.now.table.now work.now.asked.now.job)
+    requires { AreSelectorsIn work.now.asked.now.job work.now.selectors.now }
+    ensures { AreDone (Opens.files opener.now) (IsMadeOf work.now.table.now work.now.asked.now)
         (map string_bytes work.now.asked.now.files.items) Nothing
         (Input.left input.old) (Input.left input.new) (told_by Output.written Output.failures output.old)
         (told_by Output.written Output.failures output.new) (Errors.written errors.old) (Errors.written errors.new) result }
@@ -139,7 +188,8 @@ fn run_all<File: Source + Drop, Opens: Files<File>, Input: Source, Output: Targe
     output: &mut Output,
     errors: &mut Errors,
 ) -> Verdict
-    ensures { ArePagesDone (Opens.files opener.now) work.now.asked.now.reading (IsWritten work.now.table.now work.now.asked.now.job)
+    requires { AreSelectorsIn work.now.asked.now.job work.now.selectors.now }
+    ensures { ArePagesDone (Opens.files opener.now) (IsMadeOf work.now.table.now work.now.asked.now)
         (map string_bytes work.now.asked.now.files.items)
         (Input.left input.old) (Input.left input.new) (told_by Output.written Output.failures output.old)
         (told_by Output.written Output.failures output.new) (Errors.written errors.old) (Errors.written errors.new) result }
@@ -197,15 +247,21 @@ fn report_selector<Errors: Target>(
     ensures told { IsRefused job.now (Errors.written errors.old) (Errors.written errors.new) }
 {
     match job {
-        Job::Select { selector, .. } => report_text(alloc, errors, selector.as_str(), error),
+        Job::OfDocument(DocumentJob::Select { selector, .. }) => {
+            report_text(alloc, errors, selector.as_str(), error)
+        }
         _ => report(errors, "figpliers", PageFault::Memory),
     }
 }
 
 /// The selectors that are asked for; none, where another command was named.
-fn selectors_of(alloc: Global, job: &Job) -> Result<Selectors, SelectorError> {
+fn selectors_of(alloc: Global, job: &Job) -> Result<Selectors, SelectorError>
+    ensures { IfOk result (AreSelectorsIn job.now) }
+{
     match job {
-        Job::Select { selector, .. } => parse_selectors(alloc, selector.as_str()),
+        Job::OfDocument(DocumentJob::Select { selector, .. }) => {
+            parse_selectors(alloc, selector.as_str())
+        }
         _ => Ok(Selectors::Nothing),
     }
 }

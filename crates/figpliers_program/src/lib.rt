@@ -3,19 +3,18 @@
 //! Tests: `figpliers_program_tests`.
 #![tactic(auto)]
 
+mod checking;
 mod command;
 mod command_line;
 mod commands;
 mod faults;
 mod files;
 mod jobs;
-mod linking;
 mod pages;
 mod program;
-mod selecting;
 mod writing;
 
 pub use faults::{PageFault, Verdict, Why, report, report_unwritten};
-pub use files::{Disk, Files};
+pub use files::{Disk, Files, why_of};
 pub use html_normal_program::Opener;
-pub use program::obey;
+pub use program::{obey, output_of};

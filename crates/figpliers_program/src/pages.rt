@@ -1,27 +1,25 @@
-//! Pages from files and from standard input.
-ghost use Rattle.std.specs.Prelude.{◌≡◌, ◌⊎◌, IfErr, IfOk, IsUtf8, OnOk, drop, encode_utf8_all, option_copied, option_map};
-ghost use Rattle.std.specs.Io.KnownBytes.{IsAtEnd, prepend_known};
-ghost use Rattle.std.specs.String.{string_bytes};
-ghost use Rattle.figpliers.specs.Decoding as decoding;
-ghost use Rattle.figpliers.specs.Encoding.TheVariants.{Windows1252};
-ghost use Rattle.figpliers.specs.Sniffing.{sniffed};
-ghost use Rattle.figpliers_program.specs.Reading.{IsFileRead, IsFileUnread, IsFoundText, IsNotRead, IsRead, IsReadFrom, IsUnread};
-ghost use Rattle.figpliers_program.specs.declared.faults.PageFault.TheVariants.{Memory, Read};
+//! Pages from files and from standard input: their bytes, their texts and their documents.
+ghost use Rattle.std.specs.Prelude.{◌≡◌, IfErr, IfOk, option_copied, option_map, string_bytes};
+ghost use Rattle.figpliers_program.specs.Reading.{HasNoText, IsDocumentOf, IsFallback, IsFileRead, IsFileUnread, IsNotRead, IsRead};
+ghost use Rattle.figpliers_program.specs.Reading.{IsReadFrom, IsTextOf, IsUnread};
+ghost use Rattle.figpliers_program.specs.declared.command.Reading.TheVariants.{Utf8};
 
 use crate::command::Reading;
 use crate::faults::PageFault;
 use crate::files::Files;
-use figpliers::{Encoding, Source, Why, decode_page, read_text, sniff};
+use figpliers::{
+    Encoding, Forest, References, Source, decoded_document, decoded_text, document, document_lossy,
+};
 use std::alloc::Global;
+use std::str;
 
 /// How many bytes are asked for a read.
 const PIECE: usize = 4096;
 
 /// All bytes that a source has.
 fn read_bytes<R: Source>(alloc: Global, reader: &mut R) -> Result<Vec<u8>, PageFault>
-    ensures ok { IfOk result (λ bytes. R.left reader.old ≡ prepend_known bytes.items (R.left reader.new)) }
-    ensures end { OnOk result (IsAtEnd (R.left reader.new)) }
-    ensures err { IfErr result (λ fault. (fault ≡ Read) ⊎ (fault ≡ Memory)) }
+    ensures ok { IfOk result (λ bytes. IsReadFrom (R.left reader.old) (R.left reader.new) bytes.items) }
+    ensures err { IfErr result IsUnread }
 {
     let mut bytes = Vec::new(alloc);
     let mut buffer = [0; PIECE];
@@ -36,40 +34,47 @@ fn read_bytes<R: Source>(alloc: Global, reader: &mut R) -> Result<Vec<u8>, PageF
     }
 }
 
-/// The text of bytes in the encoding that is found, by a label too if there is one.
-fn decoded(alloc: Global, bytes: &[u8], label: Option<&[u8]>) -> Result<String, PageFault>
-    ensures ok { IfOk result (λ text. let found = sniffed bytes.now (option_copied label.entry) Windows1252 in
-        string_bytes text ≡ encode_utf8_all (decoding.decoded found.encoding (drop found.mark_length bytes.now))) }
-    ensures fault { IfErr result (λ fault. fault ≡ Memory) }
+/// The bytes of the page in a file.
+fn read_file<File: Source + Drop, Opens: Files<File>>(
+    alloc: Global,
+    opener: &Opens,
+    name: &str,
+) -> Result<Vec<u8>, PageFault>
+    ensures ok { IfOk result (λ bytes. IsFileRead (Opens.files opener.now name.now) bytes.items) }
+    ensures err { IfErr result (IsFileUnread (Opens.files opener.now name.now)) }
 {
-    let (decoded, _) = decode_page(alloc, bytes, label, Encoding::Windows1252)?;
-    Ok(decoded.text)
-}
-
-/// The text of bytes of which nothing says which encoding they are in: as they are, where they are UTF-8.
-fn unlabelled(alloc: Global, bytes: Vec<u8>, label: Option<&[u8]>) -> Result<String, PageFault>
-    ensures ok { IfOk result (λ text. let found = sniffed bytes.items (option_copied label.entry) Windows1252 in
-        (IsUtf8 bytes.items × (string_bytes text ≡ bytes.items))
-        ⊎ ((IsUtf8 bytes.items → ⊥)
-        × (string_bytes text ≡ encode_utf8_all (decoding.decoded found.encoding (drop found.mark_length bytes.items))))) }
-    ensures fault { IfErr result (λ fault. fault ≡ Memory) }
-{
-    match String::from_utf8(bytes) {
-        Ok(text) => Ok(text),
-        Err(error) => decoded(alloc, error.into_bytes().as_slice(), label),
+    match opener.open(name) {
+        Some(mut file) => read_bytes(alloc, &mut file),
+        None => Err(PageFault::Open {
+            why: opener.why(name),
+        }),
     }
 }
 
-/// The text of a page: where nothing says which encoding it is in and it is UTF-8, as most files are, the text as it is (HTML Standard,
-/// section 13.2.3.2).
-fn text_of(alloc: Global, bytes: Vec<u8>, label: Option<&[u8]>) -> Result<String, PageFault>
-    ensures ok { IfOk result (λ text.
-        IsFoundText (sniffed bytes.items (option_copied label.entry) Windows1252) bytes.items (string_bytes text)) }
-    ensures fault { IfErr result (λ fault. fault ≡ Memory) }
+/// The bytes of the page in a file, or of the one on standard input by the name `-`.
+pub fn read_page<File: Source + Drop, Opens: Files<File>, Input: Source>(
+    alloc: Global,
+    opener: &Opens,
+    input: &mut Input,
+    name: &str,
+) -> Result<Vec<u8>, PageFault>
+    ensures ok { IfOk result (λ bytes. IsRead (Opens.files opener.now) name.now (Input.left input.old) (Input.left input.new) bytes.items) }
+    ensures err { IfErr result (IsNotRead (Opens.files opener.now) name.now (Input.left input.old) (Input.left input.new)) }
 {
-    match sniff(bytes.as_slice(), label, Encoding::Windows1252).why {
-        Why::Fallback => unlabelled(alloc, bytes, label),
-        _ => decoded(alloc, bytes.as_slice(), label),
+    if name == "-" {
+        return read_bytes(alloc, input);
+    }
+    read_file(alloc, opener, name)
+}
+
+/// The encoding of bytes of which nothing says which it is: UTF-8 where they are in it, as most files are (HTML Standard, section
+/// 13.2.3.2).
+fn fallback_of(bytes: &[u8]) -> Encoding
+    ensures { IsFallback bytes.now result }
+{
+    match str::from_utf8(bytes) {
+        Ok(_) => Encoding::Utf8,
+        Err(_) => Encoding::Windows1252,
     }
 }
 
@@ -83,56 +88,59 @@ fn label_bytes(label: &Option<String>) -> Option<&[u8]>
     }
 }
 
-/// The text of the page that a source has.
-fn read<R: Source>(alloc: Global, reader: &mut R, reading: &Reading) -> Result<String, PageFault>
-    ensures ok { IfOk result (λ text. IsReadFrom reading.now (R.left reader.old) (R.left reader.new) (string_bytes text)) }
-    ensures err { IfErr result (IsUnread reading.now (R.left reader.old) (R.left reader.new)) }
+/// The text of bytes that are to be UTF-8.
+fn utf8_text(bytes: Vec<u8>) -> Result<String, PageFault>
+    ensures ok { IfOk result (λ text. string_bytes text ≡ bytes.items) }
+    ensures fault { IfErr result (HasNoText Utf8 bytes.items) }
 {
-    match reading {
-        Reading::Utf8 => Ok(read_text(alloc, reader)?),
-        Reading::Lossy => {
-            let bytes = read_bytes(alloc, reader)?;
-            Ok(String::from_utf8_lossy(alloc, bytes.as_slice())?)
-        }
-        Reading::Found { label } => {
-            let bytes = read_bytes(alloc, reader)?;
-            text_of(alloc, bytes, label_bytes(label))
-        }
-    }
-}
-
-/// The text of the page in a file.
-fn read_file<File: Source + Drop, Opens: Files<File>>(
-    alloc: Global,
-    opener: &Opens,
-    name: &str,
-    reading: &Reading,
-) -> Result<String, PageFault>
-    ensures ok { IfOk result (λ text. IsFileRead reading.now (Opens.files opener.now name.now) (string_bytes text)) }
-    ensures err { IfErr result (IsFileUnread reading.now (Opens.files opener.now name.now)) }
-{
-    match opener.open(name) {
-        Some(mut file) => read(alloc, &mut file, reading),
-        None => Err(PageFault::Open {
-            why: opener.why(name),
+    match String::from_utf8(bytes) {
+        Ok(text) => Ok(text),
+        Err(error) => Err(PageFault::NotUtf8 {
+            at: error.utf8_error().valid_up_to() as u64,
         }),
     }
 }
 
-/// The text of the page in a file, or of the one on standard input by the name `-`.
-pub fn read_page<File: Source + Drop, Opens: Files<File>, Input: Source>(
+/// The text of a page.
+pub fn text_of(
     alloc: Global,
-    opener: &Opens,
-    input: &mut Input,
-    name: &str,
+    table: &References,
     reading: &Reading,
+    bytes: Vec<u8>,
 ) -> Result<String, PageFault>
-    ensures ok { IfOk result (λ text. IsRead (Opens.files opener.now) reading.now name.now (Input.left input.old) (Input.left input.new)
-        (string_bytes text)) }
-    ensures err { IfErr result (IsNotRead (Opens.files opener.now) reading.now name.now (Input.left input.old) (Input.left input.new)) }
+    ensures ok { IfOk result (λ text. IsTextOf table.now reading.now bytes.items (string_bytes text)) }
+    ensures fault { IfErr result (HasNoText reading.now bytes.items) }
 {
-    if name == "-" {
-        return read(alloc, input, reading);
+    match reading {
+        Reading::Utf8 => utf8_text(bytes),
+        Reading::Lossy => Ok(String::from_utf8_lossy(alloc, bytes.as_slice())?),
+        Reading::Found { label } => {
+            let bytes = bytes.as_slice();
+            let fallback = fallback_of(bytes);
+            let page = decoded_text(alloc, table, bytes, label_bytes(label), fallback)?;
+            Ok(page.content)
+        }
     }
-    read_file(alloc, opener, name, reading)
+}
+
+/// The document of a page.
+pub fn document_of(
+    alloc: Global,
+    table: References,
+    reading: &Reading,
+    bytes: Vec<u8>,
+) -> Result<Forest, PageFault>
+    ensures ok { IfOk result (IsDocumentOf table reading.now bytes.items) }
+    ensures fault { IfErr result (HasNoText reading.now bytes.items) }
+{
+    match reading {
+        Reading::Utf8 => Ok(document(alloc, table, utf8_text(bytes)?)?),
+        Reading::Lossy => Ok(document_lossy(alloc, table, bytes.as_slice())?),
+        Reading::Found { label } => {
+            let bytes = bytes.as_slice();
+            let fallback = fallback_of(bytes);
+            let page = decoded_document(alloc, table, bytes, label_bytes(label), fallback)?;
+            Ok(page.content)
+        }
+    }
 }

@@ -1,15 +1,18 @@
 //! From words to what is written and the status.
-ghost use Rattle.std.specs.Prelude.{◌≡◌, map};
+ghost use Rattle.std.specs.Prelude.{◌≡◌, IfErr, IfOk, map};
 ghost use Rattle.std.specs.String.{string_bytes};
 ghost use Rattle.figpliers.specs.Puts.{told_by};
 ghost use Rattle.figpliers_program.specs.Jobs.{IsAnswered, IsOutcome};
+ghost use Rattle.figpliers_program.specs.Asked.{IsOutputOf};
+ghost use Rattle.figpliers_program.specs.declared.faults.PageFault.TheVariants.{Memory};
 
-use crate::command::read_words;
+use crate::command::{Asked, read_words};
 use crate::faults::{PageFault, Verdict, report};
 use crate::files::Files;
 use crate::jobs::run;
 use crate::writing::put;
 use clap::Error;
+use clap::error::ErrorKind;
 use figpliers::{Source, Target, write_whole};
 use std::alloc::Global;
 
@@ -36,9 +39,34 @@ fn answer<Output: Target, Errors: Target>(
     }
 }
 
+/// The file to write to.
+fn output_in(asked: Asked) -> Option<String>
+    ensures { result ≡ asked.output }
+{
+    let Asked { output, .. } = asked;
+    output
+}
+
+/// The file to write to that the words name with which the program was started; nothing where they name none, or name no command.
+///
+/// Errors: [`PageFault::Memory`].
+pub fn output_of(alloc: Global, words: &[String]) -> Result<Option<String>, PageFault>
+    ensures ok { IfOk result (IsOutputOf (map string_bytes words.now)) }
+    ensures fault { IfErr result (λ fault. fault ≡ Memory) }
+{
+    match read_words(alloc, words) {
+        Ok(asked) => Ok(output_in(asked)),
+        Err(error) => match error.kind() {
+            ErrorKind::OutOfMemory => Err(PageFault::Memory),
+            _ => Ok(None),
+        },
+    }
+}
+
 /// Does what the words ask for with which the program was started, the first of which is its name. Files are those that `opener` opens.
 ///
-/// Of a failed write to standard output nothing is said on standard error: the verdict is [`Verdict::Unwritten`], and nothing more is
+/// What is to be written is written to `output`, whatever the words name for it: that is the caller's, by [`output_of`]. Of a failed write to
+/// it nothing is said on standard error: the verdict is [`Verdict::Unwritten`], and nothing more is
 /// read.
 pub fn obey<File: Source + Drop, Opens: Files<File>, Input: Source, Output: Target, Errors: Target>(
     alloc: Global,

@@ -3,7 +3,7 @@
 ghost use Rattle.std.specs.Prelude.{None};
 
 use devices::{MemReader, MemWriter};
-use figpliers_program::{Files, Opener, Why, obey};
+use figpliers_program::{Files, Opener, Why, obey, output_of};
 use std::alloc::{AllocError, Global};
 use std::process::Abort;
 
@@ -26,6 +26,39 @@ const FILES: &[(&str, &[u8])] = &[
     ),
 ];
 
+/// How much white space stands before those below: more than is looked at for a declaration (HTML Standard, section 13.2.3.2).
+const SPACES: usize = 1100;
+
+/// Files whose `meta` stands behind so much white space.
+const LATE: &[(&str, &[u8])] = &[
+    (
+        "koi8.html",
+        b"<!DOCTYPE html><meta charset=koi8-r><p>\xD0\xD2\xC9\xD7\xC5\xD4",
+    ),
+    (
+        "cyrillic.html",
+        b"<!DOCTYPE html><meta http-equiv=content-type content='text/html; charset=windows-1251'><i id=\xEC></i>\xE8",
+    ),
+];
+
+/// The bytes of such a file.
+fn late(alloc: Global, bytes: &[u8]) -> Result<Vec<u8>, AllocError> {
+    let mut page = Vec::new(alloc);
+    for _ in 0..SPACES {
+        page.push(b' ')?;
+    }
+    page.extend_from_slice(bytes)?;
+    Ok(page)
+}
+
+/// A reader of bytes, where there is memory for them.
+fn reader(bytes: Result<Vec<u8>, AllocError>) -> Option<MemReader> {
+    match bytes {
+        Ok(bytes) => Some(MemReader::new(bytes, 7, None)),
+        Err(_) => None,
+    }
+}
+
 /// A disk with these files.
 #[derive(Drop)]
 struct Disk {
@@ -38,10 +71,12 @@ impl Opener<MemReader> for Disk {
     fn open(&self, name: &str) -> Option<MemReader> {
         for (known, bytes) in FILES {
             if *known == name {
-                return match Vec::from_slice(self.alloc, bytes) {
-                    Ok(bytes) => Some(MemReader::new(bytes, 7, None)),
-                    Err(_) => None,
-                };
+                return reader(Vec::from_slice(self.alloc, bytes));
+            }
+        }
+        for (known, bytes) in LATE {
+            if *known == name {
+                return reader(late(self.alloc, bytes));
             }
         }
         None
@@ -153,6 +188,41 @@ const READING: &[(Run, Seen)] = &[
             "<html><head></head><body><p id=\"b\">three</p></body></html>",
             "",
             0,
+        ),
+    ),
+];
+
+/// The command `check`.
+const CHECKS: &[(Run, Seen)] = &[
+    (
+        Run {
+            words: &["check", "a.html", "b.html"],
+            ..PLAIN
+        },
+        ("a.html: faithful\nb.html: faithful\n", "", 0),
+    ),
+    (
+        Run {
+            words: &["check", "-", "a.html"],
+            input: b"<!DOCTYPE html><div><pre>\n\nx",
+            ..PLAIN
+        },
+        (
+            "-: html/body/div/pre: a line feed comes first\na.html: faithful\n",
+            "",
+            1,
+        ),
+    ),
+    (
+        Run {
+            words: &["check"],
+            input: b"<!DOCTYPE xhtml><p>",
+            ..PLAIN
+        },
+        (
+            "-: document: the doctype has another name than html\n",
+            "",
+            1,
         ),
     ),
 ];
@@ -344,6 +414,38 @@ const ENCODINGS: &[(Run, Seen)] = &[
         },
         ("h\u{E9}\n", "", 0),
     ),
+    (
+        Run {
+            words: &["text", "koi8.html", "cyrillic.html"],
+            ..PLAIN
+        },
+        ("привет\nи\n", "", 0),
+    ),
+    (
+        Run {
+            words: &["select", "--attr", "id", "i", "cyrillic.html"],
+            ..PLAIN
+        },
+        ("м\n", "", 0),
+    ),
+    (
+        Run {
+            words: &["normal", "koi8.html"],
+            ..PLAIN
+        },
+        (
+            "<!DOCTYPE html><html><head><meta charset=\"koi8-r\"></head><body><p>привет</p></body></html>",
+            "",
+            0,
+        ),
+    ),
+    (
+        Run {
+            words: &["text", "--encoding", "windows-1251", "koi8.html"],
+            ..PLAIN
+        },
+        ("РТЙЧЕФ\n", "", 0),
+    ),
 ];
 
 /// Faults, and what is no page.
@@ -505,6 +607,32 @@ fn pages_are_read(rt: HostRuntime) {
 #[test]
 fn links_and_markdown_are_written(rt: HostRuntime) {
     assert_seen(&rt, rt.alloc(), LINKS);
+}
+
+#[test]
+fn pages_are_checked(rt: HostRuntime) {
+    assert_seen(&rt, rt.alloc(), CHECKS);
+}
+
+/// The file to write to that words name.
+fn output_is(alloc: Global, after: &[&str], wanted: Option<&str>) -> bool {
+    let Ok(words) = words_of(alloc, after) else {
+        return false;
+    };
+    match (output_of(alloc, words.as_slice()), wanted) {
+        (Ok(Some(name)), Some(wanted)) => name.as_str() == wanted,
+        (Ok(None), None) => true,
+        _ => false,
+    }
+}
+
+#[test]
+fn a_file_to_write_to_is_named(rt: HostRuntime) {
+    let alloc = rt.alloc();
+    assert!(rt; output_is(alloc, &["text", "-o", "out.txt", "a.html"], Some("out.txt")));
+    assert!(rt; output_is(alloc, &["links", "--output", "x", "-H"], Some("x")));
+    assert!(rt; output_is(alloc, &["check", "a.html"], None));
+    assert!(rt; output_is(alloc, &["-o", "x"], None));
 }
 
 #[test]

@@ -1,17 +1,11 @@
-use Rattle.std.proofs.Common.{ap, inl, inr, refl}
+use Rattle.std.proofs.Common.{inl, inr, refl}
 use Rattle.std.proofs.lemmas.Result.{err_from_is_err_and}
-use Rattle.figpliers_program.specs.Faults.{normal_fault_of}
 use Rattle.figpliers_program.specs.declared.faults.Verdict.TheVariants.{Fine}
 use Rattle.figpliers_program.proofs.commands.write_markdown.Goals as goal
 
-pub returns-in_err-forest : goal.returns-in_err-forest
-returns-in_err-forest g c =
-    let p = err_from_is_err_and c.from_residual.result c.from_residual.ensures.1 in
-    rw (p.1, p.2) (inl (ap normal_fault_of c.in_err-forest.ensures.fault, refl))
-
 pub returns-in_err-text : goal.returns-in_err-text
 returns-in_err-text g c =
-    let p = err_from_is_err_and c.from_residual-in_err-text.result c.from_residual-in_err-text.ensures.1 in
+    let p = err_from_is_err_and c.from_residual.result c.from_residual.ensures.1 in
     rw (p.1, p.2) (inl (refl, refl))
 
 pub returns-in_err-put : goal.returns-in_err-put

@@ -1,8 +1,5 @@
 use Rattle.figpliers_program.proofs.Outcomes.{refused}
 use Rattle.figpliers_program.proofs.jobs.report_selector.Goals as goal
 
-pub returns-in-Select-clause-told : goal.returns-in-Select-clause-told
-returns-in-Select-clause-told g c = rw c.in-Select.is tt
-
 pub returns-in_default-clause-told : goal.returns-in_default-clause-told
 returns-in_default-clause-told g c = refused _ _ _ c.report.ensures.line

@@ -11,7 +11,7 @@ loop-name-init g c = λ left' out' errors' verdict done. done
 
 pub loop-name-preserved : goal.loop-name-preserved
 loop-name-preserved g c = λ left' out' errors' verdict rest. c.loop-name.invariant left' out' errors' verdict
-    (goes-on _ _ _ string_bytes c.deref-name-items.result.now c.loop-name.name-index c.name-item.result c.as_str.result.now
+    (goes-on _ _ string_bytes c.deref-name-items.result.now c.loop-name.name-index c.name-item.result c.as_str.result.now
     c.loop-name.verdict c.run_page-page.result c.and-verdict.result _ _ _ _ _ _ _ _ _ _ c.loop-name-test.true
     (c.as_str.ensures.value ∙ ap string_bytes c.name-item.is) c.run_page-page.ensures c.and-verdict.ensures c.in_default.not-Unwritten rest)
 
@@ -19,7 +19,7 @@ pub returns-in-Unwritten : goal.returns-in-Unwritten
 returns-in-Unwritten g c =
     rw c.deref-name-items.ensures.value at
     (c.loop-name.invariant _ _ _ Unwritten
-    (stops _ _ _ string_bytes c.deref-name-items.result.now c.loop-name.name-index c.name-item.result c.as_str.result.now
+    (stops _ _ string_bytes c.deref-name-items.result.now c.loop-name.name-index c.name-item.result c.as_str.result.now
     c.loop-name.verdict c.run_page-page.result c.and-verdict.result _ _ _ _ _ _ c.loop-name-test.true
     (c.as_str.ensures.value ∙ ap string_bytes c.name-item.is) c.run_page-page.ensures c.and-verdict.ensures c.in-Unwritten.is))
 

@@ -1,5 +1,4 @@
 use Rattle.std.proofs.Common.{Err, Ok, inl, inr, refl}
-use Rattle.std.specs.String.{string_bytes}
 use Rattle.figpliers_program.proofs.jobs.run_page.Goals as goal
 
 pub returns-in-Err : goal.returns-in-Err
@@ -12,13 +11,13 @@ returns-in-Err g c = (
 pub returns-in-Ok-run_job : goal.returns-in-Ok-run_job
 returns-in-Ok-run_job g c = (
   Ok c.in-Ok-run_job.verdict,
-  inr (string_bytes c.in-Ok.page, c.in-Ok.ensures.ok, c.in-Ok-run_job.ensures),
+  inr (c.in-Ok.bytes.items, c.in-Ok.ensures.ok, c.in-Ok-run_job.ensures),
   (refl, refl),
 )
 
 pub returns-in-Err-run_job : goal.returns-in-Err-run_job
 returns-in-Err-run_job g c = (
   Err c.in-Err-run_job.fault,
-  inr (string_bytes c.in-Ok.page, c.in-Ok.ensures.ok, c.in-Err-run_job.ensures),
+  inr (c.in-Ok.bytes.items, c.in-Ok.ensures.ok, c.in-Err-run_job.ensures),
   (c.report-in-Err-run_job.ensures.verdict, c.report-in-Err-run_job.ensures.line),
 )
