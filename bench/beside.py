@@ -3,7 +3,8 @@
     beside.py FOLDER PROGRAM [PAGE]..
 
 PROGRAM is the built html_normal, which gets the Standard's table of references; FOLDER has the peers html5ever_normal and
-lexbor_normal, and gets beside.json with what was measured.
+lexbor_normal, and gets beside.json with what was measured. Then deep pages are read, each twice as long as the one before, until a
+program takes more than LIMIT seconds.
 """
 
 import json
@@ -19,6 +20,8 @@ TOP = Path(__file__).resolve().parent.parent
 TABLE = TOP / "crates/bench_tokenizer/data/named_references.table"
 ROUNDS = int(os.environ.get("ROUNDS", "9"))
 MEGABYTES = float(os.environ.get("MEGABYTES", "10"))
+LIMIT = 8
+DEEP = {"nested <div>": ("", "<div>"), "<x> nested in <b>": ("<b>", "<x>")}
 
 
 def run(command, page):
@@ -54,6 +57,19 @@ def measure(programs, page):
     }
 
 
+def grow(programs, page, start, repeated):
+    """Returns for each program the bytes of pages that repeat a tag, and the least of three times that each took."""
+    found = {}
+    for name, command in programs.items():
+        found[name], count, seconds = [], 4_000, 0
+        while seconds < LIMIT and count <= 512_000:
+            page.write_text(start + repeated * count, encoding="utf-8")
+            seconds = min(run(command, page)[0] for _ in range(3 if seconds < 1 else 1))
+            found[name].append([page.stat().st_size, seconds])
+            count *= 2
+    return found
+
+
 def main():
     folder, program, *pages = sys.argv[1:]
     programs = {
@@ -72,7 +88,9 @@ def main():
             shares = "; ".join(f"{found[name]['share']:.2f} of {name}'s time" for name in list(programs)[1:])
             figures = ", ".join(f"{name} {it['seconds']:.3f} s {it['megabytes']:.1f} MB" for name, it in found.items())
             print(f"{label}, {page.stat().st_size:,} bytes: {shares} ({figures})", flush=True)
-    (Path(folder) / "beside.json").write_text(json.dumps({"rounds": ROUNDS, "measured": measured}, indent=1), encoding="utf-8")
+        growth = {label: grow(programs, made, *shape) for label, shape in DEEP.items()}
+    found = {"rounds": ROUNDS, "measured": measured, "growth": growth}
+    (Path(folder) / "beside.json").write_text(json.dumps(found, indent=1), encoding="utf-8")
 
 
 if __name__ == "__main__":
