@@ -76,7 +76,6 @@ fn next_range(notes: &[Note], own: Signs) -> Range
 }
 
 /// How many elements there are up to the last that passes one of two tests, by their notes.
-#[inline(never)]
 fn reach(notes: &[Note], one: Sign, other: Sign) -> usize
     requires { AreRanges notes.now }
     ensures within { result ≤ length notes.now }
@@ -221,7 +220,6 @@ impl Depths {
 
     /// How many elements, of as many as are open, there are at most up to the last that passes one of two tests. All, where not all are
     /// noted.
-    #[inline(always)]
     pub(crate) fn reach(&self, count: usize, one: Sign, other: Sign) -> usize
         requires { AreRanges self.now.notes.items }
         ensures within { result ≤ count }

@@ -155,7 +155,6 @@ impl<Sink: TreeSink> Stack<Sink> {
     }
 
     /// The open elements up to the last that passes one of two tests, or more.
-    #[inline(always)]
     pub(crate) fn reached(&self, one: Sign, other: Sign) -> &[OpenElement<Sink::Handle>]
         ensures { IsBeyond (λ x. bears one x || bears other x) (opens_of Sink.node result.now) self.now.open_elems }
     {

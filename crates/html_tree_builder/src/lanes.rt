@@ -1,10 +1,10 @@
 //! The row that a tag takes, where it is found at once (HTML Standard, section 13.2.6).
 //!
-//! Most tags stand in HTML content, and the first row of the mode that is for a tag of that name has no condition, or one that holds. Such
-//! a row is a lane: it is found by one look-up of its place (`rows_before`), without the walk over the rows that come after it, without a
-//! token made for the tag, and without a question to the sink. Everything else goes the way of all tokens, from the same state
-//! (`row_of_turn`): this file finds no other row than that, so that without it the builder does the same, more slowly. What a row in a
-//! lane does is read from the table of rows as ever, so a row that comes or changes is taken as it is.
+//! Most tags stand in HTML content, and the first row of the mode that is for a tag of that name has no condition, or asks for an element
+//! in scope that is the current node. Such a row is a lane: it is found by one look-up of its place (`rows_before`), without the walk over
+//! the rows that come after it, without a token made for the tag, and without a question to the sink. Everything else goes the way of all
+//! tokens, from the same state (`row_of_turn`): this file finds no other row than that, so that without it the builder does the same, more
+//! slowly. What a row in a lane does is read from the table of rows as ever, so a row that comes or changes is taken as it is.
 ghost use Rattle.std.specs.Prelude.{◌≡◌, ◌<◌, IfSome, true, false, length};
 ghost use Rattle.markup.specs.Forest.{Forest};
 ghost use Rattle.html_modes.specs.Tables.{class_of, condition_of, row_of};
@@ -56,7 +56,8 @@ impl<Sink: TreeSink> Construction<Sink> {
         }
     }
 
-    /// Whether a condition holds for a tag, where that is quickly said.
+    /// Whether a condition holds for a tag, where the current node says so: no walk over the open elements is done here, since it would
+    /// be done again where there is no lane.
     #[inline(always)]
     fn holds_at_once(&self, condition: &Condition, tag: &Tag, class: &ElementClass) -> bool
         requires { IsClassOf Html tag.now.name class.now }
@@ -65,8 +66,8 @@ impl<Sink: TreeSink> Construction<Sink> {
     {
         match condition {
             Condition::Always => true,
-            Condition::InScope(scope, set) => self.stack.in_scope(*scope, *set),
-            Condition::TokenInScope(scope) => self.stack.in_scope_named(*scope, *class, &tag.name),
+            Condition::InScope(_, set) => self.current_is(*set),
+            Condition::TokenInScope(_) => self.current_is_named(*class, &tag.name),
             _ => false,
         }
     }

@@ -40,7 +40,6 @@ pub(crate) struct NamedToken<'a> {
 }
 
 /// Whether a text is white space alone.
-#[inline(never)]
 pub(crate) fn is_white(text: &str) -> bool
     ensures { result ≡ is_white (chars text.now) }
 {
