@@ -45,15 +45,16 @@ fn write_out<W: Target>(writer: &mut W, bytes: &[u8]) -> (usize, Result<(), Devi
 }
 
 impl<W: Target + Drop> Gathered<W> {
-    ghost use Rattle.gathered_writes.specs.Gathered.{held};
+    ghost use Rattle.gathered_writes.specs.Gathered.{held, room};
 
-    /// Gathers up to `room` bytes before a target, in memory that is taken here and now.
-    pub fn new(alloc: Global, writer: W, room: usize) -> Result<Gathered<W>, AllocError>
+    /// Gathers up to `capacity` bytes before a target, in memory that is taken here and now.
+    pub fn new(alloc: Global, writer: W, capacity: usize) -> Result<Gathered<W>, AllocError>
         ensures writer { IfOk result (λ made. made.writer ≡ writer) }
+        ensures room { IfOk result (λ made. room made ≡ capacity) }
         ensures held { IfOk result (λ made. held made ≡ []) }
     {
         let mut bytes = Vec::new(alloc);
-        bytes.resize(room, 0)?;
+        bytes.resize(capacity, 0)?;
         Ok(Gathered {
             writer,
             bytes,
