@@ -11,7 +11,7 @@ use Rattle.html_faithful.specs.Harmless.{Change, EntryLeft, EntryPushed, FormCha
 use Rattle.html_faithful.specs.Harmless.{MarkerLeft, MarkerPushed, Unchanged, is_unchanged}
 use Rattle.html_faithful.specs.Spots.{Spot, form_of, is_marked}
 use Rattle.html_faithful_judge.proofs.Contexts.{form-context, link-context, template-context}
-use Rattle.html_faithful_walk.specs.Checks.{closing_of, current_marked, current_pointed, form_below, lists_by, lists_opened_at, points_by}
+use Rattle.html_faithful_walk.specs.Checks.{closing_of, current_pointed, form_below, lists_by, lists_opened_at, points_by}
 use Rattle.html_faithful_walk.specs.Checks.{points_opened_at}
 use Rattle.html_faithful_walk.specs.declared.checks.Closing.{Closing}
 

@@ -1,19 +1,19 @@
 -- What stands in an element that was opened, and what comes after it.
-use Rattle.std.proofs.Common.{◌≡◌, ◌∙◌, ℕ, Bool, true, false, List, [], ◌∷◌, refl, ap, sym, subst}
+use Rattle.std.proofs.Common.{◌≡◌, ◌∙◌, Bool, true, false, [], refl, ap, sym}
 use Rattle.std.specs.Prelude.{◌&&◌, not, cond, Option, Some, None, is_none}
 use Rattle.std.specs.Str.{bytes_eq}
 use denote.Bor.{Bor}
-use Rattle.markup.specs.Trees.{Trees, Nothing, Text, Comment, ProcessingInstruction, Doctype, Element}
+use Rattle.markup.specs.Trees.{Trees, Nothing}
 use Rattle.markup.specs.declared.names.QualName.{QualName}
 use Rattle.html_rules.specs.Choice.{choose}
 use Rattle.html_tokens.specs.declared.states.RawKind.{RawKind}
 use Rattle.html_faithful.specs.Forms.{is_raw_text, lowered}
 use Rattle.html_faithful.specs.Harmless.{Made, and_then}
 use Rattle.html_faithful.specs.Spots.{Spot}
-use Rattle.html_faithful.specs.Walk.{Parent, are_none, below, ends_there, finished, fits_inside, is_raw_inside, is_void, is_written_so}
+use Rattle.html_faithful.specs.Walk.{Parent, are_none, below, ends_there, finished, is_raw_inside, is_void, is_written_so}
 use Rattle.html_faithful.specs.Walk.{kids_walked, walk}
 use Rattle.html_faithful_walk.specs.Steps.{parent_of, spot_if}
-use Rattle.html_faithful_walk.specs.Walking.{Enters, after_of, after_stand, around, begun, finish_by, inside_by, inside_of, may_end}
+use Rattle.html_faithful_walk.specs.Walking.{Enters, after_of, around, begun, finish_by, inside_by, inside_of, may_end}
 use Rattle.html_faithful_walk.specs.Walking.{walk_at, walk_by}
 use Rattle.html_faithful_walk.specs.declared.parents.Parent as declared
 use Rattle.html_faithful_walk.specs.declared.stand.After.{After}

@@ -2,7 +2,6 @@
 use Rattle.std.proofs.Common.{◌≡◌, ◌∙◌, ◌+◌, ◌<◌, ℕ, suc, arith, Bool, true, false, List, [], ◌∷◌, ◌++◌, Option, Some, None, refl, sym, ap, ap₂}
 use Rattle.std.proofs.Common.{length}
 use Rattle.std.specs.Prelude.{◌&&◌, cond, reverse}
-use Rattle.std.specs.Str.{bytes_eq}
 use Rattle.std.proofs.lemmas.List.{reverse-append}
 use Rattle.markup.specs.Forest as forest
 use Rattle.markup.specs.Forest.{Forest, children_of, contents_of, data_of, template_of}
@@ -21,7 +20,7 @@ use Rattle.html_faithful.specs.Walk.{OfDocument, first_spot, is_at_end, is_faith
 use Rattle.html_faithful_walk.specs.Left.{IsAscent, IsElementTaken, IsTaken, Walk, descends, ended_by, left, levels_left, nodes_left}
 use Rattle.html_faithful_walk.specs.Left.{trees_after, trees_by, waiting_nodes, with_node}
 use Rattle.html_faithful_walk.specs.Steps.{spot_if}
-use Rattle.html_faithful_walk.specs.Walking.{Opens, Passes, after_stand, around, begun, finish_by, walk_at}
+use Rattle.html_faithful_walk.specs.Walking.{Passes, after_stand, around, begun, finish_by, walk_at}
 use Rattle.html_faithful_walk.specs.declared.parents.Parent.TheVariants.{Document}
 use Rattle.html_faithful_walk.specs.declared.stand.After.{After}
 use Rattle.html_faithful_walk.specs.declared.stand.Inside.TheVariants.{Start}

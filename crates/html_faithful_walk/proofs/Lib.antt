@@ -5,3 +5,5 @@ mod Left
 mod Options
 mod Stands
 mod Taken
+mod Firsts
+mod Points

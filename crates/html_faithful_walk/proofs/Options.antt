@@ -1,5 +1,5 @@
 -- Steps of which each may find nothing.
-use Rattle.std.proofs.Common.{◌≡◌, Bool, true, false, refl, ap, sym}
+use Rattle.std.proofs.Common.{◌≡◌, Bool, true, false, refl}
 use Rattle.std.specs.Prelude.{Option, Some, None}
 use Rattle.html_rules.specs.Choice.{choose}
 use Rattle.html_faithful.specs.Harmless.{and_then}

@@ -1,6 +1,6 @@
 -- What the walk of nodes is where the first of them stands.
-use Rattle.std.proofs.Common.{◌≡◌, ◌∙◌, ℕ, Bool, true, false, List, [], ◌∷◌, refl, ap, ap₂, sym, subst}
-use Rattle.std.specs.Prelude.{◌&&◌, not, cond, Option, Some, None, is_none, codes}
+use Rattle.std.proofs.Common.{◌≡◌, ◌∙◌, ℕ, Bool, true, false, List, refl, ap, ap₂, sym}
+use Rattle.std.specs.Prelude.{◌&&◌, Option, Some, None, codes}
 use Rattle.std.specs.Str.{bytes_eq}
 use denote.Bor.{Bor}
 use Rattle.markup.specs.Trees.{Trees, Nothing, Text, Comment, ProcessingInstruction, Doctype, Element}
@@ -9,20 +9,20 @@ use Rattle.markup.specs.declared.names.QualName.{QualName}
 use Rattle.markup.specs.declared.quirks.QuirksMode.TheVariants.{NoQuirks}
 use Rattle.html_rules.specs.Choice.{choose}
 use Rattle.html_tokens.specs.declared.states.RawKind.{RawKind}
-use Rattle.html_faithful.specs.Forms.{is_comment_text, is_raw_text, lowered}
+use Rattle.html_faithful.specs.Forms.{is_comment_text, is_raw_text}
 use Rattle.html_faithful.specs.Harmless.{Made, and_then}
 use Rattle.html_faithful.specs.Spots.{Spot}
-use Rattle.html_faithful.specs.Walk.{Parent, are_none, below, comment_put, ends_there, finished, fits_inside, is_current, is_raw_inside, is_text}
+use Rattle.html_faithful.specs.Walk.{Parent, below, comment_put, ends_there, is_current, is_text}
 use Rattle.html_faithful.specs.Walk.{is_void, is_written_so, kids_walked, may_stay, started, text_put, walk}
 use Rattle.html_faithful_walk.specs.Steps.{parent_of, spot_if}
-use Rattle.html_faithful_walk.specs.Walking.{Enters, Opens, Passes, TakesText, after_of, after_stand, after_text_of, allows, around, around_if}
-use Rattle.html_faithful_walk.specs.Walking.{begun, entered_by, finish_by, inside_by, inside_of, may_end, may_hold, takes_elements, text_by}
+use Rattle.html_faithful_walk.specs.Walking.{Enters, Opens, Passes, TakesText, after_stand, after_text_of, around_if}
+use Rattle.html_faithful_walk.specs.Walking.{begun, entered_by, may_hold, takes_elements, text_by}
 use Rattle.html_faithful_walk.specs.Walking.{walk_at, walk_by}
 use Rattle.html_faithful_walk.specs.declared.stand.After.{After}
 use Rattle.html_faithful_walk.specs.declared.stand.Inside.{Inside}
 use Rattle.html_faithful_walk.specs.declared.stand.Inside.TheVariants.{Start, Any, Raw, Done}
 use Rattle.html_faithful_walk.specs.declared.stand.Stand.{Stand}
-use Rattle.html_faithful_walk.proofs.Options.{choose-none, choose-then, the, then-assoc, then-none}
+use Rattle.html_faithful_walk.proofs.Options.{choose-none, then-none}
 
 -- TEXTS
 

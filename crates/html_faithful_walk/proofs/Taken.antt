@@ -1,22 +1,20 @@
 -- What is made of tokens, if they do what is asked of them.
-use Rattle.std.proofs.Common.{◌≡◌, ◌∙◌, ◌++◌, ℕ, Bool, true, false, List, [], ◌∷◌, refl, ap, ap₂, sym, append_assoc, append-nil}
-use Rattle.std.specs.Prelude.{◌&&◌, not, cond, Option, Some, None, is_none}
+use Rattle.std.proofs.Common.{◌≡◌, ◌∙◌, ◌++◌, ℕ, Bool, true, false, List, [], ◌∷◌, refl, ap, sym, append_assoc, append-nil}
+use Rattle.std.specs.Prelude.{◌&&◌, not, Option, Some, None}
 use Rattle.markup.specs.declared.attributes.Attribute.{Attribute}
 use Rattle.markup.specs.declared.names.QualName.{QualName}
 use Rattle.html_tokens.specs.Tags.{named}
 use Rattle.html_tokens.specs.declared.tags.Tag.{Tag}
 use Rattle.html_tokens.specs.declared.tags.TagKind.TheVariants.{EndTag}
-use Rattle.html_tokens.specs.declared.token.Token.{Token}
 use Rattle.html_tokens.specs.declared.token.Token.TheVariants.{CharacterTokens, CommentToken, TagToken}
 use Rattle.html_rules.specs.Choice.{choose}
 use Rattle.html_faithful.specs.Checks.{is_kept_so}
 use Rattle.html_faithful.specs.Forms.{lowered}
 use Rattle.html_faithful.specs.Harmless.{Made, and_then, made_of, provided}
 use Rattle.html_faithful.specs.Spots.{Spot}
-use Rattle.html_faithful.specs.Walk.{Parent, comment_put, finished, is_made, is_plain, is_void, is_written_tag, started, text_walked}
+use Rattle.html_faithful.specs.Walk.{Parent, comment_put, finished, is_plain, is_written_tag, started, text_walked}
 use Rattle.html_faithful_walk.specs.Steps.{ends_as, is_character_walked, is_comment_made, is_started, is_text_made, spot_if, start_of, started_by}
 use Rattle.html_faithful_walk.specs.Steps.{written_of}
-use Rattle.html_faithful_walk.proofs.Options.{the}
 
 pub refused : (b : Bool) (m : Made) → b ≡ false → provided b m ≡ None
 refused false m h = refl

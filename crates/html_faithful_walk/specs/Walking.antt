@@ -1,8 +1,8 @@
 -- Where nodes stand as they are walked one by one, and what their walk is then.
-use Rattle.std.specs.Prelude.{◌≡◌, ℕ, Bool, true, false, ◌&&◌, not, cond, List, [], ◌∷◌, Option, Some, None, is_none, codes}
+use Rattle.std.specs.Prelude.{◌≡◌, ℕ, Bool, true, false, ◌&&◌, not, cond, List, [], Option, Some, None, is_none, codes}
 use Rattle.std.specs.Str.{bytes_eq}
 use denote.Bor.{Bor}
-use Rattle.markup.specs.Trees.{Trees, Nothing, Text, Comment, Doctype, Element}
+use Rattle.markup.specs.Trees.{Trees, Comment, Doctype, Element}
 use Rattle.markup.specs.declared.attributes.Attribute.{Attribute}
 use Rattle.markup.specs.declared.names.QualName.{QualName}
 use Rattle.markup.specs.declared.quirks.QuirksMode.TheVariants.{NoQuirks}

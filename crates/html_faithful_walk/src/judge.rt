@@ -8,6 +8,8 @@ ghost use Rattle.html_faithful.specs.Harmless.{and_then};
 ghost use Rattle.html_faithful.specs.Walk.{comment_put};
 ghost use Rattle.html_faithful_judge.specs.Mades.{made_as};
 ghost use Rattle.html_faithful_judge.specs.Spots.{spot_of};
+ghost use Rattle.html_faithful_walk.specs.First.{comment_read, doctype_in, text_in, text_read};
+ghost use Rattle.html_faithful_walk.specs.Firsts.{IsEntered, IsEnteredBy, comes_of, left_by, point_if, point_of};
 ghost use Rattle.html_faithful_walk.specs.Steps.{parent_of, spot_if};
 ghost use Rattle.html_faithful_walk.specs.Walking.{Enters, Opens, Passes, TakesText, after_stand, finish_by, may_end, may_hold, walk_at};
 
@@ -47,6 +49,8 @@ impl<'a> Judge<'a> {
     ) -> Result<bool, ParseFault>
         ensures ok { IfOk result (λ goes_on. TakesText (characters text.entry) inside.entry self.old.stand (spot_of self.old.made.spot)
             self.new.stand (spot_of self.new.made.spot) goes_on) }
+        ensures read { IfOk result (λ goes_on. text_in (comes_of inside.entry) (characters text.entry)
+            (point_of self.old.stand (spot_of self.old.made.spot)) ≡ point_if goes_on (point_of self.new.stand (spot_of self.new.made.spot))) }
         ensures fault { IfErr result (λ fault. fault ≡ Memory) }
     {
         let stand = self.stand;
@@ -69,6 +73,8 @@ impl<'a> Judge<'a> {
     pub(crate) fn text(&mut self, alloc: Global, text: TextRef<'_>) -> Result<bool, ParseFault>
         ensures ok { IfOk result (λ goes_on. Passes (Text (characters text.entry)) self.old.stand (spot_of self.old.made.spot)
             self.new.stand (spot_of self.new.made.spot) goes_on) }
+        ensures read { IfOk result (λ goes_on. text_read (characters text.entry) (point_of self.old.stand (spot_of self.old.made.spot))
+            ≡ point_if goes_on (point_of self.new.stand (spot_of self.new.made.spot))) }
         ensures fault { IfErr result (λ fault. fault ≡ Memory) }
     {
         match self.stand.inside.after_text(alloc, text)? {
@@ -93,6 +99,8 @@ impl<'a> Judge<'a> {
     pub(crate) fn comment(&mut self, alloc: Global, text: TextRef<'_>) -> Result<bool, ParseFault>
         ensures ok { IfOk result (λ goes_on. Passes (Comment (characters text.entry)) self.old.stand (spot_of self.old.made.spot)
             self.new.stand (spot_of self.new.made.spot) goes_on) }
+        ensures read { IfOk result (λ goes_on. comment_read (characters text.entry) (point_of self.old.stand (spot_of self.old.made.spot))
+            ≡ point_if goes_on (point_of self.new.stand (spot_of self.new.made.spot))) }
         ensures fault { IfErr result (λ fault. fault ≡ Memory) }
     {
         if !is_comment_text(alloc, text.as_str())? {
@@ -113,8 +121,10 @@ impl<'a> Judge<'a> {
         public_id: TextRef<'_>,
         system_id: TextRef<'_>,
     ) -> bool
-        ensures { Passes (Doctype (characters name.entry) (characters public_id.entry) (characters system_id.entry)) self.old.stand
+        ensures ok { Passes (Doctype (characters name.entry) (characters public_id.entry) (characters system_id.entry)) self.old.stand
             (spot_of self.old.made.spot) self.new.stand (spot_of self.new.made.spot) result }
+        ensures read { doctype_in (comes_of self.old.stand.inside) (characters name.entry)
+            (point_of self.old.stand (spot_of self.old.made.spot)) ≡ point_if result (point_of self.new.stand (spot_of self.new.made.spot)) }
     {
         match self.stand.inside {
             Inside::Start => {
@@ -147,6 +157,8 @@ impl<'a> Judge<'a> {
         name: &'a QualName,
     ) -> Result<Option<After<'a>>, ParseFault>
         ensures ok { IfOk result (λ after. Enters scripting name.entry (made_as self.old.made) self.old.stand self.new.stand after) }
+        ensures read { IfOk result (λ after. IsEnteredBy scripting name.entry.now (made_as self.old.made) (parent_of self.old.stand.parent)
+            (point_of self.new.stand (spot_of self.old.made.spot)) after) }
         ensures same { self.new.made ≡ self.old.made }
         ensures fault { IfErr result (λ fault. fault ≡ Memory) }
     {
@@ -179,6 +191,8 @@ impl<'a> Judge<'a> {
     ) -> Result<Option<After<'a>>, ParseFault>
         ensures ok { IfOk result (λ after. Opens scripting name.now (attributes attrs.entry) template self.old.stand (spot_of self.old.made.spot)
             self.new.stand (spot_of self.new.made.spot) after) }
+        ensures read { IfOk result (λ after. IsEntered scripting name.now (attributes attrs.entry) template
+            (point_of self.old.stand (spot_of self.old.made.spot)) (point_of self.new.stand (spot_of self.new.made.spot)) after) }
         ensures fault { IfErr result (λ fault. fault ≡ Memory) }
     {
         if !self.may_hold(name) {
@@ -209,6 +223,8 @@ impl<'a> Judge<'a> {
             → and_then (walk_at scripting self.old.stand Nothing (spot_of self.old.made.spot)) (λ p. finish_by after.entry.finishes p)
             ≡ spot_if goes_on (spot_of self.new.made.spot)) }
         ensures stand { IfOk result (λ goes_on. goes_on ≡ true → self.new.stand ≡ after_stand after.entry.parent) }
+        ensures read { IfOk result (λ goes_on. left_by after.entry (point_of self.old.stand (spot_of self.old.made.spot))
+            ≡ point_if goes_on (point_of self.new.stand (spot_of self.new.made.spot))) }
         ensures fault { IfErr result (λ fault. fault ≡ Memory) }
     {
         if !self.may_end(alloc)? {

@@ -13,9 +13,10 @@ mod tags;
 mod texts;
 mod walker;
 
-ghost use Rattle.std.specs.Prelude.{◌≡◌, IfErr, IfOk, is_none};
+ghost use Rattle.std.specs.Prelude.{◌≡◌, IfErr, IfOk, IfSome, is_none};
 ghost use Rattle.markup.specs.declared.fault.ParseFault.TheVariants.{Memory};
 ghost use Rattle.html_faithful.specs.Walk.{is_faithful_forest};
+ghost use Rattle.html_faithful_walk.specs.First.{IsFirst};
 
 use html_forest::{Forest, NodeId};
 use markup::ParseFault;
@@ -44,6 +45,7 @@ pub fn first_unfaithful(
     scripting: bool,
 ) -> Result<Option<NodeId>, ParseFault>
     ensures ok { IfOk result (λ node. is_none node ≡ is_faithful_forest scripting forest.now) }
+    ensures first { IfOk result (λ node. IfSome node (λ n. IsFirst scripting forest.now n)) }
     ensures fault { IfErr result (λ fault. fault ≡ Memory) }
 {
     forest.keeps();

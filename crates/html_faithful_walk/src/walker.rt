@@ -1,5 +1,5 @@
 //! The walk over the nodes of a forest in the order in which they stand.
-ghost use Rattle.std.specs.Prelude.{◌≡◌, ◌∷◌, ◌++◌, [], Bool, IfErr, IfOk, None, OnOk, is_none, true};
+ghost use Rattle.std.specs.Prelude.{◌≡◌, ◌∷◌, ◌++◌, [], Bool, IfErr, IfOk, IfSome, None, OnOk, false, is_none, true};
 ghost use Rattle.markup.specs.Forest.{children_of};
 ghost use Rattle.markup.specs.Named.{IsTree};
 ghost use Rattle.markup.specs.Trees.{Nothing};
@@ -9,6 +9,8 @@ ghost use Rattle.html_faithful.specs.Walk.{first_spot, is_at_end, is_end_mode, i
 ghost use Rattle.html_faithful_judge.specs.Spots.{spot_of};
 ghost use Rattle.html_rules.specs.declared.insertion_mode.InsertionMode.TheVariants.{BeforeHtml};
 ghost use Rattle.markup.specs.declared.quirks.QuirksMode.TheVariants.{Quirks};
+ghost use Rattle.html_faithful_walk.specs.First.{IsFirst, is_end};
+ghost use Rattle.html_faithful_walk.specs.Firsts.{IsPast, IsTagTaken, IsUpward, point_of};
 ghost use Rattle.html_faithful_walk.specs.Left.{IsAscent, IsElementTaken, IsTaken, descends, walk_of};
 ghost use Rattle.html_faithful_walk.specs.Walking.{walk_at};
 
@@ -83,6 +85,8 @@ fn take_element<'a>(
 ) -> Result<bool, ParseFault>
     ensures ok { IfOk result (λ goes_on. IsElementTaken scripting forest.now node inner name.now (attributes attrs.entry) template
         (walk_of judge.old nodes.old) (walk_of judge.new nodes.new) goes_on) }
+    ensures tag { IfOk result (λ goes_on. IsTagTaken scripting forest.now node inner name.now (attributes attrs.entry) template
+        (walk_of judge.old nodes.old) (walk_of judge.new nodes.new) goes_on) }
     ensures fault { IfErr result (λ fault. fault ≡ Memory) }
 {
     match judge.element(alloc, scripting, name, attrs, template)? {
@@ -105,6 +109,7 @@ fn take<'a>(
 ) -> Result<bool, ParseFault>
     requires tree { IsTree forest.now }
     ensures ok { IfOk result (λ goes_on. IsTaken scripting forest.now id (walk_of judge.old nodes.old) (walk_of judge.new nodes.new) goes_on) }
+    ensures past { IfOk result (λ goes_on. IsPast scripting forest.now id (walk_of judge.old nodes.old) (walk_of judge.new nodes.new) goes_on) }
     ensures fault { IfErr result (λ fault. fault ≡ Memory) }
 {
     match forest.node(id) {
@@ -166,6 +171,8 @@ fn go_on<'a>(
     level: Level<'a>,
 ) -> Result<bool, ParseFault>
     ensures ok { IfOk result (λ goes_on. IsAscent level.entry.behind (walk_of judge.old nodes.old) (walk_of judge.new nodes.new) goes_on) }
+    ensures up { IfOk result (λ goes_on. IsUpward level.entry.behind (point_of judge.old.stand (spot_of judge.old.made.spot))
+        (point_of judge.new.stand (spot_of judge.new.made.spot)) goes_on) }
     ensures rest { nodes.new.rest ≡ level.entry.rest }
     ensures waiting { nodes.new.waiting ≡ nodes.old.waiting }
     ensures fault { IfErr result (λ fault. fault ≡ Memory) }
@@ -192,6 +199,7 @@ fn is_end_mode(mode: InsertionMode) -> bool
 fn ends(judge: &Judge<'_>, alloc: Global) -> Result<bool, ParseFault>
     ensures ok { IfOk result (λ ends. (scripting : Bool)
         → is_at_end (walk_at scripting judge.now.stand Nothing (spot_of judge.now.made.spot)) ≡ ends) }
+    ensures point { IfOk result (λ ends. is_end (point_of judge.now.stand (spot_of judge.now.made.spot)) ≡ ends) }
     ensures fault { IfErr result (λ fault. fault ≡ Memory) }
 {
     Ok(judge.may_end(alloc)? && is_end_mode(judge.made.spot.mode))
@@ -201,6 +209,8 @@ fn ends(judge: &Judge<'_>, alloc: Global) -> Result<bool, ParseFault>
 fn unended(judge: &Judge<'_>, alloc: Global, document: NodeId) -> Result<Option<NodeId>, ParseFault>
     ensures ok { IfOk result (λ node. (scripting : Bool)
         → is_at_end (walk_at scripting judge.now.stand Nothing (spot_of judge.now.made.spot)) ≡ is_none node) }
+    ensures point { IfOk result (λ node. IfSome node (λ n. (n ≡ document)
+        × (is_end (point_of judge.now.stand (spot_of judge.now.made.spot)) ≡ false))) }
     ensures fault { IfErr result (λ fault. fault ≡ Memory) }
 {
     if ends(judge, alloc)? {
@@ -236,6 +246,7 @@ pub(crate) fn first_unfaithful(
     requires tree { IsTree forest.now }
     requires document { document ≡ 0 }
     ensures ok { IfOk result (λ node. is_none node ≡ is_faithful_forest scripting forest.now) }
+    ensures first { IfOk result (λ node. IfSome node (λ n. IsFirst scripting forest.now n)) }
     ensures fault { IfErr result (λ fault. fault ≡ Memory) }
 {
     let mut judge = Judge {

@@ -1,4 +1,4 @@
-use Rattle.std.proofs.Common.{◌∙◌, sym, ap₂}
+use Rattle.std.proofs.Common.{sym, ap₂}
 use Rattle.std.specs.Prelude.{◌&&◌}
 use Rattle.html_faithful_walk.proofs.Checked.{closes-by}
 use Rattle.html_faithful_walk.proofs.checks.Closing.is_so.Goals as goal
