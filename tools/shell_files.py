@@ -39,9 +39,7 @@ def options_in(body):
     made += [(m.start(), Option(m[1], m[2], m[3]))
              for m in re.finditer(rf"\boption\(\s*alloc,\s*{TEXT},\s*{TEXT},\s*{TEXT},?\s*\)", body)]
     made += [(m.start(), Option(m[1], None, m[2]))
-             for m in re.finditer(rf"Arg::new\(alloc, {TEXT}\)\s*\.long\({TEXT}\)\s*\.action\(ArgAction::Help\)\s*\.help\({TEXT}\)", body)]
-    for m in re.finditer(rf"Arg::new\(alloc, {TEXT}\)\s*\.long\({TEXT}\)\s*\.action\(ArgAction::Help\)\s*\.help\({TEXT}\)", body):
-        made = [(at, it) for at, it in made if at != m.start()] + [(m.start(), Option(m[2], None, m[3]))]
+             for m in re.finditer(rf"\.long\({TEXT}\)\s*\.action\(ArgAction::Help\)\s*\.help\({TEXT}\)", body)]
     for m in re.finditer(r"\.short\('(.)'\)", body):
         at = max((at for at, _ in made if at < m.start()), default=None)
         for place, option in made:
@@ -124,8 +122,9 @@ def manual(commands, about, status):
              roff(f"figpliers - {about[0].lower()}{about[1:]}"), ".SH SYNOPSIS"]
     for command in commands:
         lines += [f".B {roff(usage(command))}", ".br"]
-    lines += [".SH DESCRIPTION", roff("Each command reads the HTML pages in the files that are named, or on standard input where none is named "
-              "and for the name -. The files after one that cannot be read are still read.")]
+    lines += [".SH DESCRIPTION",
+              roff("Each command reads the HTML pages in the files that are named, or on standard input where none is named and for the "
+                   "name -. The files after one that cannot be read are still read.")]
     for command in commands:
         lines += [f".SH {command.name.upper()}", roff(command.about + ".")]
         for name, required, help in command.operands:
