@@ -35,8 +35,8 @@ made-of-text table copied asked job name bytes page old new result table_is job_
       (subst (λ (t : List Row). PrintsSome (TextText t job name page) old result new) table_is prints),
 )
 
-pub made-of-document : (table copied : List Row) (asked : Asked) (job : DocumentJob) (several : Bool) (name bytes : List ℕ) (document : Forest)
-    (old new : WriterView) (result : Result Verdict PageFault) → copied ≡ table → asked.job ≡ OfDocument job → several ≡ has_several asked
+pub made-of-document : (table copied : List Row) (asked : Asked) (job : DocumentJob) (several : Bool) (name bytes : List ℕ)
+    (document : Forest) (old new : WriterView) (result : Result Verdict PageFault) → copied ≡ table → asked.job ≡ OfDocument job → several ≡ has_several asked
     → IsDocumentOf copied asked.reading bytes document → PrintsSome (DocumentText job several name document) old result new
     → IsMadeOf table asked name bytes old result new
 made-of-document table copied asked job several name bytes document old new result table_is job_is several_is (page, text, is) prints =

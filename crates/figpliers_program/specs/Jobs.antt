@@ -47,14 +47,15 @@ AreSelectorsIn (OfText job) selectors = Unit {0}
 AreSelectorsIn (OfDocument job) selectors = AreSelectorsOf job selectors
 
 -- What is made of a page with a name and bytes: it has no text, or what its text makes was written, or a beginning of that.
-abbrev pub IsMadeOf : List Row → Asked → (name bytes : List ℕ) → (out : WriterView) → Result Verdict PageFault → (out' : WriterView) → Type 0
+abbrev pub IsMadeOf : List Row → Asked → (name bytes : List ℕ) → (out : WriterView) → Result Verdict PageFault
+    → (out' : WriterView) → Type 0
 IsMadeOf table asked name bytes out result out' =
     ((fault : PageFault) × (result ≡ Err fault) × HasNoText asked.reading bytes fault × (out' ≡ out))
     ⊎ ((page : List ℕ) × IsTextOf table asked.reading bytes page × IsWritten table asked.job (has_several asked) name page out result out')
 
 -- the pages of the files that are named, or with none the one on standard input
-abbrev pub ArePagesDone : Files → ((name bytes : List ℕ) → WriterView → Result Verdict PageFault → WriterView → Type 0) → (names : List (List ℕ))
-    → (left left' : Stream) (out out' : WriterView) (errors errors' : Stream) → Verdict → Type 0
+abbrev pub ArePagesDone : Files → ((name bytes : List ℕ) → WriterView → Result Verdict PageFault → WriterView → Type 0)
+    → (names : List (List ℕ)) → (left left' : Stream) (out out' : WriterView) (errors errors' : Stream) → Verdict → Type 0
 ArePagesDone files P [] left left' out out' errors errors' verdict =
     IsPageDone files P (codes "-") left left' out out' errors errors' verdict
 ArePagesDone files P (name ∷ names) left left' out out' errors errors' verdict =

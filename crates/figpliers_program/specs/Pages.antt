@@ -50,8 +50,8 @@ pub record SelectedText (selector : List ℕ) (show : Show) (name : List ℕ) (s
   pub written : text ≡ selected_text show selectors document name several
   pub done : verdict ≡ verdict_on (length (selected_in selectors document))
 
--- What a command writes of the document of a page that has a name; `several` is whether there are several pages. Of Markdown only that it is
--- some text.
+-- What a command writes of the document of a page that has a name; `several` is whether there are several pages. Of Markdown only that it
+-- is some text.
 abbrev pub DocumentText : DocumentJob → (several : Bool) → (name : List ℕ) → Forest → (text : List ℕ) → Verdict → Type 0
 DocumentText Tree several name document text verdict = (text ≡ tree_lines document 0) × (verdict ≡ Fine)
 DocumentText Text several name document text verdict = RenderedText document text verdict

@@ -34,7 +34,8 @@ text_by table found bytes = text_in (encoding_of table found (unmarked found byt
 
 -- the text of bytes in the encoding that is found by a label, if there is one, or by what they say (section 13.2.3)
 abbrev pub IsFoundText : List Row → Option (List ℕ) → (bytes text : List ℕ) → Type 0
-IsFoundText table label bytes text = (fallback : Encoding) × IsFallback bytes fallback × (text ≡ text_by table (sniffed bytes label fallback) bytes)
+IsFoundText table label bytes text = (fallback : Encoding) × IsFallback bytes fallback
+    × (text ≡ text_by table (sniffed bytes label fallback) bytes)
 
 abbrev pub IsTextOf : List Row → Reading → (bytes text : List ℕ) → Type 0
 IsTextOf table Utf8 bytes text = text ≡ bytes

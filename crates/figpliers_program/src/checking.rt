@@ -3,7 +3,8 @@ ghost use Rattle.std.specs.Prelude.{◌≡◌, ◌++◌, IfOk, OnOk, false, true
 ghost use Rattle.std.specs.String.{string_bytes};
 ghost use Rattle.figpliers.specs.Puts.{told_by};
 ghost use Rattle.figpliers_program.specs.Checking as spec;
-ghost use Rattle.figpliers_program.specs.Checking.{AreAround, CheckText, IsUnfaithful, element_at, faithful_line, path, slashed, unfaithful_line};
+ghost use Rattle.figpliers_program.specs.Checking.{AreAround, CheckText, IsUnfaithful, element_at, faithful_line, path};
+ghost use Rattle.figpliers_program.specs.Checking.{slashed, unfaithful_line};
 ghost use Rattle.figpliers_program.specs.Printing.{Prints, PrintsSome};
 ghost use Rattle.figpliers_program.specs.declared.faults.PageFault.TheVariants.{Memory};
 ghost use Rattle.html_faithful.specs.Walk.{is_faithful_forest};

@@ -47,8 +47,8 @@ pub fn write_markdown<W: Target>(
 
 /// Writes the tree of a document.
 pub fn tree<W: Target>(alloc: Global, forest: &Forest, writer: &mut W) -> Result<Verdict, PageFault>
-    ensures { PrintsSome (λ text verdict. (text ≡ tree_lines forest.now 0) × (verdict ≡ Fine)) (told_by W.written W.failures writer.old) result
-        (told_by W.written W.failures writer.new) }
+    ensures { PrintsSome (λ text verdict. (text ≡ tree_lines forest.now 0) × (verdict ≡ Fine))
+        (told_by W.written W.failures writer.old) result (told_by W.written W.failures writer.new) }
 {
     write_tree(alloc, forest, forest.document(), writer)?;
     Ok(Verdict::Fine)

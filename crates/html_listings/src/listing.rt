@@ -6,7 +6,8 @@ ghost use Rattle.html_serialize.specs.Puts.{told_by};
 ghost use Rattle.html_serialize.specs.Serializing.{Writes};
 ghost use Rattle.markup.specs.declared.serializer.SerializeFault.TheVariants.{Memory};
 ghost use Rattle.html_listings.specs.Listings as spec;
-ghost use Rattle.html_listings.specs.Listings.{file_prefix, has_names, json_line, line_of, links_text, local_of, plain_line, text_or, url_line};
+ghost use Rattle.html_listings.specs.Listings.{file_prefix, has_names, json_line, line_of, links_text, local_of};
+ghost use Rattle.html_listings.specs.Listings.{plain_line, text_or, url_line};
 
 use crate::base::{base_of, url_by};
 use crate::json::push_member;

@@ -164,8 +164,8 @@ fn push_element(
     id: NodeId,
     line: &mut String,
 ) -> Result<(), SerializeFault>
-    ensures ok { OnOk result ((show.now ≡ Html → ⊥) → string_bytes line.new ≡ string_bytes line.old ++ element_text show.now page.now.forest.now
-        page.now.file.now (string_bytes page.now.prefix) id) }
+    ensures ok { OnOk result ((show.now ≡ Html → ⊥) → string_bytes line.new ≡ string_bytes line.old
+        ++ element_text show.now page.now.forest.now page.now.file.now (string_bytes page.now.prefix) id) }
     ensures fault { IfErr result (λ fault. fault ≡ Memory) }
 {
     match show {

@@ -61,7 +61,8 @@ impl Reading {
     /// Takes a character that stands before a URL.
     fn take_between(&mut self, c: char) -> Result<(), ParseFault>
         requires { self.old.place ≡ Before }
-        ensures ok { OnOk result ((rest : List ℕ) → self.new.found.items ++ urls_from (spot_of self.new.place self.new.url self.new.commas) rest
+        ensures ok { OnOk result ((rest : List ℕ)
+            → self.new.found.items ++ urls_from (spot_of self.new.place self.new.url self.new.commas) rest
             ≡ self.old.found.items ++ urls_from before (c ∷ rest)) }
         ensures fault { IfErr result (λ fault. fault ≡ Memory) }
     {
@@ -95,7 +96,8 @@ impl Reading {
     /// Takes a character that stands in a URL.
     fn take_within(&mut self, c: char) -> Result<(), ParseFault>
         requires { self.old.place ≡ Within }
-        ensures ok { OnOk result ((rest : List ℕ) → self.new.found.items ++ urls_from (spot_of self.new.place self.new.url self.new.commas) rest
+        ensures ok { OnOk result ((rest : List ℕ)
+            → self.new.found.items ++ urls_from (spot_of self.new.place self.new.url self.new.commas) rest
             ≡ self.old.found.items ++ urls_from (within self.old.url self.old.commas) (c ∷ rest)) }
         ensures fault { IfErr result (λ fault. fault ≡ Memory) }
     {
@@ -113,7 +115,8 @@ impl Reading {
 
     /// Takes a character.
     fn take(&mut self, c: char) -> Result<(), ParseFault>
-        ensures ok { OnOk result ((rest : List ℕ) → self.new.found.items ++ urls_from (spot_of self.new.place self.new.url self.new.commas) rest
+        ensures ok { OnOk result ((rest : List ℕ)
+            → self.new.found.items ++ urls_from (spot_of self.new.place self.new.url self.new.commas) rest
             ≡ self.old.found.items ++ urls_from (spot_of self.old.place self.old.url self.old.commas) (c ∷ rest)) }
         ensures fault { IfErr result (λ fault. fault ≡ Memory) }
     {

@@ -8,4 +8,5 @@ returns-in_err-put g c = rw (err-is _ c.from_residual.result c.from_residual.ens
     (put-ended c.args.output.now (codes " cannot be written\n") _ _ c.in_err-put.ensures.put)
 
 pub returns : goal.returns
-returns g c = put-then c.args.output.now (codes " cannot be written\n") _ _ _ (is_err c.put-2.result) c.in_ok-put.ensures.put c.put-2.ensures.put
+returns g c = put-then c.args.output.now (codes " cannot be written\n") _ _ _ (is_err c.put-2.result)
+    c.in_ok-put.ensures.put c.put-2.ensures.put

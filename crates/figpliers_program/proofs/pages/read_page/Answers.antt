@@ -6,7 +6,8 @@ pub returns-then-eq-clause-ok : goal.returns-then-eq-clause-ok
 returns-then-eq-clause-ok g c = rw (sym c.eq.ensures ∙ c.if-eq.true) c.read_bytes.ensures.ok
 
 pub returns-then-eq-clause-err : goal.returns-then-eq-clause-err
-returns-then-eq-clause-err g c = IfErr-weaker c.read_bytes.result _ _ (λ fault is. rw (sym c.eq.ensures ∙ c.if-eq.true) is) c.read_bytes.ensures.err
+returns-then-eq-clause-err g c =
+    IfErr-weaker c.read_bytes.result _ _ (λ fault is. rw (sym c.eq.ensures ∙ c.if-eq.true) is) c.read_bytes.ensures.err
 
 pub returns-clause-ok : goal.returns-clause-ok
 returns-clause-ok g c =

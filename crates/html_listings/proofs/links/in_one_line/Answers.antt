@@ -10,5 +10,6 @@ use Rattle.html_listings.proofs.links.in_one_line.Goals as goal
 pub returns-clause-ok : goal.returns-clause-ok
 unfolding in_one_line
 returns-clause-ok c = IfOk-weaker c.without_breaks.result _ _ (λ line is. is
-    ∙ ap (λ (text : List ℕ). filter is_in_line (chars text)) (trim_ascii_is c.args.url.now c.trim_ascii.result.now _ refl c.trim_ascii.ensures.value))
+    ∙ ap (λ (text : List ℕ). filter is_in_line (chars text))
+    (trim_ascii_is c.args.url.now c.trim_ascii.result.now _ refl c.trim_ascii.ensures.value))
     c.without_breaks.ensures.ok

@@ -27,10 +27,12 @@ returns-in_err-put_all-clause-writes g c =
     let p = err_from_is_err_and c.from_residual-in_err-put_all.result c.from_residual-in_err-put_all.ensures.1 in
     rw (p.1, p.2) (subst (λ (bytes : List ℕ). Written bytes (told_by g.W.Target.written g.W.Target.failures c.args.writer.now)
     (Err c.in_err-put_all.field-0.0) (told_by g.W.Target.written g.W.Target.failures c.put_all.new.writer))
-    (same c.args.show.now c.args.forest.now c.args.file.now _ _ _ _ c.in_ok-prefix_of.ensures (found_is c.args.selectors.now c.args.forest.now _ _ _ (c.as_slice.ensures.value) c.in-Ok.ensures.ok c.document.ensures))
+    (same c.args.show.now c.args.forest.now c.args.file.now _ _ _ _ c.in_ok-prefix_of.ensures
+    (found_is c.args.selectors.now c.args.forest.now _ _ _ c.as_slice.ensures.value c.in-Ok.ensures.ok c.document.ensures))
     c.in_err-put_all.ensures)
 
 pub returns-clause-writes : goal.returns-clause-writes
 returns-clause-writes g c =
     c.in_ok-put_all.ensures ∙ ap (with_bytes (told_by g.W.Target.written g.W.Target.failures c.args.writer.now))
-    (same c.args.show.now c.args.forest.now c.args.file.now _ _ _ _ c.in_ok-prefix_of.ensures (found_is c.args.selectors.now c.args.forest.now _ _ _ (c.as_slice.ensures.value) c.in-Ok.ensures.ok c.document.ensures))
+    (same c.args.show.now c.args.forest.now c.args.file.now _ _ _ _ c.in_ok-prefix_of.ensures
+    (found_is c.args.selectors.now c.args.forest.now _ _ _ c.as_slice.ensures.value c.in-Ok.ensures.ok c.document.ensures))
