@@ -65,8 +65,8 @@ pub fn output_of(alloc: Global, words: &[String]) -> Result<Option<String>, Page
 
 /// Does what the words ask for with which the program was started, the first of which is its name. Files are those that `opener` opens.
 ///
-/// What is printed is written to `output`: to open the file that the words may name for it ([`output_of`]) is the caller's. A failed write to
-/// it is not reported on standard error: the verdict is [`Verdict::Unwritten`], and nothing more is read.
+/// What is printed is written to `output`: to open the file that the words may name for it ([`output_of`]) is the caller's. A failed
+/// write to it is not reported on standard error: the verdict is [`Verdict::Unwritten`], and nothing more is read.
 pub fn obey<File: Source + Drop, Opens: Files<File>, Input: Source, Output: Target, Errors: Target>(
     alloc: Global,
     words: &[String],
