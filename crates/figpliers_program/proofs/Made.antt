@@ -37,7 +37,8 @@ made-of-text table copied asked job name bytes page old new result table_is job_
 
 pub made-of-document : (table copied : List Row) (asked : Asked) (job : DocumentJob) (several : Bool) (name bytes : List ℕ)
     (document : Forest) (old new : WriterView) (result : Result Verdict PageFault) → copied ≡ table → asked.job ≡ OfDocument job
-    → several ≡ has_several asked → IsDocumentOf copied asked.reading bytes document → PrintsSome (DocumentText job several name document) old result new
+    → several ≡ has_several asked → IsDocumentOf copied asked.reading bytes document
+    → PrintsSome (DocumentText job several name document) old result new
     → IsMadeOf table asked name bytes old result new
 made-of-document table copied asked job several name bytes document old new result table_is job_is several_is (page, text, is) prints =
     let of_page : PrintsSome (PageText copied job several name page) old result new =
