@@ -43,14 +43,7 @@ fn run<W: Write + Drop, Errors: Target>(
     let mut output = Output::new(buffer);
     let mut input = StdSource::new(rt.stdin());
     let files = Disk::new(rt);
-    let mut verdict = obey(
-        rt.alloc(),
-        words,
-        &files,
-        &mut input,
-        &mut output,
-        errors,
-    );
+    let mut verdict = obey(rt.alloc(), words, &files, &mut input, &mut output, errors);
     if output.flush().is_err() {
         verdict = Verdict::Unwritten;
     }

@@ -2,81 +2,27 @@
 //! forest and the serializer, without selectors, other encodings, rendered text, Markdown and the judge of faithful documents.
 #![tactic(auto)]
 
-pub use devices::DeviceFault;
-pub use devices::MemReader;
-pub use devices::MemWriter;
-pub use devices::Source;
-pub use devices::StdSource;
-pub use devices::StdTarget;
-pub use devices::Target;
-pub use devices::VecWriter;
-pub use devices::write_whole;
-pub use html_extracts::is_shown;
-pub use html_extracts::link_of;
-pub use html_extracts::links_below;
-pub use html_extracts::shown_text;
-pub use html_extracts::write_tree;
-pub use html_forest::AttributesRef;
-pub use html_forest::Children;
-pub use html_forest::Forest;
-pub use html_forest::ForestNode;
-pub use html_forest::NodeData;
-pub use html_forest::NodeId;
-pub use html_forest::TextRef;
-pub use html_input::TextFault;
-pub use html_input::read_text;
-pub use html_nodes::Descendants;
-pub use html_nodes::Query;
-pub use html_nodes::attribute_of;
-pub use html_nodes::attributes_of;
-pub use html_nodes::element_name;
-pub use html_nodes::fits;
-pub use html_nodes::has_class;
-pub use html_nodes::is_html;
-pub use html_nodes::nodes_below;
-pub use html_nodes::push_text;
-pub use html_nodes::text_content;
-pub use html_normal::Exact;
-pub use html_normal::NormalFault;
-pub use html_normal::TableFileFault;
-pub use html_normal::read_document;
-pub use html_normal::read_table;
-pub use html_pages::Noted;
-pub use html_pages::NotedForest;
-pub use html_pages::document;
-pub use html_pages::document_lossy;
-pub use html_pages::fragment;
-pub use html_pages::noted_document;
-pub use html_parser::ParseOpts;
-pub use html_parser::Parser;
-pub use html_parser::parse_document;
-pub use html_parser::parse_fragment;
-pub use html_parser::parse_fragment_for_element;
-pub use html_serialize::HtmlSerializer;
-pub use html_serialize::SerializeOpts;
-pub use html_serialize::serialize;
+pub use devices::{
+    DeviceFault, MemReader, MemWriter, Source, StdSource, StdTarget, Target, VecWriter, write_whole,
+};
+pub use html_extracts::{is_shown, link_of, links_below, shown_text, write_tree};
+pub use html_forest::{AttributesRef, Children, Forest, ForestNode, NodeData, NodeId, TextRef};
+pub use html_input::{TextFault, read_text};
+pub use html_nodes::{
+    Descendants, Query, attribute_of, attributes_of, element_name, fits, has_class, is_html,
+    nodes_below, push_text, text_content,
+};
+pub use html_normal::{Exact, NormalFault, TableFileFault, read_document, read_table};
+pub use html_pages::{Noted, NotedForest, document, document_lossy, fragment, noted_document};
+pub use html_parser::{
+    ParseOpts, Parser, parse_document, parse_fragment, parse_fragment_for_element,
+};
+pub use html_serialize::{HtmlSerializer, SerializeOpts, serialize};
 pub use html_standard_references::standard;
-pub use html_tokenizer::ReferenceRow;
-pub use html_tokenizer::References;
-pub use html_tokenizer::TableFault;
-pub use html_tokenizer::TokenizerOpts;
-pub use html_walks::Step;
-pub use html_walks::Steps;
-pub use html_walks::walk;
-pub use markup::Attribute;
-pub use markup::Attributes;
-pub use markup::ElementFlags;
-pub use markup::KnownNamespace;
-pub use markup::LocalName;
-pub use markup::Namespace;
-pub use markup::NodeOrText;
-pub use markup::ParseFault;
-pub use markup::QualName;
-pub use markup::QuirksMode;
-pub use markup::Serialize;
-pub use markup::SerializeFault;
-pub use markup::Serializer;
-pub use markup::Text;
-pub use markup::TokenizerResult;
-pub use markup::TraversalScope;
-pub use markup::TreeSink;
+pub use html_tokenizer::{ReferenceRow, References, TableFault, TokenizerOpts};
+pub use html_walks::{Step, Steps, walk};
+pub use markup::{
+    Attribute, Attributes, ElementFlags, KnownNamespace, LocalName, Namespace, NodeOrText,
+    ParseFault, QualName, QuirksMode, Serialize, SerializeFault, Serializer, Text, TokenizerResult,
+    TraversalScope, TreeSink,
+};
