@@ -9,7 +9,9 @@ program takes more than LIMIT seconds.
 
 import json
 import os
+import re
 import statistics
+import subprocess
 import sys
 import tempfile
 from pathlib import Path
@@ -25,7 +27,7 @@ DEEP = {"nested <div>": ("", "<div>"), "<x> nested in <b>": ("<b>", "<x>")}
 
 
 def run(command, page):
-    """Returns the processor seconds that a program takes for a page, and the megabytes that it holds."""
+    """Returns the processor seconds that a program takes for a page."""
     process = os.fork()
     if process == 0:
         os.dup2(os.open(page, os.O_RDONLY), 0)
@@ -36,11 +38,22 @@ def run(command, page):
     _, status, used = os.wait4(process, 0)
     if status:
         sys.exit(f"{command[0]} ended with {status} on {page}")
-    return used.ru_utime + used.ru_stime, used.ru_maxrss / 1024
+    return used.ru_utime + used.ru_stime
+
+
+def held(command, page):
+    """Returns the megabytes that a program holds at most, by looking until it ends (`ru_maxrss` is at least this process's own)."""
+    most = 0
+    with open(page, "rb") as text, subprocess.Popen(command, stdin=text, stdout=subprocess.DEVNULL, stderr=subprocess.DEVNULL) as process:
+        while process.poll() is None:
+            status = Path(f"/proc/{process.pid}/status").read_text()
+            most = max([most, *(int(it) for it in re.findall(r"VmHWM:\s+(\d+) kB", status))])
+    return most / 1024
 
 
 def measure(programs, page):
-    """Returns for each program the median of its seconds, of their ratio to the first program's in the same round, and its megabytes."""
+    """Returns for each program the median of its seconds, of their ratio to the first program's in the same round, and the most
+    megabytes that it held in three runs."""
     seen = {name: [] for name in programs}
     for number in range(ROUNDS):
         # (each program is the first in turn)
@@ -49,9 +62,9 @@ def measure(programs, page):
     ours, median = seen[next(iter(programs))], statistics.median
     return {
         name: {
-            "seconds": median(it for it, _ in rounds),
-            "share": median(own[0] / max(its[0], 1e-9) for own, its in zip(ours, rounds)),
-            "megabytes": median(it for _, it in rounds),
+            "seconds": median(rounds),
+            "share": median(own / max(its, 1e-9) for own, its in zip(ours, rounds)),
+            "megabytes": max(held(programs[name], page) for _ in range(3)),
         }
         for name, rounds in seen.items()
     }
@@ -64,7 +77,7 @@ def grow(programs, page, start, repeated):
         found[name], count, seconds = [], 4_000, 0
         while seconds < LIMIT and count <= 512_000:
             page.write_text(start + repeated * count, encoding="utf-8")
-            seconds = min(run(command, page)[0] for _ in range(3 if seconds < 1 else 1))
+            seconds = min(run(command, page) for _ in range(3 if seconds < 1 else 1))
             found[name].append([page.stat().st_size, seconds])
             count *= 2
     return found
