@@ -42,7 +42,7 @@ pub struct Filled {
     pub fits: bool,
 }
 
-/// Writes a template as it is told of it, with values in its holes.
+/// What writes a template, with values in its holes.
 #[derive(Drop)]
 struct Filler<'a> {
     alloc: Global,

@@ -90,7 +90,7 @@ empty-there : (text : List ℕ) → plain.is_empty text ≡ true → text ≡ []
 empty-there [] h = refl
 empty-there (c ∷ cs) h = absurd (true≢false (sym h))
 
--- an attribute without prefix and namespace is told by its name in lower case
+-- an attribute without prefix and namespace is emitted with its name in lower case
 prefix-none : (local : List ℕ) → attribute_prefix (record { prefix = None; ns = []; local = local }) ≡ []
 unfolding known_namespace name_of
 prefix-none local = refl
