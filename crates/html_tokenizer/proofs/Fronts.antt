@@ -8,3 +8,4 @@ pub mod References
 pub mod Runs
 pub mod Tags
 pub mod Texts
+pub mod Whole

@@ -1,20 +1,23 @@
 -- What is taken of tags and references from the front of a text at once.
-use Rattle.std.specs.Prelude.{◌≡◌, ℕ, Bool, true, false, nat_eq, List, [], ◌∷◌, ◌++◌, All, Some, Result, Ok, Err, map}
+use Rattle.std.specs.Prelude.{◌≡◌, ℕ, true, false, nat_eq, List, [], ◌∷◌, ◌++◌, All, Some, Result, Ok, Err, map}
 use Rattle.std.specs.Char.{is_ascii_alphabetic, to_ascii_lowercase}
 use Rattle.std.specs.List.{list_all}
 use Rattle.std.specs.Str.{IsUtf8, chars}
 use Rattle.markup.specs.declared.fault.ParseFault.{ParseFault}
+use Rattle.html_queue.specs.Queue.{Queue}
 use Rattle.html_queue.specs.Set.{has}
 use Rattle.html_queue.specs.declared.set.SmallCharSet.{SmallCharSet}
+use Rattle.html_tokens.specs.declared.replies.ProcessResult.{ProcessResult}
 use Rattle.html_tokens.specs.declared.replies.ProcessResult.TheVariants as flow
 use Rattle.html_tokens.specs.declared.sink.TokenSink.{Ghosts}
+use Rattle.html_tokens.specs.declared.states.AttrValueKind.{AttrValueKind}
 use Rattle.html_tokens.specs.declared.states.AttrValueKind.TheVariants as value
 use Rattle.html_tokens.specs.declared.states.State.{State}
 use Rattle.html_tokens.specs.declared.states.State.TheVariants as state
 use Rattle.html_tokens.specs.declared.tags.TagKind.{TagKind}
 use Rattle.html_tokens.specs.declared.tags.TagKind.TheVariants.{StartTag, EndTag}
 use Rattle.html_tokens.specs.Tags.{named, with_attribute}
-use Rattle.html_tokenizer.specs.Calls.{TookRun}
+use Rattle.html_tokenizer.specs.Calls.{Moves, TookRun}
 use Rattle.html_references.specs.References.{IsCheckedTable}
 use Rattle.html_tokens.specs.Reference.{reference_at}
 use Rattle.html_tokens.specs.Table.{Row}
@@ -24,6 +27,8 @@ use Rattle.html_tokenizer.specs.declared.tokenizer.Tokenizer.{Tokenizer}
 use Rattle.html_tokenizer.specs.Steps.{FailsOver, IsAt, Read}
 use Rattle.html_tokenizer.specs.Stops.{with_breaks}
 pub use Rattle.html_tokenizer.specs.Stops.{attribute_stops}
+use Rattle.html_tokenizer.specs.Stops.{value_stops}
+use Rattle.html_tokenizer.specs.Quotes.{quote_of}
 use Rattle.html_tokenizer_parts.specs.Input.{IsUnbroken, counted}
 
 -- the characters at which a tag's name is taken no further at once
@@ -82,6 +87,21 @@ pub record IsNameAt (name rest text : List ℕ) : Type 0 where
   pub filled : IsFilled (chars name)
   pub lacking : Lacks attribute_stops (chars name)
 
+-- the bytes of a text are those of a value in quotes of this kind, of which each character stands for itself, and what follows it
+pub record IsValueIn (kind : AttrValueKind) (quote : ℕ) (value rest text : List ℕ) : Type 0 where
+  pub whole : text ≡ quote ∷ (value ++ (quote ∷ rest))
+  pub utf8 : IsUtf8 value
+  pub lacking : Lacks (value_stops kind) (chars value)
+
+-- the same after "="
+pub record IsWholeValue (value rest text : List ℕ) : Type 0 where
+  pub kind : AttrValueKind
+  pub quote : ℕ
+  pub quotes : quote_of kind ≡ Some quote
+  pub inner : List ℕ
+  pub equals : text ≡ 61 ∷ inner
+  pub within : IsValueIn kind quote value rest inner
+
 -- the bytes of a text are those of "&", a name with ";" at its end, and what follows them
 pub record IsReferenceAt (name rest text : List ℕ) : Type 0 where
   pub whole : text ≡ 38 ∷ (name ++ rest)
@@ -102,6 +122,12 @@ pub record StandsFor (rows : List Row) (cs : List ℕ) (found : Found) : Type 0 
   pub is : IsWhole rows cs found
   pub ends : ends_in_semicolon cs ≡ true
 
+-- the bytes of a text are those of "&" and a name that stands for this, and what follows them
+pub record IsFoundAt (rows : List Row) (found : Found) (rest text : List ℕ) : Type 0 where
+  pub name : List ℕ
+  pub at : IsReferenceAt name rest text
+  pub stands : StandsFor rows (chars name) found
+
 -- the machine in a tag of this name
 abbrev pub opened_tag : {K : Type 0} → Tokenizer K → TagKind → List ℕ → Tokenizer K
 opened_tag k kind name = record k { tag = named kind (map to_ascii_lowercase name); state = state.TagName }
@@ -113,6 +139,11 @@ naming k name = record k { attribute_name = map to_ascii_lowercase name; state =
 -- the machine with an attribute of this value in its tag
 abbrev pub with_value : {K : Type 0} → Tokenizer K → List ℕ → Tokenizer K
 with_value k value = record k { tag = with_attribute k.tag k.attribute_name value; attribute_name = []; attribute_value = [] }
+
+-- the machine with an attribute of this name and value in its tag, after the last quote of the value
+abbrev pub attributed : {K : Type 0} → Tokenizer K → List ℕ → List ℕ → Tokenizer K
+attributed k name value = record k
+    { tag = with_attribute k.tag (map to_ascii_lowercase name) value; state = state.AfterAttributeValueQuoted }
 
 -- the machine with the attribute in its tag that it reads in this state, if it reads one
 abbrev pub ended_in : {K : Type 0} → State → Tokenizer K → Tokenizer K
@@ -167,6 +198,11 @@ module _ {K H : Type 0} (Sink : Ghosts K H) where
   KeepsLines old new lines (Ok x) = Read Sink lines (λ owed. owed) new.stream.breaks
       (record old.stream { breaks = counted_all old.stream.breaks lines }) old new flow.Continue
   KeepsLines old new lines (Err fault) = FailsOver Sink lines old new.sink fault
+
+  -- A step that ends where this one begins is, with this one, a step that ends as this one does.
+  abbrev pub MovesOn : Tokenizer K → Tokenizer K → Queue → Queue → Result (ProcessResult H) ParseFault → Type 0
+  MovesOn old new from to result = (before : Tokenizer K) (start : Queue) → Moves Sink before old start from (Ok flow.Continue)
+      → Moves Sink before new start to result
 
   -- Of a text's bytes a front was taken, with no line end in it.
   pub record TakesFront (old new : Tokenizer K) (text rest : List ℕ) : Type 0 where

@@ -75,6 +75,21 @@ impl<Sink: TokenSink> Tokenizer<Sink> {
         self.tag.had_duplicate_attributes = true;
     }
 
+    /// Adds an attribute to the tag, or drops it where the tag has one of its name.
+    #[inline(always)]
+    pub(crate) fn add_attribute(&mut self, name: LocalName, value: Text) -> Result<(), ParseFault>
+        ensures ok { OnOk result (self.new ≡ record self.old { tag = with_attribute self.old.tag name value }) }
+        ensures fault { IfErr result (λ fault. fault ≡ Memory) }
+        ensures sink { self.new.sink ≡ self.old.sink }
+    {
+        if self.tag.attrs.has_local_name(&name) {
+            self.note_repeat();
+            return Ok(());
+        }
+        let name = QualName::new(None, Namespace::none(), name);
+        self.tag.attrs.push(Attribute { name, value })
+    }
+
     /// Adds the attribute that was read to the tag, or drops it where the tag has one of its name.
     pub(crate) fn finish_attribute(&mut self) -> Result<(), ParseFault>
         ensures ok { OnOk result (self.new ≡ record self.old {
@@ -88,12 +103,7 @@ impl<Sink: TokenSink> Tokenizer<Sink> {
         let alloc = self.stream.alloc;
         let name = self.attribute_name.take();
         let value = mem::replace(&mut self.attribute_value, Text::empty(alloc));
-        if self.tag.attrs.has_local_name(&name) {
-            self.note_repeat();
-            return Ok(());
-        }
-        let name = QualName::new(None, Namespace::none(), name);
-        self.tag.attrs.push(Attribute { name, value })
+        self.add_attribute(name, value)
     }
 
     /// Adds the attribute that was read to the tag, without a value.

@@ -201,7 +201,7 @@ impl<Sink: TokenSink> Tokenizer<Sink> {
         let rest = self.consume_opening(opening)?;
         let width = text.len() - rest.len();
         input.skip(width);
-        Ok(())
+        self.move_to_end(input, answer)
     }
 
     /// Takes what comes next of the input in a tag where `>` ends it.
@@ -241,8 +241,7 @@ impl<Sink: TokenSink> Tokenizer<Sink> {
             return self.move_by_piece(input, answer);
         };
         self.stream.ignore_lf = false;
-        self.begin_attribute(name)?;
-        let rest = self.consume_equals(after)?;
+        let rest = self.consume_attribute(name, after)?;
         let width = text.len() - rest.len();
         input.skip(width);
         Ok(())

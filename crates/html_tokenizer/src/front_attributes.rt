@@ -83,7 +83,7 @@ impl<Sink: TokenSink> Tokenizer<Sink> {
     }
 
     /// Adds the attribute that is read to the tag, if one is.
-    fn end_attribute(&mut self) -> Result<(), ParseFault>
+    pub(crate) fn end_attribute(&mut self) -> Result<(), ParseFault>
         ensures ok { OnOk result (self.new ≡ ended self.old) }
         ensures fault { IfErr result (λ fault. fault ≡ Memory) }
         ensures sink { self.new.sink ≡ self.old.sink }
@@ -96,7 +96,7 @@ impl<Sink: TokenSink> Tokenizer<Sink> {
     }
 
     /// Ends the tag at its `>`, and leaves the answer in its place.
-    #[inline(always)]
+    #[inline(never)]
     pub(crate) fn close_tag(
         &mut self,
         answer: &mut ProcessResult<Sink::Handle>,
@@ -122,8 +122,8 @@ impl<Sink: TokenSink> Tokenizer<Sink> {
         Ok(())
     }
 
-    /// Takes a value, after its first quote, from the front of a text, as far as its characters stand for themselves: what is
-    /// left of the text.
+    /// Takes a value, after its first quote, from the front of a text, as far as its characters stand for themselves or are
+    /// references by whole names: what is left of the text.
     fn consume_quoted<'a>(
         &mut self,
         kind: AttrValueKind,
@@ -141,13 +141,14 @@ impl<Sink: TokenSink> Tokenizer<Sink> {
     {
         let (value, after) = value_stops(kind).split(text);
         self.attribute_value = Text::from_str(self.stream.alloc, value)?;
-        let Some(rest) = after_byte(after, quote) else {
-            self.state = State::AttributeValue(kind);
-            return Ok(after);
+        self.state = State::AttributeValue(kind);
+        let rest = self.consume_references(kind, after)?;
+        let Some(behind) = after_byte(rest, quote) else {
+            return Ok(rest);
         };
         self.finish_attribute()?;
         self.state = State::AfterAttributeValueQuoted;
-        Ok(rest)
+        Ok(behind)
     }
 
     /// Takes a value without quotes from the front of a text, if it is one without an error and without a reference: what is
@@ -238,8 +239,7 @@ impl<Sink: TokenSink> Tokenizer<Sink> {
     {
         let mut rest = text;
         while let Some((name, after)) = self.next_name(rest) {
-            self.begin_attribute(name)?;
-            rest = self.consume_equals(after)?;
+            rest = self.consume_attribute(name, after)?;
         }
         Ok(rest)
     }

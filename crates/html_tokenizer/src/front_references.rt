@@ -1,16 +1,19 @@
 //! References at the front of the input, whose name is read at once up to its `;` (HTML Standard, sections 13.2.5.72 and 13.2.5.73).
-ghost use Rattle.std.specs.Prelude.{◌≡◌, ◌∷◌, ℕ, List, true, IfSome};
-ghost use Rattle.std.specs.Str.{chars};
+ghost use Rattle.std.specs.Prelude.{◌≡◌, ◌≢◌, ◌≤◌, ◌∷◌, ℕ, List, length, true, IfErr, IfOk, IfSome};
+ghost use Rattle.std.specs.Str.{IsUtf8, chars};
 ghost use Rattle.html_tokenizer.specs.Fronts;
-ghost use Rattle.html_tokenizer.specs.Fronts.{IsReferenceAt, ReadsAhead, StandsFor};
+ghost use Rattle.html_tokenizer.specs.Fronts.{IsFoundAt, IsReferenceAt, ReadsAhead, StandsFor, TakesFront};
 ghost use Rattle.html_tokenizer.specs.Calls.{KeepsRun};
 ghost use Rattle.html_tokenizer.specs.Rest.{rows_of};
 ghost use Rattle.html_tokenizer.specs.Steps.{IsAt};
 ghost use Rattle.html_tokenizer_parts.specs.CharRefs.{ends_in_semicolon};
+ghost use Rattle.html_tokens.specs.declared.states.AttrValueKind.TheVariants as value;
 ghost use Rattle.html_tokens.specs.declared.states.State.TheVariants as state;
+ghost use Rattle.markup.specs.declared.fault.ParseFault.TheVariants.{Memory};
 
 use crate::char_bits::{AMPERSAND, BREAKS, FORM_FEED, LESS_THAN, SEMICOLON, SPACE, TAB};
 use crate::front_tags::after_byte;
+use crate::text_runs::value_stops;
 use crate::tokenizer::Tokenizer;
 use html_queue::SmallCharSet;
 use html_tokenizer_parts::numbers::Found;
@@ -74,10 +77,67 @@ impl<Sink: TokenSink> Tokenizer<Sink> {
     ) -> Result<(), ParseFault>
         requires at { IsAt self.old (state.AttributeValue kind) }
         requires sound { Sink.is_sound (Sink.view self.old.sink) }
-        ensures { (cs : List ℕ) → StandsFor (rows_of self.old) cs found → KeepsRun Sink.TokenSink self.old self.new (38 ∷ cs) result }
+        ensures keeps { (cs : List ℕ) → StandsFor (rows_of self.old) cs found → KeepsRun Sink.TokenSink self.old self.new (38 ∷ cs) result }
+        ensures changed { self.new ≡ record self.old { attribute_value = self.new.attribute_value } }
+        ensures fault { IfErr result (λ fault. fault ≡ Memory) }
     {
         let _kind = kind;
         push_found(&mut self.attribute_value, found)
+    }
+
+    /// What a whole name of a reference at the front of a text stands for, and what follows the name.
+    fn next_reference<'a>(&self, text: &'a str) -> Option<(Found, &'a str)>
+        ensures is { IfSome result (λ r. IsFoundAt (rows_of self.now) r.0 r.1.now text.now) }
+    {
+        let (name, rest) = reference_of(text)?;
+        let found = self.whole_name(name)?;
+        Some((found, rest))
+    }
+
+    /// Puts what a whole name stands for after a value in quotes, and the characters after the name that stand for themselves:
+    /// what is left of the text.
+    fn consume_reference<'a>(
+        &mut self,
+        kind: AttrValueKind,
+        found: Found,
+        text: &'a str,
+    ) -> Result<&'a str, ParseFault>
+        requires at { IsAt self.old (state.AttributeValue kind) }
+        requires quoted { kind ≢ value.Unquoted }
+        requires sound { Sink.is_sound (Sink.view self.old.sink) }
+        ensures ok { IfOk result (λ rest. (whole : List ℕ) → IsFoundAt (rows_of self.old) found text.now whole
+            → TakesFront Sink.TokenSink self.old self.new whole rest.now) }
+        ensures changed { self.new ≡ record self.old { attribute_value = self.new.attribute_value } }
+        ensures utf8 { IfOk result (λ rest. IsUtf8 rest.now) }
+        ensures no_longer { IfOk result (λ rest. length rest.now ≤ length text.now) }
+        ensures fault { IfErr result (λ fault. fault ≡ Memory) }
+    {
+        self.consume_whole_name(kind, found)?;
+        let (value, rest) = value_stops(kind).split(text);
+        self.attribute_value.push_str(value)?;
+        Ok(rest)
+    }
+
+    /// Takes references by whole names, and the characters after them that stand for themselves, in a value in quotes: what is
+    /// left of the text.
+    pub(crate) fn consume_references<'a>(
+        &mut self,
+        kind: AttrValueKind,
+        text: &'a str,
+    ) -> Result<&'a str, ParseFault>
+        requires at { IsAt self.old (state.AttributeValue kind) }
+        requires quoted { kind ≢ value.Unquoted }
+        requires sound { Sink.is_sound (Sink.view self.old.sink) }
+        ensures ok { IfOk result (λ rest. TakesFront Sink.TokenSink self.old self.new text.now rest.now) }
+        ensures changed { self.new ≡ record self.old { attribute_value = self.new.attribute_value } }
+        ensures utf8 { IfOk result (λ rest. IsUtf8 rest.now) }
+        ensures fault { IfErr result (λ fault. fault ≡ Memory) }
+    {
+        let mut rest = text;
+        while let Some((found, behind)) = self.next_reference(rest) {
+            rest = self.consume_reference(kind, found, behind)?;
+        }
+        Ok(rest)
     }
 
     /// The kind of the value in which a whole name may be read at once: where errors of single characters are not told.

@@ -31,6 +31,7 @@ mod tag_states;
 mod text_runs;
 mod text_states;
 pub mod tokenizer;
+mod whole_tags;
 
 pub use html_queue::{BufferQueue, SetResult, SmallCharSet};
 pub use html_references::{ReferenceRow, References, TableFault};

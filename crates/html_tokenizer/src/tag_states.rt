@@ -1,10 +1,10 @@
 //! Tags up to their attributes, and their end (HTML Standard, sections 13.2.5.8, 13.2.5.32 and 13.2.5.40).
-ghost use Rattle.std.specs.Prelude.{◌≡◌, [], None, IfOk, IfErr, not};
-ghost use Rattle.html_tokens.specs.Tags.{is_empty, is_faulty_end, is_faulty_tag, or_last, own_name};
+ghost use Rattle.std.specs.Prelude.{◌≡◌, [], None, Some, not};
+ghost use Rattle.html_tokens.specs.Tags.{is_empty, is_faulty_end, is_faulty_tag};
 ghost use Rattle.html_tokens.specs.declared.states.State.TheVariants as state;
 ghost use Rattle.html_tokens.specs.declared.tags.TagKind.TheVariants.{EndTag, StartTag};
 ghost use Rattle.html_tokens.specs.Tags.{named};
-ghost use Rattle.markup.specs.declared.fault.ParseFault.TheVariants.{Memory};
+ghost use Rattle.markup.specs.KnownNames.{IsNameAt};
 ghost use Rattle.html_tokenizer.specs.Steps.{IsAt, Keeps, Errs, EndsTag, state_after, answer_to, owed_for};
 ghost use Rattle.html_tokens.specs.Item.{grave_if};
 
@@ -15,7 +15,7 @@ use html_tokenizer_parts::repeats::Repeats;
 use html_tokens::sink::TokenSink;
 use html_tokens::states::State;
 use html_tokens::{ProcessResult, Tag, TagKind, TokenSinkResult};
-use markup::{Attributes, LocalName, ParseFault};
+use markup::{Attributes, KnownName, LocalName, ParseFault};
 use std::alloc::Global;
 
 /// A start tag without a name, which takes no memory.
@@ -39,27 +39,13 @@ fn has_attributes(tag: &Tag) -> bool
 }
 
 impl<Sink: TokenSink> Tokenizer<Sink> {
-    /// The name that the tag that is read leaves as that of the last start tag: a start tag its own.
+    /// Keeps the name of the last start tag.
     #[inline(always)]
-    fn own_name(&self) -> Result<Option<LocalName>, ParseFault>
-        ensures ok { IfOk result (λ name. name ≡ own_name self.now.tag.kind self.now.tag.name) }
-        ensures fault { IfErr result (λ fault. fault ≡ Memory) }
-    {
-        match self.tag.kind {
-            TagKind::StartTag => {
-                let name = self.tag.name.copy(self.stream.alloc)?;
-                Ok(Some(name))
-            }
-            TagKind::EndTag => Ok(None),
-        }
-    }
-
-    /// Keeps a name as that of the last start tag, if there is one.
-    fn keep_last_start_tag(&mut self, name: Option<LocalName>)
+    fn keep_last_start_tag(&mut self, name: LocalName)
         ensures changed { self.new ≡ record self.old { raw_end = self.new.raw_end } }
-        ensures name { self.new.raw_end.name ≡ or_last name self.old.raw_end.name }
+        ensures name { self.new.raw_end.name ≡ Some name }
     {
-        self.raw_end.keep_name(self.stream.alloc, name);
+        self.raw_end.keep_name(self.stream.alloc, Some(name));
     }
 
     /// Tells an error for each attribute of the tag that is read which repeats one before it (section 13.2.5.33).
@@ -130,19 +116,68 @@ impl<Sink: TokenSink> Tokenizer<Sink> {
         }
     }
 
-    /// Hands out the tag that was read.
+    /// Emits the start tag that was read, of whose name a copy is kept.
+    fn emit_start_tag(&mut self) -> Result<ProcessResult<Sink::Handle>, ParseFault>
+        requires kind { self.old.tag.kind ≡ StartTag }
+        requires fresh { self.old.char_ref ≡ None }
+        requires sound { Sink.is_sound (Sink.view self.old.sink) }
+        ensures { EndsTag Sink.TokenSink self.old self.new result }
+    {
+        let name = self.tag.name.copy(self.stream.alloc)?;
+        self.emit_faulty_tag()?;
+        let line = self.line();
+        let reply = self.sink.process_tag(&mut self.tag, line)?;
+        self.keep_last_start_tag(name);
+        Ok(self.follow(reply))
+    }
+
+    /// The same where its name is this known one, of which a copy takes no memory.
+    #[inline(always)]
+    fn emit_known_start_tag(
+        &mut self,
+        known: KnownName,
+    ) -> Result<ProcessResult<Sink::Handle>, ParseFault>
+        requires kind { self.old.tag.kind ≡ StartTag }
+        requires name { IsNameAt known.place self.old.tag.name }
+        requires fresh { self.old.char_ref ≡ None }
+        requires sound { Sink.is_sound (Sink.view self.old.sink) }
+        ensures { EndsTag Sink.TokenSink self.old self.new result }
+    {
+        self.emit_faulty_tag()?;
+        let line = self.line();
+        let reply = self.sink.process_tag(&mut self.tag, line)?;
+        self.keep_last_start_tag(LocalName::from_known(self.stream.alloc, known));
+        Ok(self.follow(reply))
+    }
+
+    /// Emits the end tag that was read.
+    #[inline(always)]
+    fn emit_read_end_tag(&mut self) -> Result<ProcessResult<Sink::Handle>, ParseFault>
+        requires kind { self.old.tag.kind ≡ EndTag }
+        requires fresh { self.old.char_ref ≡ None }
+        requires sound { Sink.is_sound (Sink.view self.old.sink) }
+        ensures { EndsTag Sink.TokenSink self.old self.new result }
+    {
+        self.emit_faulty_tag()?;
+        let line = self.line();
+        let reply = self.sink.process_tag(&mut self.tag, line)?;
+        Ok(self.follow(reply))
+    }
+
+    /// Emits the tag that was read.
     #[inline(always)]
     pub(crate) fn emit_tag(&mut self) -> Result<ProcessResult<Sink::Handle>, ParseFault>
         requires fresh { self.old.char_ref ≡ None }
         requires sound { Sink.is_sound (Sink.view self.old.sink) }
         ensures { EndsTag Sink.TokenSink self.old self.new result }
     {
-        let own_name = self.own_name()?;
-        self.emit_faulty_tag()?;
-        let line = self.line();
-        let reply = self.sink.process_tag(&mut self.tag, line)?;
-        self.keep_last_start_tag(own_name);
-        Ok(self.follow(reply))
+        match self.tag.kind {
+            TagKind::EndTag => self.emit_read_end_tag(),
+            TagKind::StartTag => match self.tag.name.known() {
+                Some(known) => self.emit_known_start_tag(known),
+                None => self.emit_start_tag(),
+            },
+        }
     }
 
     /// In a tag's name.

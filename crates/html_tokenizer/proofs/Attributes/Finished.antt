@@ -17,13 +17,16 @@ plain q ns local value name text is empty_ns is_name is_text = rw (is, empty_ns,
 
 -- it is added where the tag has none of its name
 pub added : {K : Type 0} (old : Tokenizer K) (r : Result (Unit {0}) ParseFault) (attrs : List Attribute)
-    (more : Attribute) (name value : List ℕ) → has_attribute old.tag old.attribute_name ≡ false
-    → OnOk r (attrs ≡ old.tag.attrs ++ more ∷ []) → more ≡ attribute old.attribute_name old.attribute_value → name ≡ [] → value ≡ []
-    → OnOk r (record old {
-      tag = record old.tag { attrs = attrs };
-      attribute_name = name;
-      attribute_value = value;
-    } ≡ record old
+    (more : Attribute) (name value : List ℕ) → has_attribute old.tag name ≡ false
+    → OnOk r (attrs ≡ old.tag.attrs ++ more ∷ []) → more ≡ attribute name value
+    → OnOk r (record old { tag = record old.tag { attrs = attrs } } ≡ record old { tag = with_attribute old.tag name value })
+added old (Ok x) attrs more name value missing pushed is = rw (pushed, is, missing) refl
+added old (Err fault) attrs more name value missing pushed is = tt
+
+-- the one that was read was
+pub finished : {K : Type 0} (old new : Tokenizer K) (name value no_name no_value : List ℕ)
+    (r : Result (Unit {0}) ParseFault) → name ≡ old.attribute_name → value ≡ old.attribute_value → no_name ≡ [] → no_value ≡ []
+    → OnOk r (new ≡ record old { tag = with_attribute old.tag name value; attribute_name = no_name; attribute_value = no_value })
+    → OnOk r (new ≡ record old
     { tag = with_attribute old.tag old.attribute_name old.attribute_value; attribute_name = []; attribute_value = [] })
-added old (Ok x) attrs more name value missing pushed is no_name no_value = rw (pushed, is, no_name, no_value, missing) refl
-added old (Err fault) attrs more name value missing pushed is no_name no_value = tt
+finished old new name value no_name no_value r e f n v h = rw (e, f, n, v) at h

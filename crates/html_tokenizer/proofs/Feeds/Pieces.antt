@@ -1,6 +1,6 @@
 -- The input is taken piece by piece.
 use Rattle.std.proofs.Common.{◌≡◌, ◌∙◌, ℕ, ◌<◌, Bool, true, List, [], ◌∷◌, ◌++◌, length, nat_eq, false, Result, Ok, Err, refl}
-use Rattle.std.proofs.Common.{sym, ap, arith, append_assoc, subst, Option, Some}
+use Rattle.std.proofs.Common.{sym, ap, arith, append_assoc, length-append, subst, Option, Some}
 use Rattle.std.specs.Result.{IsErrAnd}
 use Rattle.std.proofs.lemmas.Result.{err_from_is_err_and}
 use Rattle.markup.specs.declared.fault.ParseFault.{ParseFault}
@@ -140,6 +140,63 @@ module _ {K H : Type 0} (Sink : Ghosts K H) where
     failed = m.failed ∙ h.failed;
     exact = m.exact ∙ h.exact;
   }
+
+  -- a step that goes on
+  step-going : (old new : Tokenizer K) (from to : Queue) → Moved Sink old new from to flow.Continue → Going old new from to
+  step-going old new from to m = record {
+    taken = m.taken;
+    takes = m.takes;
+    came = m.came;
+    comes = m.comes;
+    owed = m.owed;
+    rises = m.rises;
+    same = m.same;
+    ready = m.ready;
+    stays = m.stays;
+    ended = m.ended;
+    failed = m.failed;
+    exact = m.exact;
+  }
+
+  -- where a step ends so after more characters
+  leaves-more : (result : ProcessResult H) (new : Tokenizer K) (a b : List ℕ) (to : Queue)
+      → Leaves Sink result new b to → Leaves Sink result new (a ++ b) to
+  leaves-more flow.Continue new a b to h = omega (arith, length-append a b)
+  leaves-more flow.Suspend new a b to h = h
+  leaves-more (flow.Script handle) new a b to h = (last-close a b h.0, h.1, h.2)
+  leaves-more (flow.EncodingIndicator label) new a b to h = (last-close a b h.0, h.1, h.2)
+
+  -- two steps are one
+  pub moved-then : (old mid new : Tokenizer K) (from via to : Queue) (result : Result (ProcessResult H) ParseFault)
+      → Moves Sink old mid from via (Ok flow.Continue) → Moves Sink mid new via to result → Moves Sink old new from to result
+  moved-then old mid new from via to (Ok result) first m =
+      let h = step-going old mid from via first in
+      record {
+        taken = h.taken ++ m.taken;
+        takes = takes-more h.taken m.taken from via to h.takes m.takes;
+        came = h.came ++ m.came;
+        comes = both-come old mid new from via to result h m;
+        owed = together m.owed h.owed;
+        rises = both-rise old mid new from via to result h m;
+        same = both-taken old mid new from via to result h m;
+        ready = m.ready;
+        stays = stays-then Sink old.sink mid.sink new.sink h.stays m.stays;
+        ended = m.ended ∙ h.ended;
+        failed = m.failed ∙ h.failed;
+        exact = m.exact ∙ h.exact;
+        left = leaves-more result new h.taken m.taken to m.left;
+      }
+  moved-then old mid new from via to (Err fault) first m =
+      let h = step-going old mid from via first in
+      record {
+        lost = h.taken ++ m.lost;
+        takes = takes-more h.taken m.lost from via to h.takes m.takes;
+        fell = fell-behind Sink old.sink mid.sink new.sink h.stays m.fell;
+        fails = λ notes t.
+            fails-along Sink old.sink new.sink _ _ fault
+            (ap (λ u. to_come Sink old notes u) (append_assoc h.taken m.lost t) ∙ h.same notes (m.lost ++ t))
+            (fails-before Sink old.sink mid.sink new.sink _ fault h.stays (m.fails (more h.owed notes) t));
+      }
 
   -- the call ends where a step ends so
   fed : (old mid new : Tokenizer K) (from via to : Queue) (result : ProcessResult H) (given : TokenizerResult H)

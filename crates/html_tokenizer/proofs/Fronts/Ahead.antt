@@ -1,6 +1,6 @@
 -- Runs that are taken from the front of the input at once where no set of stops bounds them.
-use Rattle.std.proofs.Common.{◌≡◌, ◌≢◌, ◌∙◌, ℕ, ◌<◌, ◌==◌, Bool, true, false, nat_eq, not, List, [], ◌∷◌, ◌++◌, length, take}
-use Rattle.std.proofs.Common.{Some, None, Result, Ok, Err, refl, sym, ap, subst, arith}
+use Rattle.std.proofs.Common.{◌≡◌, ◌≢◌, ◌∙◌, ℕ, ◌<◌, true, false, nat_eq, List, [], ◌∷◌, ◌++◌, length, take}
+use Rattle.std.proofs.Common.{Some, Result, Ok, Err, refl, sym, ap, subst, arith}
 use Rattle.std.specs.Prelude.{All, IfErr, OnOk}
 use Rattle.std.specs.Char.{is_ascii_alphanumeric}
 use Rattle.std.specs.Str.{IsUtf8, chars}
@@ -29,13 +29,13 @@ use Rattle.html_tokenizer.specs.declared.front_runs.RunKind.{RunKind}
 use Rattle.html_tokenizer.specs.declared.front_runs.RunKind.TheVariants.{Named, CdataText, Brackets}
 use Rattle.html_tokenizer.specs.declared.tokenizer.Tokenizer.{Tokenizer}
 use Rattle.html_tokenizer.specs.AheadRuns.{IsAheadRun, IsFrontOf, IsWhere, ReadsRun, ends_run}
-use Rattle.html_tokenizer.specs.Calls.{KeepsRun, TookRun}
-use Rattle.html_tokenizer.specs.Rest.{rows_of, standing, held_at}
-use Rattle.html_tokenizer.specs.Steps.{Emitted, IsAt, Tells, nothing_owed}
+use Rattle.html_tokenizer.specs.Calls.{KeepsRun}
+use Rattle.html_tokenizer.specs.Rest.{rows_of, held_at}
+use Rattle.html_tokenizer.specs.Steps.{IsAt, Tells, nothing_owed}
 use Rattle.html_tokenizer.proofs.HeldReferences.Ambiguous.{run-kept_unknown, unnamed, unnamed-at}
 use Rattle.html_tokenizer.proofs.HeldReferences.AmbiguousStates.{named-held, value-more}
 use Rattle.html_tokenizer.proofs.HeldReferences.InText.{data-reads, rcdata-reads}
-use Rattle.html_tokenizer.proofs.Steps.Keeping.{fell-same, fits-at}
+use Rattle.html_tokenizer.proofs.Steps.Keeping.{fell-same}
 use Rattle.html_tokenizer.proofs.Text.CdataSections.{brackets-run_says, cdata-text_says}
 use Rattle.html_tokenizer.proofs.Text.Runs.{RunSays, held-kept, place-says, run-held, run-kept}
 

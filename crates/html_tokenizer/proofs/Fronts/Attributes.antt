@@ -1,6 +1,6 @@
 -- Attributes that are taken from the front of a text at once: what is taken is what the states would have taken, character by character.
-use Rattle.std.proofs.Common.{◌≡◌, ◌≢◌, ℕ, ◌<◌, true, false, nat_eq, List, [], ◌∷◌, ◌++◌, length, Some, None, Result, Ok, Err}
-use Rattle.std.proofs.Common.{refl, sym, ap, subst, arith, length-append}
+use Rattle.std.proofs.Common.{◌≡◌, ◌≢◌, ℕ, ◌<◌, true, false, nat_eq, List, [], ◌∷◌, ◌++◌, Some, None, Result, Ok, Err}
+use Rattle.std.proofs.Common.{refl, sym, ap, subst, arith}
 use Rattle.std.specs.Result.{IsErrAnd}
 use Rattle.std.proofs.lemmas.Result.{err_from_is_err_and}
 use Rattle.std.specs.Prelude.{map}
@@ -254,7 +254,7 @@ module _ {K H : Type 0} (Sink : Ghosts K H) where
       (name-behind old fin c cs from.fresh ok lacking
       (unquoted-end Sink old fin (before fin) 32 (Ok flow.Continue) from refl refl (before-took fin from.fresh ok)))
 
-  name-front : (old new : Tokenizer K) (name rest text : List ℕ) → IsInTag old → Sink.is_sound (Sink.view old.sink)
+  pub name-front : (old new : Tokenizer K) (name rest text : List ℕ) → IsInTag old → Sink.is_sound (Sink.view old.sink)
       → IsNameAt name rest text → new ≡ naming (ended old) (chars name) → TakesFront Sink old new text rest
   name-front old new name rest text from ok is e =
       let spelled : chars (32 ∷ name) ≡ 32 ∷ chars name = chars-cons 32 name (omega arith) in
@@ -305,6 +305,26 @@ module _ {K H : Type 0} (Sink : Ghosts K H) where
       (quote-took old kind quote from ok is))
       (run-front begun full value after text whole utf8 (value-unbroken kind (chars value) lacking) run))
 
+  -- characters that stand for themselves were put after a value in quotes
+  pub value-front : (old : Tokenizer K) (kind : AttrValueKind) (taken rest text made : List ℕ) → kind ≢ value.Unquoted
+      → IsAt old (state.AttributeValue kind) → Sink.is_sound (Sink.view old.sink) → text ≡ taken ++ rest → IsUtf8 taken
+      → Lacks (value_stops kind) (chars taken) → made ≡ old.attribute_value ++ chars taken
+      → TakesFront Sink old (record old { attribute_value = made }) text rest
+  value-front old kind taken rest text made quoted from ok whole utf8 lacking e =
+      rw e (run-front old (record old { attribute_value = old.attribute_value ++ chars taken }) taken rest text whole utf8
+      (value-unbroken kind (chars taken) lacking)
+      (value-run Sink old kind (chars taken) quoted from ok (value_stops kind) refl lacking))
+
+  -- the quote that ends a value
+  pub quote-front : (old fin : Tokenizer K) (kind : AttrValueKind) (quote : ℕ) (rest text : List ℕ)
+      → IsAt old (state.AttributeValue kind) → Sink.is_sound (Sink.view old.sink) → quote_of kind ≡ Some quote
+      → text ≡ quote ∷ rest → fin ≡ with_value old old.attribute_value
+      → TakesFront Sink old (record fin { state = state.AfterAttributeValueQuoted }) text rest
+  quote-front old fin kind quote rest text from ok is closes f =
+      let end : Tokenizer K = record (with_value old old.attribute_value) { state = state.AfterAttributeValueQuoted } in
+      rw f (one-front old end quote rest text (quote-plain kind quote is) closes
+      (quoted-close Sink old (with_value old old.attribute_value) kind quote quote from ok is refl refl))
+
   -- the same up to its end
   pub quoted-whole : (old fin : Tokenizer K) (kind : AttrValueKind) (quote : ℕ)
       (value after rest text made : List ℕ) → IsAt old state.BeforeAttributeValue
@@ -315,11 +335,9 @@ module _ {K H : Type 0} (Sink : Ghosts K H) where
   quoted-whole old fin kind quote value after rest text made from ok is whole utf8 lacking e closes f =
       let full : Tokenizer K = valuing old kind made in
       let end : Tokenizer K = record (with_value full made) { state = state.AfterAttributeValueQuoted } in
-      let close : Took Sink full end quote flow.Continue = quoted-close Sink full (with_value full made) kind quote
-      quote (record { state = refl; fresh = from.fresh }) ok is refl refl in
       rw f (fronts-then Sink old full end (quote ∷ text) after rest
       (quoted-front old kind quote value after text made from ok is whole utf8 lacking e)
-      (one-front full end quote rest after (quote-plain kind quote is) closes close))
+      (quote-front full (with_value full made) kind quote rest after (record { state = refl; fresh = from.fresh }) ok is closes refl))
 
   -- a value without quotes, of which each character stands for itself
   plain-took : (old : Tokenizer K) (c : ℕ) (cs : List ℕ) → IsAt old state.BeforeAttributeValue
@@ -355,7 +373,7 @@ module _ {K H : Type 0} (Sink : Ghosts K H) where
   -- ATTRIBUTES
 
   -- one more was taken
-  pub attributes-more : (old mid named new : Tokenizer K) (name after rest from text : List ℕ) → IsInTag mid
+  attributes-more : (old mid named new : Tokenizer K) (name after rest from text : List ℕ) → IsInTag mid
       → TakesFront Sink old mid text from → IsNameAt name after from → named ≡ naming (ended mid) (chars name)
       → TakesFront Sink named new after rest → TakesFront Sink old new text rest
   attributes-more old mid named new name after rest from text at front is e more =
@@ -368,12 +386,6 @@ module _ {K H : Type 0} (Sink : Ghosts K H) where
       → TakesFront Sink named new after rest → TakesFront Sink old new text rest
   attribute-taken old named new name after rest text at sound is e front = attributes-more old old named new name
       after rest text text at (attributes-begin old text at sound) is e front
-
-  -- and what is left of the text is shorter
-  pub attribute-shorter : (named new : Tokenizer K) (name after rest text : List ℕ) → IsNameAt name after text
-      → TakesFront Sink named new after rest → length rest < length text
-  attribute-shorter named new name after rest text is front =
-      omega (arith, ap length is.whole, length-append name after, ap length front.whole, length-append front.front rest)
 
 -- in a tag where errors of single characters are not told, what comes may be taken at once
 pub in-tag-ahead : {K : Type 0} (k : Tokenizer K) → IsInTag k → k.stream.exact_errors ≡ false

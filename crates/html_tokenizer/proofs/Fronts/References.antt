@@ -1,5 +1,5 @@
 -- References by name that are read from the front of a text at once.
-use Rattle.std.proofs.Common.{◌≡◌, ◌∙◌, ℕ, ◌-◌, ◌<◌, true, false, nat_eq, Bool, List, [], ◌∷◌, ◌++◌, length, take, drop, ◌+◌}
+use Rattle.std.proofs.Common.{◌≡◌, ◌∙◌, ℕ, ◌-◌, ◌<◌, true, false, nat_eq, List, [], ◌∷◌, ◌++◌, length, take, drop, ◌+◌}
 use Rattle.std.proofs.Common.{Some, Option, Result, Ok, Err, refl, sym, ap, subst, arith, append_assoc, append-nil}
 use Rattle.std.proofs.Common.{length-append}
 use Rattle.std.specs.List.{ends_with, list_all, slice_range}

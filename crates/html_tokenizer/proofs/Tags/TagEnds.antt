@@ -1,5 +1,5 @@
 -- A tag that was read is told, and the machine goes where the reply has it.
-use Rattle.std.proofs.Common.{◌≡◌, ◌∙◌, ℕ, List, None, Result, Ok, refl, sym, ap, subst}
+use Rattle.std.proofs.Common.{◌≡◌, ◌∙◌, ℕ, List, Option, Some, None, Result, Ok, refl, sym, ap, subst}
 use Rattle.std.specs.Result.{IsErrAnd}
 use Rattle.std.proofs.lemmas.Result.{err_from_is_err_and}
 use Rattle.markup.specs.declared.fault.ParseFault.{ParseFault}
@@ -7,6 +7,7 @@ use Rattle.html_tokens.specs.declared.replies.ProcessResult.{ProcessResult}
 use Rattle.html_tokens.specs.declared.replies.TokenSinkResult.{TokenSinkResult}
 use Rattle.html_tokens.specs.declared.replies.TokenSinkResult.TheVariants as reply
 use Rattle.html_tokens.specs.declared.tags.Tag.{Tag}
+use Rattle.html_tokens.specs.declared.tags.TagKind.TheVariants.{EndTag, StartTag}
 use Rattle.html_tokens.specs.declared.token.Token.TheVariants.{TagToken}
 use Rattle.html_tokens.specs.declared.sink.TokenSink.{Ghosts}
 use Rattle.html_tokens.specs.Item.{grave_if, InData, Stand}
@@ -23,6 +24,13 @@ use Rattle.html_tokenizer.specs.Steps.{and_heard, reads}
 use Rattle.html_tokenizer.proofs.Steps.Keeping.{at, fits-at, now-at, stays-then, fell-behind, fails-before}
 use Rattle.html_tokenizer.proofs.Errors.Rises.{heard-more, rises-heard}
 use Rattle.html_tokenizer.proofs.Steps.Lawful.{erred-more}
+
+-- the name that a start tag leaves as that of the last start tag, and an end tag
+pub start-name : (tag : Tag) (last : Option (List ℕ)) → tag.kind ≡ StartTag → last_name tag.kind tag.name last ≡ Some tag.name
+start-name tag last is = ap (λ kind. last_name kind tag.name last) is
+
+pub end-name : (tag : Tag) (last : Option (List ℕ)) → tag.kind ≡ EndTag → last_name tag.kind tag.name last ≡ last
+end-name tag last is = ap (λ kind. last_name kind tag.name last) is
 
 module _ {K H : Type 0} (Sink : Ghosts K H) where
   -- a tag's fault is noted

@@ -1,7 +1,7 @@
-use Rattle.std.proofs.Common.{◌<◌, length, refl, subst, sym}
+use Rattle.std.proofs.Common.{◌<◌, ◌∙◌, ap, length, refl, subst, sym}
 use Rattle.html_tokenizer.specs.Fronts.{TakesFront}
 use Rattle.html_tokens.specs.declared.states.State.TheVariants as state
-use Rattle.html_tokenizer.proofs.Fronts.Moves.{goes-on_by, heeding, moved-front, not-fronted, skip-cut}
+use Rattle.html_tokenizer.proofs.Fronts.Moves.{heeding, moved-front, not-fronted, skip-cut}
 use Rattle.html_tokenizer.proofs.tokenizer.Tokenizer.move_by_tag.Goals as goal
 
 pub skip-requires : goal.skip-requires
@@ -12,10 +12,19 @@ skip-requires g c =
     (subst (λ u. TakesFront m (heeding m c.args.self.now) c.consume_opening.new.self u c.in_ok-rest.rest.now)
     (sym c.in-Some.ensures.0) c.in_ok-rest.ensures.ok)
 
+pub move_to_end-requires-clause-sound : goal.move_to_end-requires-clause-sound
+move_to_end-requires-clause-sound g c = c.in_ok-rest.ensures.ok.took.sound
+
+pub move_to_end-requires-clause-unmarked : goal.move_to_end-requires-clause-unmarked
+move_to_end-requires-clause-unmarked g c = ap (λ s. s.discard_bom) c.in_ok-rest.ensures.ok.took.stream ∙ c.requires.tags.unmarked
+
+pub move_to_end-requires-clause-heeds : goal.move_to_end-requires-clause-heeds
+move_to_end-requires-clause-heeds g c = ap (λ s. s.ignore_lf) c.in_ok-rest.ensures.ok.took.stream
+
 pub returns : goal.returns
 returns g c =
     let m = g.Sink.TokenSink in
-    goes-on_by m c.args.self.now c.consume_opening.new.self c.args.input.now c.skip.new.self c.args.answer.now c.requires.goes_on
+    c.move_to_end.ensures c.args.self.now c.args.input.now
     (moved-front m state.Data c.args.self.now c.consume_opening.new.self c.args.input.now c.skip.new.self
     c.as_str-text.result.now _ c.in_ok-rest.rest.now _ c.requires.tags c.as_str-text.ensures refl
     (subst (λ u. length c.in_ok-rest.rest.now < length u) (sym c.in-Some.ensures.0) c.in_ok-rest.ensures.shorter)

@@ -21,7 +21,7 @@ returns g c =
     (reference-taken m (heeding m c.args.self.now) c.consume_whole_name.new.self c.in-Some.name.now
     c.in-Some.rest.now c.as_str-text.result.now _
     (reference-spells m c.in-Some.name.now c.in-Some.rest.now c.as_str-text.result.now c.in-Some.ensures)
-    whole.name.held (c.in_ok-consume_whole_name.ensures _ whole))
+    whole.name.held (c.in_ok-consume_whole_name.ensures.keeps _ whole))
     c.skip.ensures)
 
 pub returns-in_err-consume_whole_name : goal.returns-in_err-consume_whole_name
@@ -32,4 +32,4 @@ returns-in_err-consume_whole_name g c =
     c.args.input.now c.skip.new.self c.in-Some.name.now c.in-Some.rest.now c.as_str-text.result.now _ _ _ _
     c.args.answer.now c.from_residual.result c.requires.value c.as_str-text.ensures refl
     (reference-spells m c.in-Some.name.now c.in-Some.rest.now c.as_str-text.result.now c.in-Some.ensures)
-    whole.name.held c.skip.ensures (c.in_err-consume_whole_name.ensures _ whole) c.from_residual.ensures.1
+    whole.name.held c.skip.ensures (c.in_err-consume_whole_name.ensures.keeps _ whole) c.from_residual.ensures.1
