@@ -86,6 +86,7 @@ impl<Sink: TokenSink> Tokenizer<Sink> {
     }
 
     /// Tells the errors of the tag that is read, if it is faulty.
+    #[inline(always)]
     fn emit_faulty_tag(&mut self) -> Result<(), ParseFault>
         requires sound { Sink.is_sound (Sink.view self.old.sink) }
         ensures { Errs Sink.TokenSink (owed_for (grave_if (is_faulty_tag self.old.tag))) self.old self.new result }

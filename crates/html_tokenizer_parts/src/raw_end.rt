@@ -49,6 +49,7 @@ impl RawEnd {
     }
 
     /// Keeps a name as that of the last start tag, if there is one.
+    #[inline(always)]
     pub fn keep_name(&mut self, alloc: Global, name: Option<LocalName>)
         ensures { self.new.name ≡ or_last name self.old.name }
     {
