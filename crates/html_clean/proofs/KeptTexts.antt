@@ -70,7 +70,7 @@ some-passed (c ∷ cs) h = refl
 
 -- THE FIRST TWO CHARACTERS
 
-empty-is : (xs : List ℕ) → length xs ≡ 0 → xs ≡ []
+pub empty-is : (xs : List ℕ) → length xs ≡ 0 → xs ≡ []
 empty-is [] h = refl
 empty-is (x ∷ xs) h = absurd cc
 

@@ -13,3 +13,4 @@ pub mod Read
 pub mod Stays
 pub mod Noted
 pub mod PlainTexts
+pub mod ValueTexts

@@ -1,6 +1,8 @@
 -- Which word of a policy is never kept.
-use Rattle.std.specs.Prelude.{ℕ, cond, List, [], ◌∷◌, Option, Some, None}
-use Rattle.html_clean.specs.Names.{is_fragment_name, is_safe_attribute, is_safe_name, is_safe_scheme}
+use Rattle.std.specs.Prelude.{ℕ, cond, ◌&&◌, not, List, [], ◌∷◌, Option, Some, None}
+use Rattle.html_clean.specs.Names.{is_fragment_name, is_safe_attribute, is_safe_beginning, is_safe_name, is_safe_scheme}
+use Rattle.html_clean.specs.Policies.{has_url}
+use Rattle.html_clean.specs.declared.policy.Addition.{Addition}
 use Rattle.html_clean.specs.declared.policy.Policy.{Policy}
 use Rattle.html_clean.specs.declared.policy.Rule.{Rule}
 
@@ -24,10 +26,23 @@ abbrev pub unsafe_scheme : List (List ℕ) → Option (List ℕ)
 unsafe_scheme [] = None
 unsafe_scheme (scheme ∷ schemes) = cond (is_safe_scheme scheme) (unsafe_scheme schemes) (Some scheme)
 
--- the first word that is never kept: of elements, then of attributes of rules, then of attributes of all, then of schemes
+abbrev pub unsafe_beginning : List (List ℕ) → Option (List ℕ)
+unsafe_beginning [] = None
+unsafe_beginning (text ∷ texts) = cond (is_safe_beginning text) (unsafe_beginning texts) (Some text)
+
+-- the first name of an attribute that is never added
+abbrev pub unsafe_addition : Policy → List Addition → Option (List ℕ)
+unsafe_addition policy [] = None
+unsafe_addition policy (addition ∷ rest) =
+    cond (is_safe_attribute addition.name && not (has_url policy addition.name)) (unsafe_addition policy rest) (Some addition.name)
+
+-- the first word that is never kept: of elements, then of attributes of rules, of attributes of all, of beginnings of their names, of
+-- attributes that are added, then of schemes
 abbrev pub never_kept : Policy → Option (List ℕ)
 never_kept policy = or_else (unsafe_element policy.kept.items)
-    (or_else (unsafe_in_rules policy.kept.items) (or_else (unsafe_attribute policy.everywhere.items) (unsafe_scheme policy.schemes.items)))
+    (or_else (unsafe_in_rules policy.kept.items) (or_else (unsafe_attribute policy.everywhere.items)
+    (or_else (unsafe_beginning policy.beginnings.items)
+    (or_else (unsafe_addition policy policy.added.items) (unsafe_scheme policy.schemes.items)))))
 
 -- the first rule's element that is one of the page itself
 abbrev pub page_element : List Rule → Option (List ℕ)

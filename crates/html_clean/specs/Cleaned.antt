@@ -1,8 +1,9 @@
 -- What cleaning leaves of trees, and the pieces that it is written as.
-use Rattle.std.specs.Prelude.{ℕ, Bool, true, false, ◌&&◌, ◌||◌, not, List, [], ◌∷◌}
-use Rattle.std.specs.List.{list_all}
+use Rattle.std.specs.Prelude.{ℕ, Bool, true, false, ◌&&◌, ◌||◌, not, List, [], ◌∷◌, drop, length}
+use Rattle.std.specs.List.{list_all, starts_with}
 use Rattle.std.specs.Str.{bytes_eq}
 use Rattle.markup.specs.Attributes.{are_distinct}
+use Rattle.markup.specs.Equality.{attribute_eq}
 use Rattle.markup.specs.Trees.{Trees, Nothing, Text, Comment, ProcessingInstruction, Doctype, Element, is_html}
 use Rattle.markup.specs.declared.attributes.Attribute.{Attribute}
 use Rattle.markup.specs.declared.names.QualName.{QualName}
@@ -10,7 +11,8 @@ use Rattle.html_round_trip.specs.Slices.Forms.{is_no_text}
 use Rattle.html_clean.specs.Pieces as piece
 use Rattle.html_clean.specs.Pieces.{Piece}
 use Rattle.html_clean.specs.Names.{is_void}
-use Rattle.html_clean.specs.Policies.{fate, is_kept_attribute, is_kept_name, is_plain_character, kept_attributes, plain_text, without_marks}
+use Rattle.html_clean.specs.Policies.{added_attributes, fate, is_kept_attribute, is_kept_name, is_plain_character, kept_attributes}
+use Rattle.html_clean.specs.Policies.{plain_text, without_marks}
 use Rattle.html_clean.specs.declared.elements.Fate.{Fate}
 use Rattle.html_clean.specs.declared.elements.Fate.TheVariants.{Kept, Dropped, Unwrapped}
 use Rattle.html_clean.specs.declared.policy.Policy.{Policy}
@@ -67,9 +69,12 @@ is_nothing _ = false
 abbrev pub is_lawful_attribute : Policy → List ℕ → Attribute → Bool
 is_lawful_attribute policy element a = is_kept_attribute policy element a && list_all is_plain_character a.value
 
--- attributes that an element may have, of which no two have one name
+-- the attributes that are added to an element, and then such that it may have, of which no two have one name
 abbrev pub are_lawful_attributes : Policy → List ℕ → List Attribute → Bool
-are_lawful_attributes policy element attributes = list_all (is_lawful_attribute policy element) attributes && are_distinct attributes
+are_lawful_attributes policy element attributes =
+    let added = added_attributes policy element in
+    starts_with attribute_eq attributes added
+    && (list_all (is_lawful_attribute policy element) (drop (length added) attributes) && are_distinct attributes)
 
 -- a text that is not empty and has neither U+0000 nor U+000D
 abbrev pub is_lawful_text : List ℕ → Bool

@@ -6,7 +6,7 @@ use Rattle.markup.specs.declared.attributes.Attribute.{Attribute}
 use Rattle.markup.specs.declared.serializer.SerializeFault.{SerializeFault}
 use Rattle.markup.specs.Calls.Call.{StartElem, WriteComment, WriteProcessingInstruction}
 use Rattle.html_clean.specs.Calls.{hides, open_after}
-use Rattle.html_clean.specs.Policies.{fate, kept_attributes}
+use Rattle.html_clean.specs.Policies.{added_attributes, fate, kept_attributes}
 use Rattle.html_clean.specs.declared.counts.Cleaned.{Cleaned}
 use Rattle.html_clean.specs.declared.elements.Fate.{Fate}
 use Rattle.html_clean.specs.declared.elements.Fate.TheVariants.{Kept, Dropped, Unwrapped}
@@ -28,9 +28,10 @@ abbrev pub comment_counted : Bool → Cleaned → Cleaned
 comment_counted true counts = counts
 comment_counted false counts = record counts { comments = counted_up counts.comments 1 }
 
--- how many attributes of an element aren't kept
+-- how many attributes of an element aren't kept; those that are added in their place are none of them
 abbrev pub lost_attributes : Policy → List ℕ → List Attribute → ℕ
-lost_attributes policy element attributes = length attributes - length (kept_attributes policy element attributes)
+lost_attributes policy element attributes =
+    length attributes - (length (kept_attributes policy element attributes) - length (added_attributes policy element))
 
 -- after a call
 abbrev pub counted : Policy → List Opened → Cleaned → Call → Cleaned

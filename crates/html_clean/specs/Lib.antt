@@ -14,3 +14,4 @@ pub mod Written
 pub mod Ready
 pub mod Checks
 pub mod Rows
+pub mod Values

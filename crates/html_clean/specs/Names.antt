@@ -4,6 +4,7 @@ use Rattle.std.specs.List.{list_all}
 use Rattle.std.specs.Prelude.{ℕ, Bool, false, ◌&&◌, ◌||◌, not, nat_eq, List, [], ◌∷◌, Option, Some, None, codes}
 use Rattle.markup.specs.Trees.{is_among, void_names}
 use Rattle.html_round_trip.specs.Slices.Forms.{is_attribute_name}
+use Rattle.html_tokens.specs.Clean.{is_clean_in_name}
 
 -- Elements of HTML (HTML Standard, section 4, and section 16.2 for those that are obsolete). These are not among them, and so never
 -- kept: `script`, `style`, `xmp`, `iframe`, `noembed`, `noframes`, `plaintext`, `title`, `textarea` and `noscript`, after whose start
@@ -58,6 +59,10 @@ begins_with_on text = are_first (λ c. nat_eq c 111) (λ c. nat_eq c 110) (first
 -- lower-case letters, digits and hyphens, but none of these
 unfoldable pub is_safe_attribute : List ℕ → Bool
 is_safe_attribute name = is_attribute_name name && (not (begins_with_on name) && not (is_among name unsafe_attributes))
+
+-- what such a name may begin with
+abbrev pub is_safe_beginning : List ℕ → Bool
+is_safe_beginning text = list_all is_clean_in_name text && not (begins_with_on text)
 
 -- schemes of URLs that name what is run, or shown as a document of its own
 abbrev pub unsafe_schemes : List (List ℕ)

@@ -1,5 +1,5 @@
 -- What a policy keeps.
-use Rattle.std.specs.Prelude.{ℕ, Bool, true, false, cond, ◌&&◌, ◌||◌, not, nat_eq, List, [], ◌∷◌, ◌++◌, is_none}
+use Rattle.std.specs.Prelude.{ℕ, Bool, true, false, cond, ◌&&◌, ◌||◌, not, nat_eq, List, [], ◌∷◌, ◌++◌, None, is_none}
 use Rattle.std.specs.List.{filter, list_any}
 use Rattle.std.specs.Str.{bytes_eq}
 use Rattle.markup.specs.Attributes.{has_local_name}
@@ -9,10 +9,12 @@ use Rattle.markup.specs.declared.names.QualName.{QualName}
 use Rattle.html_round_trip.specs.Slices.Forms.{is_no_text}
 use Rattle.html_clean.specs.Names.{is_safe_attribute, is_safe_name, is_url_attribute, unsafe_schemes}
 use Rattle.html_clean.specs.Urls.{url_kind}
+use Rattle.html_clean.specs.Values.{begins_with_one, meets_all, value_left}
 use Rattle.html_clean.specs.declared.elements.Fate.{Fate}
 use Rattle.html_clean.specs.declared.elements.Fate.TheVariants.{Kept, Dropped, Unwrapped}
 use Rattle.html_clean.specs.declared.url.UrlKind.{UrlKind}
 use Rattle.html_clean.specs.declared.url.UrlKind.TheVariants.{HasHost, HasScheme, IsRelative}
+use Rattle.html_clean.specs.declared.policy.Addition.{Addition}
 use Rattle.html_clean.specs.declared.policy.Policy.{Policy}
 use Rattle.html_clean.specs.declared.policy.Rule.{Rule}
 
@@ -81,7 +83,8 @@ is_in_rule rules element name = list_any (gives element name) rules
 
 -- whether an element may have an attribute of that name
 abbrev pub is_named_for : Policy → List ℕ → List ℕ → Bool
-is_named_for policy element name = is_among name policy.everywhere.items || is_in_rule policy.kept.items element name
+is_named_for policy element name =
+    is_among name policy.everywhere.items || (is_in_rule policy.kept.items element name || begins_with_one policy.beginnings.items name)
 
 -- a name that may be kept, without prefix and namespace
 abbrev pub is_safe_attribute_name : QualName → Bool
@@ -95,24 +98,48 @@ has_url policy name = is_url_attribute name || is_among name policy.urls.items
 abbrev pub is_kept_attribute : Policy → List ℕ → Attribute → Bool
 is_kept_attribute policy element a =
     is_safe_attribute_name a.name
-    && (is_named_for policy element a.name.local && (not (has_url policy a.name.local) || is_kept_kind policy (url_kind a.value)))
+    && ((is_named_for policy element a.name.local && (not (has_url policy a.name.local) || is_kept_kind policy (url_kind a.value)))
+    && meets_all policy.values.items element a.name.local a.value)
 
-abbrev pub plain_attribute : Attribute → Attribute
-plain_attribute a = record a { value = plain_text a.value }
+-- an attribute with what the rules for its value leave, without U+0000 and U+000D
+abbrev pub left_attribute : Policy → List ℕ → Attribute → Attribute
+left_attribute policy element a = record a { value = plain_text (value_left policy.values.items element a.name.local a.value) }
 
 abbrev pub added_if : Bool → List Attribute → Attribute → List Attribute
 added_if true kept a = kept ++ a ∷ []
 added_if false kept a = kept
 
--- attributes with one more, with its plain value, if it is kept and none of its name was
+-- whether a policy adds an attribute to an element
+abbrev pub adds : Policy → List ℕ → Addition → Bool
+adds policy element addition =
+    bytes_eq element addition.element && (is_safe_attribute addition.name && not (has_url policy addition.name))
+
+abbrev pub attribute_of : Addition → Attribute
+attribute_of addition = record { name = record { prefix = None; ns = []; local = addition.name }; value = plain_text addition.value }
+
+-- attributes with one that is added, if it is and none of its name was
+abbrev pub with_addition : Policy → List ℕ → List Attribute → Addition → List Attribute
+with_addition policy element added addition = added_if (adds policy element addition
+    && not (has_local_name addition.name added)) added (attribute_of addition)
+
+abbrev pub with_additions : Policy → List ℕ → List Attribute → List Addition → List Attribute
+with_additions policy element added [] = added
+with_additions policy element added (addition ∷ rest) = with_additions policy element (with_addition policy element added addition) rest
+
+-- the attributes that a policy adds to an element: of those of one name the first
+abbrev pub added_attributes : Policy → List ℕ → List Attribute
+added_attributes policy element = with_additions policy element [] policy.added.items
+
+-- attributes with what is left of one more, if it is kept and none of its name was
 abbrev pub kept_with : Policy → List ℕ → List Attribute → Attribute → List Attribute
-kept_with policy element kept a = added_if (is_kept_attribute policy element (plain_attribute a)
-    && not (has_local_name a.name.local kept)) kept (plain_attribute a)
+kept_with policy element kept a = added_if (is_kept_attribute policy element (left_attribute policy element a)
+    && not (has_local_name a.name.local kept)) kept (left_attribute policy element a)
 
 -- those that are kept after others: of those of one name the first
 abbrev pub kept_after : Policy → List ℕ → List Attribute → List Attribute → List Attribute
 kept_after policy element kept [] = kept
 kept_after policy element kept (a ∷ rest) = kept_after policy element (kept_with policy element kept a) rest
 
+-- those that are added, and those that are kept after them
 abbrev pub kept_attributes : Policy → List ℕ → List Attribute → List Attribute
-kept_attributes policy element attributes = kept_after policy element [] attributes
+kept_attributes policy element attributes = kept_after policy element (added_attributes policy element) attributes

@@ -1,11 +1,33 @@
 -- The policy that is ready.
-use Rattle.std.specs.Prelude.{◌≡◌, ℕ, false, true, List, [], ◌∷◌, codes, map}
+use Rattle.std.specs.Prelude.{◌≡◌, ℕ, false, true, List, [], ◌∷◌, codes, map, Option, Some, None}
+use Rattle.html_clean.specs.declared.policy.Addition.{Addition}
+use Rattle.html_clean.specs.declared.policy.Allowed.{Allowed}
+use Rattle.html_clean.specs.declared.policy.Allowed.TheVariants.{OneOf, Words}
+use Rattle.html_clean.specs.declared.policy.ValueRule.{ValueRule}
 use Rattle.html_clean.specs.declared.policy.Policy.{Policy}
 use Rattle.html_clean.specs.declared.policy.Rule.{Rule}
 
 -- the name of a rule's element, and those of its attributes
 abbrev pub rule_names : Rule → List ℕ × List (List ℕ)
 rule_names rule = (rule.element, rule.attributes.items)
+
+-- the element, the name and the value of an attribute that is added
+abbrev pub addition_parts : Addition → List ℕ × (List ℕ × List ℕ)
+addition_parts addition = (addition.element, (addition.name, addition.value))
+
+-- the element and the attribute that a rule for values is for, and what it allows
+abbrev pub value_rule_parts : ValueRule → Option (List ℕ) × (List ℕ × Allowed)
+value_rule_parts rule = (rule.element, (rule.attribute, rule.allowed))
+
+-- the texts of which a value has to be one
+abbrev pub texts_in : Allowed → Option (List (List ℕ))
+texts_in (OneOf texts) = Some texts.items
+texts_in _ = None
+
+-- the words that are kept, and the beginnings of words
+abbrev pub words_in : Allowed → Option (List (List ℕ) × List (List ℕ))
+words_in (Words words beginnings) = Some (words.items, beginnings.items)
+words_in _ = None
 
 -- what ammonia keeps by default
 abbrev pub ready_rules : List (List ℕ × List (List ℕ))
@@ -53,6 +75,9 @@ pub record IsTextAndLinks (policy : Policy) : Type 0 where
   pub kept : map rule_names policy.kept.items ≡ ready_rules
   pub dropped : policy.dropped.items ≡ ready_dropped
   pub everywhere : policy.everywhere.items ≡ codes "lang" ∷ codes "title" ∷ []
+  pub beginnings : policy.beginnings.items ≡ []
+  pub values : policy.values.items ≡ []
+  pub added : policy.added.items ≡ []
   pub urls : policy.urls.items ≡ []
   pub schemes : policy.schemes.items ≡ ready_schemes
   pub relative : policy.allows_relative ≡ true
@@ -62,6 +87,9 @@ pub record IsTextAlone (policy : Policy) : Type 0 where
   pub kept : policy.kept.items ≡ []
   pub dropped : policy.dropped.items ≡ ready_dropped
   pub everywhere : policy.everywhere.items ≡ []
+  pub beginnings : policy.beginnings.items ≡ []
+  pub values : policy.values.items ≡ []
+  pub added : policy.added.items ≡ []
   pub urls : policy.urls.items ≡ []
   pub schemes : policy.schemes.items ≡ []
   pub relative : policy.allows_relative ≡ false

@@ -1,7 +1,8 @@
 //! Which attributes are kept.
 ghost use Rattle.std.specs.Prelude.{◌≡◌, ◌&&◌, IfOk, IfErr, OnOk, is_none};
-ghost use Rattle.html_clean.specs.Policies.{gives, has_url, is_in_rule, is_kept_kind, is_named_for};
-ghost use Rattle.html_clean.specs.Policies.{is_safe_attribute_name, kept_attributes, kept_with};
+ghost use Rattle.html_clean.specs.Policies.{added_attributes, adds, attribute_of, gives, has_url, is_in_rule, is_kept_kind};
+ghost use Rattle.html_clean.specs.Policies.{is_named_for, is_safe_attribute_name, kept_after, kept_with, plain_text, with_addition};
+ghost use Rattle.html_clean.specs.Values.{meets_all, value_left};
 ghost use Rattle.html_clean.specs.Notes.{is_kept_value};
 ghost use Rattle.html_clean.specs.Urls.{url_kind};
 ghost use Rattle.html_round_trip.specs.Slices.Forms.{is_no_text};
@@ -11,10 +12,13 @@ ghost use Rattle.markup.specs.declared.fault.ParseFault.TheVariants.{Memory};
 use crate::elements::is_among;
 use crate::names::{is_safe_attribute, is_unsafe_scheme, is_url_attribute};
 use crate::notes::{Notes, Verdict};
-use crate::policy::{Policy, Rule};
+use crate::policy::{Addition, Policy, Rule};
 use crate::texts::plain_text;
 use crate::url::{UrlKind, url_kind};
-use markup::{Attribute, Attributes, KnownNamespace, LocalName, ParseFault, QualName, Text};
+use crate::values::{begins_with_one, is_text_among, meets_all, value_left};
+use markup::{
+    Attribute, Attributes, KnownNamespace, LocalName, Namespace, ParseFault, QualName, Text,
+};
 use std::alloc::Global;
 
 /// Whether a name has neither a prefix nor a namespace.
@@ -49,14 +53,9 @@ fn is_in_rule(rules: &[Rule], element: &LocalName, name: &LocalName) -> bool
 pub(crate) fn is_named_for(policy: &Policy, element: &LocalName, name: &LocalName) -> bool
     ensures { result ≡ is_named_for policy.now element.now name.now }
 {
-    is_among(name, &policy.everywhere) || is_in_rule(&policy.kept, element, name)
-}
-
-/// Whether a scheme is one of these.
-fn is_scheme_among(scheme: &Text, schemes: &[Text]) -> bool
-    ensures { result ≡ is_among scheme.now schemes.now }
-{
-    schemes.iter().any(|other| *scheme == *other)
+    is_among(name, &policy.everywhere)
+        || is_in_rule(&policy.kept, element, name)
+        || begins_with_one(&policy.beginnings, name.as_str())
 }
 
 /// Whether the value of an attribute of that name is a URL.
@@ -72,7 +71,7 @@ fn is_kept_kind(policy: &Policy, kind: &UrlKind) -> bool
 {
     match kind {
         UrlKind::HasScheme(scheme) => {
-            is_scheme_among(scheme, &policy.schemes) && !is_unsafe_scheme(scheme)
+            is_text_among(scheme, &policy.schemes) && !is_unsafe_scheme(scheme)
         }
         UrlKind::HasHost => policy.allows_hosts,
         UrlKind::IsRelative => policy.allows_relative,
@@ -105,7 +104,42 @@ fn is_kept_value(
     }
 }
 
-/// Adds an attribute with its plain value, if it is kept and none of its name was. The name is judged before the value is copied.
+/// What the rules for values leave of the value of an attribute, without U+0000 and U+000D.
+fn left_value(
+    alloc: Global,
+    policy: &Policy,
+    element: &LocalName,
+    attribute: &Attribute,
+) -> Result<Text, ParseFault>
+    ensures ok { IfOk result (λ left. left ≡ plain_text
+        (value_left policy.now.values.items element.now attribute.now.name.local attribute.now.value)) }
+    ensures fault { IfErr result (λ fault. fault ≡ Memory) }
+{
+    let value = attribute.value.copy(alloc)?;
+    let left = value_left(alloc, &policy.values, element, &attribute.name.local, value)?;
+    plain_text(alloc, left.as_str())
+}
+
+/// Whether an attribute on which there is this verdict is kept with this value, which has to meet the rules for values besides.
+fn is_value_kept(
+    alloc: Global,
+    policy: &Policy,
+    verdict: Verdict,
+    element: &LocalName,
+    name: &LocalName,
+    value: &Text,
+) -> Result<bool, ParseFault>
+    ensures ok { IfOk result (λ kept. kept ≡ (is_kept_value policy.now verdict value.now
+        && meets_all policy.now.values.items element.now name.now value.now)) }
+    ensures fault { IfErr result (λ fault. fault ≡ Memory) }
+{
+    if !is_kept_value(alloc, policy, verdict, value)? {
+        return Ok(false);
+    }
+    meets_all(alloc, &policy.values, element, name, value)
+}
+
+/// Adds what is left of an attribute, if it is kept and none of its name was. The name is judged before the value is copied.
 fn add(
     alloc: Global,
     notes: &mut Notes,
@@ -118,11 +152,12 @@ fn add(
     ensures same { notes.new ≡ notes.old }
 {
     let verdict = notes.verdict(element, &attribute.name);
-    if verdict == Verdict::Refused || kept.has_local_name(&attribute.name.local) {
+    let name = &attribute.name.local;
+    if verdict == Verdict::Refused || kept.has_local_name(name) {
         return Ok(());
     }
-    let value = plain_text(alloc, attribute.value.as_str())?;
-    if is_kept_value(alloc, notes.policy(), verdict, &value)? {
+    let value = left_value(alloc, notes.policy(), element, attribute)?;
+    if is_value_kept(alloc, notes.policy(), verdict, element, name, &value)? {
         kept.push(Attribute {
             name: attribute.name.copy(alloc)?,
             value,
@@ -131,18 +166,72 @@ fn add(
     Ok(())
 }
 
-/// The attributes of an element that are kept.
-pub(crate) fn kept_attributes(
+/// Whether a policy adds an attribute to an element.
+fn adds(policy: &Policy, element: &LocalName, addition: &Addition) -> bool
+    ensures { result ≡ adds policy.now element.now addition.now }
+{
+    *element == addition.element
+        && is_safe_attribute(&addition.name)
+        && !has_url(policy, &addition.name)
+}
+
+/// The attribute that is added.
+fn attribute_of(alloc: Global, addition: &Addition) -> Result<Attribute, ParseFault>
+    ensures ok { IfOk result (λ attribute. attribute ≡ attribute_of addition.now) }
+    ensures fault { IfErr result (λ fault. fault ≡ Memory) }
+{
+    Ok(Attribute {
+        name: QualName::new(None, Namespace::none(), addition.name.copy(alloc)?),
+        value: plain_text(alloc, addition.value.as_str())?,
+    })
+}
+
+/// Adds an attribute that a policy adds, if none of its name was.
+fn add_addition(
+    alloc: Global,
+    policy: &Policy,
+    element: &LocalName,
+    added: &mut Attributes,
+    addition: &Addition,
+) -> Result<(), ParseFault>
+    ensures ok { OnOk result (added.new ≡ with_addition policy.now element.now added.old addition.now) }
+    ensures fault { IfErr result (λ fault. fault ≡ Memory) }
+{
+    if adds(policy, element, addition) && !added.has_local_name(&addition.name) {
+        added.push(attribute_of(alloc, addition)?)?;
+    }
+    Ok(())
+}
+
+/// The attributes that a policy adds to an element.
+pub(crate) fn added_attributes(
+    alloc: Global,
+    policy: &Policy,
+    element: &LocalName,
+) -> Result<Attributes, ParseFault>
+    ensures ok { IfOk result (λ added. added ≡ added_attributes policy.now element.now) }
+    ensures fault { IfErr result (λ fault. fault ≡ Memory) }
+{
+    let mut added = Attributes::new(alloc);
+    for addition in &policy.added {
+        add_addition(alloc, policy, element, &mut added, addition)?;
+    }
+    Ok(added)
+}
+
+/// Attributes, and after them those of an element that are kept.
+pub(crate) fn kept_after(
     alloc: Global,
     notes: &mut Notes,
     element: &LocalName,
+    added: Attributes,
     attributes: &[Attribute],
 ) -> Result<Attributes, ParseFault>
-    ensures ok { IfOk result (λ kept. kept ≡ kept_attributes notes.old element.now attributes.now) }
+    ensures ok { IfOk result (λ kept. kept ≡ kept_after notes.old element.now added attributes.now) }
     ensures fault { IfErr result (λ fault. fault ≡ Memory) }
     ensures same { notes.new ≡ notes.old }
 {
-    let mut kept = Attributes::new(alloc);
+    let mut kept = added;
     for attribute in attributes {
         add(alloc, notes, element, &mut kept, attribute)?;
     }

@@ -1,11 +1,14 @@
 //! Whether each word of a policy can be kept.
 ghost use Rattle.std.specs.Prelude.{◌≡◌, None, Some, IfOk, IfErr, IfSome, IfNone};
 ghost use Rattle.std.specs.Str.{chars};
-ghost use Rattle.html_clean.specs.Checks.{never_kept, never_kept_in_fragment, page_element, unsafe_attribute, unsafe_element};
-ghost use Rattle.html_clean.specs.Checks.{unsafe_in_rules, unsafe_scheme};
+ghost use Rattle.html_clean.specs.Checks.{never_kept, never_kept_in_fragment, page_element, unsafe_addition, unsafe_attribute};
+ghost use Rattle.html_clean.specs.Checks.{unsafe_beginning, unsafe_element, unsafe_in_rules, unsafe_scheme};
 
-use crate::names::{is_fragment_name, is_safe_attribute, is_safe_name, is_safe_scheme};
-use crate::policy::{Policy, Rule};
+use crate::attributes::has_url;
+use crate::names::{
+    is_fragment_name, is_safe_attribute, is_safe_beginning, is_safe_name, is_safe_scheme,
+};
+use crate::policy::{Addition, Policy, Rule};
 use markup::{LocalName, Text};
 
 /// The first element of rules that is never kept.
@@ -60,6 +63,32 @@ fn unsafe_scheme(schemes: &[Text]) -> Option<&Text>
     None
 }
 
+/// The first text with which no attribute's name that may be kept begins.
+fn unsafe_beginning(texts: &[Text]) -> Option<&Text>
+    ensures some { IfSome result (λ text. unsafe_beginning texts.now ≡ Some text.now) }
+    ensures none { IfNone result (unsafe_beginning texts.now ≡ None) }
+{
+    for text in texts {
+        if !is_safe_beginning(text) {
+            return Some(text);
+        }
+    }
+    None
+}
+
+/// The first attribute that is never added.
+fn unsafe_addition<'a>(policy: &'a Policy, added: &'a [Addition]) -> Option<&'a LocalName>
+    ensures some { IfSome result (λ name. unsafe_addition policy.now added.now ≡ Some name.now) }
+    ensures none { IfNone result (unsafe_addition policy.now added.now ≡ None) }
+{
+    for addition in added {
+        if !is_safe_attribute(&addition.name) || has_url(policy, &addition.name) {
+            return Some(&addition.name);
+        }
+    }
+    None
+}
+
 /// The first element of rules that is one of the page itself.
 fn page_element(rules: &[Rule]) -> Option<&LocalName>
     ensures some { IfSome result (λ name. page_element rules.now ≡ Some name.now) }
@@ -75,8 +104,9 @@ fn page_element(rules: &[Rule]) -> Option<&LocalName>
 
 impl Policy {
     /// Whether each element, attribute and scheme that the policy names can be kept, or else the first that never is: of elements, then of
-    /// the attributes of rules, then of the attributes of all elements, then of schemes. A scheme has to stand in lower case and without
-    /// its colon, and is none of `javascript`, `vbscript` and `data`.
+    /// the attributes of rules, of the attributes of all elements, of the beginnings of names, of attributes that are added, then of
+    /// schemes. An attribute that is added has no URL as its value. A scheme has to stand in lower case and without its colon, and is
+    /// none of `javascript`, `vbscript` and `data`.
     pub fn checked(&self) -> Result<(), &str>
         ensures ok { IfOk result (λ _. never_kept self.now ≡ None) }
         ensures err { IfErr result (λ word. never_kept self.now ≡ Some (chars word.now)) }
@@ -88,6 +118,12 @@ impl Policy {
             return Err(name.as_str());
         }
         if let Some(name) = unsafe_attribute(&self.everywhere) {
+            return Err(name.as_str());
+        }
+        if let Some(text) = unsafe_beginning(&self.beginnings) {
+            return Err(text.as_str());
+        }
+        if let Some(name) = unsafe_addition(self, &self.added) {
             return Err(name.as_str());
         }
         match unsafe_scheme(&self.schemes) {

@@ -7,7 +7,7 @@ ghost use Rattle.html_clean.specs.Counts.{lost_attributes};
 ghost use Rattle.html_clean.specs.Policies as policies;
 ghost use Rattle.markup.specs.Calls.Call.{StartElem, EndElem};
 
-use crate::attributes::kept_attributes;
+use crate::attributes::{added_attributes, kept_after};
 use crate::counts::Cleaned;
 use crate::elements::Fate;
 use crate::notes::{Judged, Notes};
@@ -108,14 +108,14 @@ fn opened_by(hidden: bool, fate: Fate, void: bool) -> Opened
     }
 }
 
-/// How many of so many there are not.
-fn lost(all: usize, kept: usize) -> u64
-    ensures { result ≡ all - kept }
+/// How many of so many there are not, where some of those that are kept were added.
+fn lost(all: usize, kept: usize, added: usize) -> u64
+    ensures { result ≡ all - (kept - added) }
 {
-    all.saturating_sub(kept) as u64
+    all.saturating_sub(kept.saturating_sub(added)) as u64
 }
 
-/// Passes on a start tag with the attributes that are kept, and answers how many are not.
+/// Passes on a start tag with the attributes that are added and kept, and answers how many of its own are not kept.
 fn pass_start<S: Serializer>(
     alloc: Global,
     notes: &mut Notes,
@@ -134,12 +134,16 @@ fn pass_start<S: Serializer>(
     if !passes {
         return Ok(0);
     }
-    let Ok(kept) = kept_attributes(alloc, notes, &name.local, attrs) else {
+    let Ok(added) = added_attributes(alloc, notes.policy(), &name.local) else {
+        return Err(SerializeFault::Memory);
+    };
+    let more = added.len();
+    let Ok(kept) = kept_after(alloc, notes, &name.local, added, attrs) else {
         return Err(SerializeFault::Memory);
     };
     let kept = kept.as_slice();
     match serializer.start_elem(name, kept) {
-        Ok(()) => Ok(lost(attrs.len(), kept.len())),
+        Ok(()) => Ok(lost(attrs.len(), kept.len(), more)),
         Err(fault) => Err(fault),
     }
 }

@@ -16,10 +16,11 @@ mod ready;
 pub mod rows;
 mod texts;
 mod url;
+mod values;
 mod write;
 
 pub use counts::Cleaned;
 pub use filter::Filter;
-pub use policy::{Policy, Rule};
+pub use policy::{Addition, Allowed, Policy, Rule, ValueRule};
 pub use url::{UrlKind, url_kind};
 pub use write::{serialize_clean, write_clean};

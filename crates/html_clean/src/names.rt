@@ -229,6 +229,13 @@ fn is_attribute_name(name: &LocalName) -> bool
     !name.is_empty() && has_name_characters(name.as_str())
 }
 
+/// Whether the name of an attribute that may be kept may begin so.
+pub(crate) fn is_safe_beginning(text: &Text) -> bool
+    ensures { result ≡ names.is_safe_beginning text.now }
+{
+    has_name_characters(text.as_str()) && !begins_with_on(text.as_str())
+}
+
 /// Schemes of URLs that are never kept, in the order of their characters: what they name is run, or shown as a document.
 const UNSAFE_SCHEMES: [&str; 3] = ["data", "javascript", "vbscript"];
 

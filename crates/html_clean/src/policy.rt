@@ -1,7 +1,7 @@
 //! What is kept of a document.
-ghost use Rattle.std.specs.Prelude.{◌≡◌, ◌++◌, ◌∷◌, [], map, IfOk, IfErr, OnOk, OnErr};
+ghost use Rattle.std.specs.Prelude.{◌≡◌, ◌++◌, ◌∷◌, [], map, option_map, IfOk, IfErr, OnOk, OnErr};
 ghost use Rattle.std.specs.Str.{chars};
-ghost use Rattle.html_clean.specs.Ready.{rule_names};
+ghost use Rattle.html_clean.specs.Ready.{addition_parts, rule_names, value_rule_parts};
 ghost use Rattle.markup.specs.declared.fault.ParseFault.TheVariants.{Memory};
 
 use markup::{LocalName, ParseFault, Text};
@@ -14,6 +14,49 @@ pub struct Rule {
     pub element: LocalName,
     /// The names of attributes.
     pub attributes: Vec<LocalName>,
+}
+
+/// What the value of an attribute may be.
+#[derive(Drop)]
+pub enum Allowed {
+    /// One of these texts, which stand in lower case; the case of ASCII letters in the value does not matter.
+    OneOf(Vec<Text>),
+    /// Words between ASCII whitespace, as in `class`. Others are taken out, and where none is left the attribute is not kept.
+    Words {
+        /// Words that are kept.
+        words: Vec<Text>,
+        /// Beginnings of words that are kept, such as `language-`.
+        beginnings: Vec<Text>,
+    },
+    /// A number in ASCII digits, from the least to the most. One of more than 32 bits counts as the greatest of 32 bits.
+    Number {
+        /// The least.
+        least: u32,
+        /// The most.
+        most: u32,
+    },
+}
+
+/// A rule for the values of an attribute that is kept.
+#[derive(Drop)]
+pub struct ValueRule {
+    /// The element whose attribute it is for; each element's, if there is none.
+    pub element: Option<LocalName>,
+    /// The attribute's name.
+    pub attribute: LocalName,
+    /// What its value may be.
+    pub allowed: Allowed,
+}
+
+/// An attribute that an element is given, in place of its own of that name.
+#[derive(Drop)]
+pub struct Addition {
+    /// The element's name.
+    pub element: LocalName,
+    /// The attribute's name.
+    pub name: LocalName,
+    /// The attribute's value.
+    pub value: Text,
 }
 
 /// What is kept of a document. An element that is neither kept nor dropped gives way to what stands in it.
@@ -29,6 +72,13 @@ pub struct Policy {
     pub dropped: Vec<LocalName>,
     /// Attributes that each element may have.
     pub everywhere: Vec<LocalName>,
+    /// Beginnings of the names of attributes that each element may have, such as `data-`.
+    pub beginnings: Vec<Text>,
+    /// Rules for values. An attribute is kept where its value meets each rule that is for it.
+    pub values: Vec<ValueRule>,
+    /// Attributes that are added, before those that are kept; of one name for an element the first. No attribute is added that is
+    /// never kept, or whose value is a URL.
+    pub added: Vec<Addition>,
     /// Attributes whose values are URLs, beside those of HTML that have one.
     pub urls: Vec<LocalName>,
     /// The schemes that a URL may have, in lower case; `javascript`, `vbscript` and `data` are never kept.
@@ -79,6 +129,67 @@ impl Policy {
         ensures fault { IfErr result (λ fault. fault ≡ Memory) }
     {
         self.kept.push(Rule::new(alloc, element, attributes)?)?;
+        Ok(())
+    }
+
+    /// Keeps the attributes of each element whose names begin with a text, such as `data-`. After `Memory` the policy is as it was.
+    pub fn keep_beginning(&mut self, alloc: Global, beginning: &str) -> Result<(), ParseFault>
+        ensures ok { OnOk result (self.new.beginnings.items ≡ self.old.beginnings.items ++ chars beginning.now ∷ []) }
+        ensures same { self.new ≡ record self.old { beginnings = self.new.beginnings } }
+        ensures refused { OnErr result (self.new.beginnings.items ≡ self.old.beginnings.items) }
+        ensures fault { IfErr result (λ fault. fault ≡ Memory) }
+    {
+        self.beginnings.push(Text::from_str(alloc, beginning)?)?;
+        Ok(())
+    }
+
+    /// Gives an element an attribute, in place of its own of that name: `add(alloc, "a", "rel", "nofollow")`. After `Memory` the policy
+    /// is as it was.
+    pub fn add(
+        &mut self,
+        alloc: Global,
+        element: &str,
+        name: &str,
+        value: &str,
+    ) -> Result<(), ParseFault>
+        ensures ok { OnOk result (map addition_parts self.new.added.items ≡ map addition_parts self.old.added.items
+            ++ (chars element.now, (chars name.now, chars value.now)) ∷ []) }
+        ensures same { self.new ≡ record self.old { added = self.new.added } }
+        ensures refused { OnErr result (self.new.added.items ≡ self.old.added.items) }
+        ensures fault { IfErr result (λ fault. fault ≡ Memory) }
+    {
+        self.added.push(Addition {
+            element: LocalName::from_str(alloc, element)?,
+            name: LocalName::from_str(alloc, name)?,
+            value: Text::from_str(alloc, value)?,
+        })?;
+        Ok(())
+    }
+
+    /// Limits the values of an attribute, of one element or of each: it is kept only where its value is allowed. After `Memory` the
+    /// policy is as it was.
+    pub fn limit(
+        &mut self,
+        alloc: Global,
+        element: Option<&str>,
+        attribute: &str,
+        allowed: Allowed,
+    ) -> Result<(), ParseFault>
+        ensures ok { OnOk result (map value_rule_parts self.new.values.items ≡ map value_rule_parts self.old.values.items
+            ++ (option_map (λ name. chars name.now) element.entry, (chars attribute.now, allowed)) ∷ []) }
+        ensures same { self.new ≡ record self.old { values = self.new.values } }
+        ensures refused { OnErr result (self.new.values.items ≡ self.old.values.items) }
+        ensures fault { IfErr result (λ fault. fault ≡ Memory) }
+    {
+        let element = match element {
+            Some(name) => Some(LocalName::from_str(alloc, name)?),
+            None => None,
+        };
+        self.values.push(ValueRule {
+            element,
+            attribute: LocalName::from_str(alloc, attribute)?,
+            allowed,
+        })?;
         Ok(())
     }
 }

@@ -138,7 +138,7 @@ const SCHEMES: [&str; 25] = [
 ];
 
 /// The texts of these.
-fn texts_of(alloc: Global, list: &[&str]) -> Result<Vec<Text>, ParseFault>
+pub(crate) fn texts_of(alloc: Global, list: &[&str]) -> Result<Vec<Text>, ParseFault>
     ensures ok { IfOk result (λ texts. texts.items ≡ map (λ text. chars text.now) list.now) }
     ensures fault { IfErr result (λ fault. fault ≡ Memory) }
 {
@@ -201,6 +201,9 @@ impl Policy {
             kept: Vec::new(alloc),
             dropped: names_of(alloc, &DROPPED)?,
             everywhere: Vec::new(alloc),
+            beginnings: Vec::new(alloc),
+            values: Vec::new(alloc),
+            added: Vec::new(alloc),
             urls: Vec::new(alloc),
             schemes: Vec::new(alloc),
             allows_relative: false,
@@ -220,6 +223,9 @@ impl Policy {
             kept: rules(alloc)?,
             dropped: names_of(alloc, &DROPPED)?,
             everywhere: names_of(alloc, &EVERYWHERE)?,
+            beginnings: Vec::new(alloc),
+            values: Vec::new(alloc),
+            added: Vec::new(alloc),
             urls: Vec::new(alloc),
             schemes: texts_of(alloc, &SCHEMES)?,
             allows_relative: true,

@@ -18,6 +18,6 @@ counts_line counts = elements_words counts ++ others_words counts
 
 -- why the program did nothing, or not all
 abbrev pub fault_words : ProgramFault → List ℕ
-fault_words Usage = codes "fault: usage: html_clean [--document] [--element NAME[:ATTRIBUTE,..]] [--attribute NAME] [--scheme NAME] [--table FILE] [FILE].."
+fault_words Usage = codes "fault: usage: html_clean [--document] [--element NAME[:ATTRIBUTE,..]] [--attribute NAME] [--beginning TEXT] [--add ELEMENT:NAME=VALUE] [--scheme NAME] [--table FILE] [FILE].."
 fault_words (Table fault) = table_line fault
 fault_words (Normal fault) = fault_line fault

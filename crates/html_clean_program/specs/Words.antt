@@ -3,18 +3,21 @@ use Rattle.std.specs.Prelude.{◌≡◌, ◌==◌, ℕ, nat_eq, nat_lt, Bool, tr
 use Rattle.std.specs.List.{after_first, before_first, position_or_len, slice_split}
 use Rattle.std.specs.Str.{bytes_eq, chars}
 use Rattle.html_clean.specs.Checks.{never_kept, never_kept_in_fragment}
-use Rattle.html_clean.specs.Ready.{ready_dropped, ready_rules, ready_schemes, rule_names}
+use Rattle.html_clean.specs.Ready.{addition_parts, ready_dropped, ready_rules, ready_schemes, rule_names}
 use Rattle.html_clean.specs.declared.policy.Policy.{Policy}
 use Rattle.html_normal_program.specs.Program.{named}
 use Rattle.html_clean_program.specs.declared.words.Asked.{Asked}
 use Rattle.html_clean_program.specs.declared.words.Takes.{Takes}
-use Rattle.html_clean_program.specs.declared.words.Takes.TheVariants.{Element, Attribute, Scheme, Table}
+use Rattle.html_clean_program.specs.declared.words.Takes.TheVariants.{Element, Attribute, Beginning, Addition, Scheme, Table}
 
--- What is asked for: the elements that are kept, each with its attributes, attributes of all elements, schemes of URLs, whether pages are
--- cleaned as whole documents, the file with the table of references, if one is named, and the files with the pages.
+-- What is asked for: the elements that are kept, each with its attributes, attributes of all elements, beginnings of their names, elements
+-- that are given an attribute, each with its name and value, schemes of URLs, whether pages are cleaned as whole documents, the file with
+-- the table of references, if one is named, and the files with the pages.
 pub record Request : Type 0 where
   pub kept : List (List ℕ × List (List ℕ))
   pub everywhere : List (List ℕ)
+  pub beginnings : List (List ℕ)
+  pub added : List (List ℕ × (List ℕ × List ℕ))
   pub schemes : List (List ℕ)
   pub document : Bool
   pub table : List (List ℕ)
@@ -25,6 +28,8 @@ abbrev pub no_request : Request
 no_request = record {
   kept = ready_rules;
   everywhere = codes "lang" ∷ codes "title" ∷ [];
+  beginnings = [];
+  added = [];
   schemes = ready_schemes;
   document = false;
   table = [];
@@ -42,17 +47,29 @@ abbrev pub rule_of : List ℕ → List ℕ × List (List ℕ)
 rule_of word = cond (nat_lt (position_or_len is_colon word) (length word))
     (chars (before_first is_colon word), map chars (slice_split is_comma (after_first is_colon word))) (chars word, [])
 
+abbrev pub is_equals : ℕ → Bool
+is_equals c = c == 61
+
+-- an element, after a colon the name of an attribute, and after an equals sign its value, as in `a:rel=nofollow`
+abbrev pub addition_of : List ℕ → List ℕ × (List ℕ × List ℕ)
+addition_of word =
+    let attribute = after_first is_colon word in
+    (chars (before_first is_colon word), (chars (before_first is_equals attribute), chars (after_first is_equals attribute)))
+
 -- after an option and its word
 abbrev pub taken : Takes → List ℕ → Request → Request
 taken Element word request = record request { kept = request.kept ++ rule_of word ∷ [] }
 taken Attribute word request = record request { everywhere = request.everywhere ++ chars word ∷ [] }
+taken Beginning word request = record request { beginnings = request.beginnings ++ chars word ∷ [] }
+taken Addition word request = record request { added = request.added ++ addition_of word ∷ [] }
 taken Scheme word request = record request { schemes = request.schemes ++ chars word ∷ [] }
 taken Table word request = record request { table = word ∷ [] }
 
 -- an option that takes the next word
 abbrev pub option_of : List ℕ → Option Takes
 option_of word = cond (bytes_eq word (codes "--element")) (Some Element) (cond (bytes_eq word (codes "--attribute")) (Some Attribute)
-    (cond (bytes_eq word (codes "--scheme")) (Some Scheme) (cond (bytes_eq word (codes "--table")) (Some Table) None)))
+    (cond (bytes_eq word (codes "--beginning")) (Some Beginning) (cond (bytes_eq word (codes "--add")) (Some Addition)
+    (cond (bytes_eq word (codes "--scheme")) (Some Scheme) (cond (bytes_eq word (codes "--table")) (Some Table) None)))))
 
 abbrev pub starts_with_hyphen : List ℕ → Bool
 starts_with_hyphen [] = false
@@ -78,6 +95,9 @@ pub record HasPolicy (policy : Policy) (request : Request) : Type 0 where
   pub kept : map rule_names policy.kept.items ≡ request.kept
   pub dropped : policy.dropped.items ≡ ready_dropped
   pub everywhere : policy.everywhere.items ≡ request.everywhere
+  pub beginnings : policy.beginnings.items ≡ request.beginnings
+  pub values : policy.values.items ≡ []
+  pub added : map addition_parts policy.added.items ≡ request.added
   pub urls : policy.urls.items ≡ []
   pub schemes : policy.schemes.items ≡ request.schemes
   pub relative : policy.allows_relative ≡ true

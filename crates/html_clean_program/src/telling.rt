@@ -11,7 +11,7 @@ use html_normal::ProgramFault;
 use html_normal_program::{put, put_normal_fault, put_numbered, put_table_fault};
 
 const USAGE: &str =
-    "fault: usage: html_clean [--document] [--element NAME[:ATTRIBUTE,..]] [--attribute NAME] [--scheme NAME] [--table FILE] [FILE]..";
+    "fault: usage: html_clean [--document] [--element NAME[:ATTRIBUTE,..]] [--attribute NAME] [--beginning TEXT] [--add ELEMENT:NAME=VALUE] [--scheme NAME] [--table FILE] [FILE]..";
 
 /// Writes how many elements were taken away of a page.
 fn put_elements<Errors: Target>(errors: &mut Errors, counts: Cleaned) -> Result<(), DeviceFault>

@@ -1,14 +1,16 @@
 //! What the words after the program's name ask for.
 ghost use Rattle.std.specs.Prelude.{◌≡◌, ◌⊎◌, ◌++◌, ◌∷◌, [], ℕ, List, None, Some, IfErr, IfOk, OnOk, map};
 ghost use Rattle.std.specs.Bool.{MatchBool};
+ghost use Rattle.std.specs.List.{after_first, before_first};
 ghost use Rattle.std.specs.Str.{chars};
 ghost use Rattle.std.specs.String.{string_bytes};
-ghost use Rattle.html_clean.specs.Ready.{rule_names};
+ghost use Rattle.html_clean.specs.Ready.{addition_parts, rule_names};
 ghost use Rattle.html_normal.specs.declared.fault.NormalFault.TheVariants.{Memory as NoMemory};
 ghost use Rattle.html_normal.specs.declared.program.ProgramFault.TheVariants.{Normal, Usage};
 ghost use Rattle.markup.specs.declared.fault.ParseFault.TheVariants.{Memory};
 ghost use Rattle.html_clean_program.specs.Words.{AsksFor, AsksForRefused, IsAsked, Request};
-ghost use Rattle.html_clean_program.specs.Words.{asked_by, no_request, option_of, refused, rule_of, starts_with_hyphen, taken};
+ghost use Rattle.html_clean_program.specs.Words.{addition_of, asked_by, is_colon, is_equals, no_request, option_of, refused, rule_of};
+ghost use Rattle.html_clean_program.specs.Words.{starts_with_hyphen, taken};
 
 use html_clean::Policy;
 use html_normal::{NormalFault, ProgramFault};
@@ -22,6 +24,10 @@ pub enum Takes {
     Element,
     /// An attribute of all elements.
     Attribute,
+    /// The beginning of names of attributes of all elements.
+    Beginning,
+    /// An element, after a colon the name of an attribute that it is given, and after an equals sign the value.
+    Addition,
     /// A scheme of URLs.
     Scheme,
     /// A file with a table of references.
@@ -63,6 +69,40 @@ fn keep_everywhere(alloc: Global, policy: &mut Policy, word: &str) -> Result<(),
     Ok(())
 }
 
+/// What stands before the first colon, and what after it.
+fn split_at_colon(word: &str) -> (&str, &str)
+    ensures before { result.0.now ≡ before_first is_colon word.now }
+    ensures after { result.1.now ≡ after_first is_colon word.now }
+{
+    match word.split_once(':') {
+        Some(parts) => parts,
+        None => (word, ""),
+    }
+}
+
+/// What stands before the first equals sign, and what after it.
+fn split_at_equals(word: &str) -> (&str, &str)
+    ensures before { result.0.now ≡ before_first is_equals word.now }
+    ensures after { result.1.now ≡ after_first is_equals word.now }
+{
+    match word.split_once('=') {
+        Some(parts) => parts,
+        None => (word, ""),
+    }
+}
+
+/// Gives an element an attribute, as in `a:rel=nofollow`.
+fn add(alloc: Global, policy: &mut Policy, word: &str) -> Result<(), ParseFault>
+    ensures ok { OnOk result (map addition_parts policy.new.added.items ≡ map addition_parts policy.old.added.items
+        ++ addition_of word.now ∷ []) }
+    ensures same { policy.new ≡ record policy.old { added = policy.new.added } }
+    ensures fault { IfErr result (λ fault. fault ≡ Memory) }
+{
+    let (element, attribute) = split_at_colon(word);
+    let (name, value) = split_at_equals(attribute);
+    policy.add(alloc, element, name, value)
+}
+
 /// Allows URLs of a scheme.
 fn allow(alloc: Global, policy: &mut Policy, word: &str) -> Result<(), ParseFault>
     ensures ok { OnOk result (policy.new.schemes.items ≡ policy.old.schemes.items ++ chars word.now ∷ []) }
@@ -86,6 +126,8 @@ fn take<'a>(
     match takes {
         Takes::Element => keep(alloc, &mut asked.policy, word),
         Takes::Attribute => keep_everywhere(alloc, &mut asked.policy, word),
+        Takes::Beginning => asked.policy.keep_beginning(alloc, word),
+        Takes::Addition => add(alloc, &mut asked.policy, word),
         Takes::Scheme => allow(alloc, &mut asked.policy, word),
         Takes::Table => {
             asked.table = Some(word);
@@ -101,6 +143,8 @@ fn option(word: &str) -> Option<Takes>
     match word {
         "--element" => Some(Takes::Element),
         "--attribute" => Some(Takes::Attribute),
+        "--beginning" => Some(Takes::Beginning),
+        "--add" => Some(Takes::Addition),
         "--scheme" => Some(Takes::Scheme),
         "--table" => Some(Takes::Table),
         _ => None,

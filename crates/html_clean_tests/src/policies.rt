@@ -1,7 +1,7 @@
 //! Policies of one's own, what is counted, and faults.
 
 use devices::{MemReader, MemWriter, VecWriter};
-use html_clean::{Cleaned, Policy};
+use html_clean::{Allowed, Cleaned, Policy};
 use html_clean_document::{clean, clean_fragment, clean_fragment_in};
 use html_normal::{Exact, NormalFault, References};
 use markup::{KnownNamespace, LocalName, Namespace, ParseFault, QualName, Text};
@@ -119,6 +119,101 @@ fn a_fragment_stands_in_its_context(rt: HostRuntime) -> Result<(), Fail> {
     );
     assert!(rt; answer == Ok(Cleaned::default()));
     assert!(rt; writer.written() == "<tbody><tr><td>a</td></tr></tbody>".as_bytes());
+    Ok(())
+}
+
+/// What a site for articles may keep: classes of code, `data-` attributes, directions and small numbers; each link is marked.
+fn articles(alloc: Global) -> Result<Policy, ParseFault> {
+    let mut policy = Policy::text_and_links(alloc)?;
+    policy.keep(alloc, "code", &["class"])?;
+    policy.keep_beginning(alloc, "data-")?;
+    let classes = Allowed::words(alloc, &["note"], &["language-"])?;
+    policy.limit(alloc, Some("code"), "class", classes)?;
+    let directions = Allowed::one_of(alloc, &["auto", "ltr", "rtl"])?;
+    policy.limit(alloc, None, "dir", directions)?;
+    let numbers = Allowed::Number { least: 1, most: 99 };
+    policy.limit(alloc, Some("ol"), "start", numbers)?;
+    policy.add(alloc, "a", "rel", "nofollow noopener")?;
+    policy.add(alloc, "a", "rel", "opener")?;
+    Ok(policy)
+}
+
+/// Whether a policy leaves this of a fragment.
+fn writes(alloc: Global, policy: &Policy, page: &str, left: &str) -> bool {
+    let (Ok(mut reader), Ok(five)) = (reader_of(alloc, page), References::five(alloc)) else {
+        return false;
+    };
+    let mut writer = VecWriter::new(alloc);
+    let answer = clean_fragment(
+        alloc,
+        &mut reader,
+        &mut writer,
+        five,
+        Exact::default(),
+        policy,
+    );
+    answer.is_ok() && writer.written() == left.as_bytes()
+}
+
+const ARTICLES: [(&str, &str); 10] = [
+    (
+        "<code class=' language-rust evil\tnote '>x</code>",
+        "<code class=\"language-rust note\">x</code>",
+    ),
+    ("<code class=evil>x</code>", "<code>x</code>"),
+    ("<code class>x</code>", "<code>x</code>"),
+    (
+        "<a rel=opener href=/b title=c>y</a>",
+        "<a rel=\"nofollow noopener\" href=\"/b\" title=\"c\">y</a>",
+    ),
+    ("<a>y</a>", "<a rel=\"nofollow noopener\">y</a>"),
+    (
+        "<p data-x=1 onclick=2 dat=3 DATA-Y=4>z",
+        "<p data-x=\"1\" data-y=\"4\">z</p>",
+    ),
+    ("<ol start=7><li>a</ol>", "<ol start=\"7\"><li>a</li></ol>"),
+    ("<ol start=100><li>a</ol>", "<ol><li>a</li></ol>"),
+    (
+        "<ol start=99999999999999999999><li>a</ol>",
+        "<ol><li>a</li></ol>",
+    ),
+    (
+        "<bdo dir=RTL>x</bdo><bdo dir=up>y</bdo>",
+        "<bdo dir=\"RTL\">x</bdo><bdo>y</bdo>",
+    ),
+];
+
+#[test]
+fn values_are_limited_and_attributes_added(rt: HostRuntime) -> Result<(), Fail> {
+    let alloc = rt.alloc();
+    let policy = articles(alloc)?;
+    assert!(rt; policy.checked_for_fragments().is_ok());
+    for (page, left) in &ARTICLES {
+        assert!(rt; writes(alloc, &policy, page, left), "{}", page);
+    }
+    Ok(())
+}
+
+/// The word that is never kept of a policy for texts, with an attribute that is added to links and a beginning of names.
+fn refused_with(
+    alloc: Global,
+    name: &str,
+    beginning: &str,
+    word: &str,
+) -> Result<bool, ParseFault> {
+    let mut policy = Policy::text_and_links(alloc)?;
+    policy.add(alloc, "a", name, "x")?;
+    policy.keep_beginning(alloc, beginning)?;
+    Ok(policy.checked().err().is_some_and(|first| first == word))
+}
+
+#[test]
+fn events_and_urls_are_never_added(rt: HostRuntime) -> Result<(), Fail> {
+    let alloc = rt.alloc();
+    assert!(rt; refused_with(alloc, "onclick", "data-", "onclick")?);
+    assert!(rt; refused_with(alloc, "href", "data-", "href")?);
+    assert!(rt; refused_with(alloc, "rel", "on", "on")?);
+    assert!(rt; refused_with(alloc, "rel", "Data-", "Data-")?);
     Ok(())
 }
 

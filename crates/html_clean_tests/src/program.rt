@@ -60,7 +60,7 @@ type Seen = (&'static str, &'static str, u8);
 const NOTHING: &str = "unwrapped=0 dropped=0 attributes=0 comments=0\n";
 
 const USAGE: &str =
-    "fault: usage: html_clean [--document] [--element NAME[:ATTRIBUTE,..]] [--attribute NAME] [--scheme NAME] [--table FILE] [FILE]..\n";
+    "fault: usage: html_clean [--document] [--element NAME[:ATTRIBUTE,..]] [--attribute NAME] [--beginning TEXT] [--add ELEMENT:NAME=VALUE] [--scheme NAME] [--table FILE] [FILE]..\n";
 
 const ROWS: &[(Run, Seen)] = &[
     (
@@ -105,6 +105,18 @@ const ROWS: &[(Run, Seen)] = &[
             ..PLAIN
         },
         ("<p id=\"x\">a</p>", NOTHING, 0),
+    ),
+    (
+        Run {
+            words: &["--beginning", "data-", "--add", "a:rel=nofollow"],
+            input: b"<a data-x=1 rel=y>a</a>",
+            ..PLAIN
+        },
+        (
+            "<a rel=\"nofollow\" data-x=\"1\">a</a>",
+            "unwrapped=0 dropped=0 attributes=1 comments=0\n",
+            0,
+        ),
     ),
     (
         Run {
@@ -165,6 +177,20 @@ const FAULTS: &[(Run, Seen)] = &[
     (
         Run {
             words: &["--element", "script"],
+            ..PLAIN
+        },
+        ("", USAGE, 2),
+    ),
+    (
+        Run {
+            words: &["--add", "a:onclick=x"],
+            ..PLAIN
+        },
+        ("", USAGE, 2),
+    ),
+    (
+        Run {
+            words: &["--add", "a"],
             ..PLAIN
         },
         ("", USAGE, 2),

@@ -7,7 +7,6 @@ use Rattle.std.specs.Char.{to_ascii_lowercase}
 use Rattle.std.specs.List.{list_all}
 use Rattle.std.specs.Prelude.{not, IfOk}
 use Rattle.std.specs.Str.{bytes_eq}
-use Rattle.markup.specs.Attributes.{are_distinct}
 use Rattle.markup.specs.Forest.{NodeData, data_of}
 use Rattle.markup.specs.Forest.NodeData.{Document, Contents, Doctype, Text, Comment, ProcessingInstruction, Element as ElementNode}
 use Rattle.markup.specs.Trees.{Trees}
@@ -23,10 +22,11 @@ use Rattle.html_rules.specs.State.{Entry, Element, Marker, Open, State}
 use Rattle.html_rules.specs.Step.{step}
 use Rattle.html_rules_laws.specs.Usable.{Usable}
 use Rattle.html_round_trip.specs.Slices.Forms.{is_attribute_name}
-use Rattle.html_clean.specs.Cleaned.{are_lawful_attributes, cleaned, is_lawful_attribute, pieces_of}
+use Rattle.html_clean.proofs.Lawful.{attributes-sound, is_sound}
+use Rattle.html_clean.specs.Cleaned.{are_lawful_attributes, cleaned, pieces_of}
 use Rattle.html_clean.specs.Names.{is_safe_attribute, is_safe_name, safe_names}
 use Rattle.html_clean.specs.Pieces.{telling}
-use Rattle.html_clean.specs.Policies.{is_kept_attribute, is_kept_name, is_plain_character, is_ruled, is_safe_attribute_name}
+use Rattle.html_clean.specs.Policies.{is_kept_name, is_plain_character, is_ruled, is_safe_attribute_name}
 use Rattle.html_clean.specs.declared.policy.Policy.{Policy}
 use Rattle.html_origins.specs.Allowed.{AreEntriesAllowed, AreOpenAllowed, IsAllowed, IsStateAllowed}
 use Rattle.html_origins.specs.KeptTokens.{KeptOrigin, with_kept_origin}
@@ -90,11 +90,9 @@ foreign-same (x ∷ xs) name h safe =
         (subst (λ n. is_safe_attribute (map to_ascii_lowercase n) ≡ true) ((bytes_eq-Decides name.local x.written).0 e) safe)))
     by false e unsafe rest = rest
 
-kept-safe : (policy : Policy) (element : List ℕ) (a : Attribute) → is_lawful_attribute policy element a ≡ true
-    → is_safe_attribute a.name.local ≡ true
-kept-safe policy element a h =
-    let kept = (and_parts (is_kept_attribute policy element a) (list_all is_plain_character a.value) h).0 in
-    let named = (and_parts (is_safe_attribute_name a.name) _ kept).0 in
+sound-safe : (a : Attribute) → is_sound a ≡ true → is_safe_attribute a.name.local ≡ true
+sound-safe a h =
+    let named = (and_parts (is_safe_attribute_name a.name) (list_all is_plain_character a.value) h).0 in
     (and_parts (is_safe_attribute a.name.local) _ named).0
 
 -- an attribute whose name is renamed in foreign content is itself in lower case
@@ -110,30 +108,33 @@ one-lower names a safe =
 renamed-none : (name : List ℕ) → renamed [] name ≡ name
 renamed-none name = refl
 
-module _ (policy : Policy) (element : List ℕ) where
-  lower-list : (names : List (List ℕ)) (attributes : List Attribute) → list_all (is_lawful_attribute policy element) attributes ≡ true
-      → map lowered_attribute (map adjust_foreign_attribute (map (rename_attribute names) attributes)) ≡ attributes
-  lower-list names [] h = refl
-  lower-list names (a ∷ rest) h =
-      let parts = and_parts (is_lawful_attribute policy element a) (list_all (is_lawful_attribute policy element) rest) h in
-      rw (one-lower names a (kept-safe policy element a parts.0), lower-list names rest parts.1)
+lower-list : (names : List (List ℕ)) (attributes : List Attribute) → list_all is_sound attributes ≡ true
+    → map lowered_attribute (map adjust_foreign_attribute (map (rename_attribute names) attributes)) ≡ attributes
+lower-list names [] h = refl
+lower-list names (a ∷ rest) h =
+    let parts = and_parts (is_sound a) (list_all is_sound rest) h in
+    rw (one-lower names a (sound-safe a parts.0), lower-list names rest parts.1)
 
-  same-list : (attributes : List Attribute) → map (rename_attribute []) attributes ≡ attributes
-  same-list [] = refl
-  same-list (a ∷ rest) = ap (λ xs. a ∷ xs) (same-list rest)
+same-list : (attributes : List Attribute) → map (rename_attribute []) attributes ≡ attributes
+same-list [] = refl
+same-list (a ∷ rest) = ap (λ xs. a ∷ xs) (same-list rest)
 
-  own-list : (attributes : List Attribute) → list_all (is_lawful_attribute policy element) attributes ≡ true
-      → map lowered_attribute (map adjust_foreign_attribute attributes) ≡ attributes
-  own-list attributes h = subst (λ xs. map lowered_attribute (map adjust_foreign_attribute xs) ≡ attributes) (same-list attributes)
-      (lower-list [] attributes h)
+own-list : (attributes : List Attribute) → list_all is_sound attributes ≡ true
+    → map lowered_attribute (map adjust_foreign_attribute attributes) ≡ attributes
+own-list attributes h = subst (λ xs. map lowered_attribute (map adjust_foreign_attribute xs) ≡ attributes) (same-list attributes)
+    (lower-list [] attributes h)
 
-  pub attributes-lower : (namespace : Namespace) (attributes : List Attribute) → are_lawful_attributes policy element attributes ≡ true
-      → map lowered_attribute (adjust_attributes namespace attributes) ≡ attributes
-  unfolding adjust_attributes
-  attributes-lower Html attributes h = own-list attributes (and_parts _ (are_distinct attributes) h).0
-  attributes-lower MathMl attributes h = lower-list mathml_attribute_names attributes (and_parts _ (are_distinct attributes) h).0
-  attributes-lower Svg attributes h = lower-list svg_attribute_names attributes (and_parts _ (are_distinct attributes) h).0
-  attributes-lower (Other uri) attributes h = own-list attributes (and_parts _ (are_distinct attributes) h).0
+sound-lower : (namespace : Namespace) (attributes : List Attribute) → list_all is_sound attributes ≡ true
+    → map lowered_attribute (adjust_attributes namespace attributes) ≡ attributes
+unfolding adjust_attributes
+sound-lower Html attributes h = own-list attributes h
+sound-lower MathMl attributes h = lower-list mathml_attribute_names attributes h
+sound-lower Svg attributes h = lower-list svg_attribute_names attributes h
+sound-lower (Other uri) attributes h = own-list attributes h
+
+pub attributes-lower : (policy : Policy) (element : List ℕ) (namespace : Namespace) (attributes : List Attribute)
+    → are_lawful_attributes policy element attributes ≡ true → map lowered_attribute (adjust_attributes namespace attributes) ≡ attributes
+attributes-lower policy element namespace attributes h = sound-lower namespace attributes (attributes-sound policy element attributes h)
 
 -- ELEMENTS
 

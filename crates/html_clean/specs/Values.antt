@@ -1,0 +1,109 @@
+-- Which values the attributes that a policy keeps may have.
+use Rattle.std.specs.Prelude.{ℕ, ◌+◌, ◌-◌, ◌*◌, ◌^◌, min, Bool, true, false, cond, ◌&&◌, ◌||◌, not, nat_eq, nat_le}
+use Rattle.std.specs.Prelude.{List, [], ◌∷◌, ◌++◌, map, Option, Some, None}
+use Rattle.std.specs.Char.{is_ascii_digit, is_ascii_whitespace, to_ascii_lowercase}
+use Rattle.std.specs.List.{filter, fold, list_all, list_any}
+use Rattle.std.specs.Str.{bytes_eq}
+use Rattle.markup.specs.Trees.{is_among}
+use Rattle.html_round_trip.specs.Slices.Forms.{is_no_text}
+use Rattle.html_clean.specs.declared.policy.Allowed.{Allowed}
+use Rattle.html_clean.specs.declared.policy.Allowed.TheVariants.{OneOf, Words, Number}
+use Rattle.html_clean.specs.declared.policy.ValueRule.{ValueRule}
+
+-- BEGINNINGS
+
+-- whether a text begins with another, which comes first here
+abbrev pub begins_with : List ℕ → List ℕ → Bool
+begins_with [] text = true
+begins_with (c ∷ cs) [] = false
+begins_with (c ∷ cs) (d ∷ ds) = nat_eq c d && begins_with cs ds
+
+-- whether a text begins with one of these
+abbrev pub begins_with_one : List (List ℕ) → List ℕ → Bool
+begins_with_one beginnings text = list_any (λ beginning. begins_with beginning text) beginnings
+
+-- WORDS
+
+-- a word, if it is not empty
+abbrev pub word_if : List ℕ → List (List ℕ)
+word_if [] = []
+word_if (c ∷ cs) = (c ∷ cs) ∷ []
+
+-- the words of a text, where a word has begun before it
+abbrev pub words_from : List ℕ → List ℕ → List (List ℕ)
+words_from word [] = word_if word
+words_from word (c ∷ cs) = cond (is_ascii_whitespace c) (word_if word ++ words_from [] cs) (words_from (word ++ c ∷ []) cs)
+
+-- the words of a text (Infra Standard, section 4.6, "split a string on ASCII whitespace")
+abbrev pub words_of : List ℕ → List (List ℕ)
+words_of text = words_from [] text
+
+-- a text with a word more, and a space between the two
+abbrev pub with_word : List ℕ → List ℕ → List ℕ
+with_word [] word = word
+with_word (c ∷ cs) word = (c ∷ cs) ++ 32 ∷ word
+
+-- a text with words more
+abbrev pub joined_after : List ℕ → List (List ℕ) → List ℕ
+joined_after text [] = text
+joined_after text (word ∷ words) = joined_after (with_word text word) words
+
+-- whether a word is one of these, or begins with one of those
+abbrev pub is_allowed_word : List (List ℕ) → List (List ℕ) → List ℕ → Bool
+is_allowed_word words beginnings word = is_among word words || begins_with_one beginnings word
+
+-- the words of a text that are allowed, with a space between each two
+abbrev pub allowed_words : List (List ℕ) → List (List ℕ) → List ℕ → List ℕ
+allowed_words words beginnings text = joined_after [] (filter (is_allowed_word words beginnings) (words_of text))
+
+-- NUMBERS
+
+-- the greatest number of 32 bits
+abbrev pub greatest : ℕ
+greatest = 2 ^ 32 - 1
+
+-- a number and a digit after it, as far as 32 bits go
+abbrev pub with_digit : ℕ → ℕ → ℕ
+with_digit n c = min (min (n * 10) greatest + (c - 48)) greatest
+
+-- whether a text is a number in digits, from the least to the most
+abbrev pub is_number_within : ℕ → ℕ → List ℕ → Bool
+is_number_within least most text = (not (is_no_text text) && list_all is_ascii_digit text)
+    && (nat_le least (fold with_digit 0 text) && nat_le (fold with_digit 0 text) most)
+
+-- RULES
+
+-- whether a value is allowed
+abbrev pub allows : Allowed → List ℕ → Bool
+allows (OneOf texts) value = is_among (map to_ascii_lowercase value) texts.items
+allows (Words words beginnings) value = not (is_no_text value) && bytes_eq (allowed_words words.items beginnings.items value) value
+allows (Number least most) value = is_number_within least most value
+
+-- what is left of a value
+abbrev pub left_of : Allowed → List ℕ → List ℕ
+left_of (OneOf texts) value = value
+left_of (Words words beginnings) value = allowed_words words.items beginnings.items value
+left_of (Number least most) value = value
+
+-- whether a rule for one element, or for all, is for an element
+abbrev pub is_for_element : Option (List ℕ) → List ℕ → Bool
+is_for_element None element = true
+is_for_element (Some name) element = bytes_eq element name
+
+-- whether a rule is for an attribute of an element
+abbrev pub is_rule_for : List ℕ → List ℕ → ValueRule → Bool
+is_rule_for element name rule = bytes_eq name rule.attribute && is_for_element rule.element element
+
+-- whether a value meets a rule that is for its attribute
+abbrev pub meets : List ℕ → List ℕ → List ℕ → ValueRule → Bool
+meets element name value rule = not (is_rule_for element name rule) || allows rule.allowed value
+
+-- whether a value meets each rule that is for its attribute
+abbrev pub meets_all : List ValueRule → List ℕ → List ℕ → List ℕ → Bool
+meets_all rules element name value = list_all (meets element name value) rules
+
+-- what rules that are for an attribute leave of its value, one after the other
+abbrev pub value_left : List ValueRule → List ℕ → List ℕ → List ℕ → List ℕ
+value_left [] element name value = value
+value_left (rule ∷ rules) element name value =
+    value_left rules element name (cond (is_rule_for element name rule) (left_of rule.allowed value) value)

@@ -1,0 +1,259 @@
+//! Which values attributes may have.
+ghost use Rattle.std.specs.Prelude.{◌≡◌, ◌&&◌, ◌||◌, not, map, true, false, Some, IfOk, IfErr, IfSome, IfNone, OnOk};
+ghost use Rattle.std.specs.Char.{is_ascii_digit, to_ascii_lowercase};
+ghost use Rattle.std.specs.List.{filter, fold, list_all};
+ghost use Rattle.std.specs.Str.{chars};
+ghost use Rattle.html_clean.specs.Ready.{texts_in, words_in};
+ghost use Rattle.html_clean.specs.Values.{allowed_words, allows, begins_with, begins_with_one, is_allowed_word, is_for_element};
+ghost use Rattle.html_clean.specs.Values.{is_number_within, is_rule_for, joined_after, left_of, meets_all, value_left};
+ghost use Rattle.html_clean.specs.Values.{with_digit, with_word, word_if};
+ghost use Rattle.html_round_trip.specs.Slices.Forms.{is_no_text};
+ghost use Rattle.markup.specs.Trees.{is_among};
+ghost use Rattle.markup.specs.declared.fault.ParseFault.TheVariants.{Memory};
+
+use crate::policy::{Allowed, ValueRule};
+use crate::ready::texts_of;
+use crate::texts::is_no_text;
+use markup::{LocalName, ParseFault, Text};
+use std::alloc::Global;
+
+/// Whether a text begins with another.
+pub(crate) fn begins_with(beginning: &str, text: &str) -> bool
+    ensures { result ≡ begins_with (chars beginning.now) (chars text.now) }
+{
+    let mut rest = text.chars();
+    for c in beginning.chars() {
+        match rest.next() {
+            Some(d) if c == d => {}
+            _ => return false,
+        }
+    }
+    true
+}
+
+/// Whether a text begins with one of these.
+pub(crate) fn begins_with_one(beginnings: &[Text], text: &str) -> bool
+    ensures { result ≡ begins_with_one beginnings.now (chars text.now) }
+{
+    beginnings
+        .iter()
+        .any(|beginning| begins_with(beginning.as_str(), text))
+}
+
+/// Whether a text is one of these.
+pub(crate) fn is_text_among(text: &Text, texts: &[Text]) -> bool
+    ensures { result ≡ is_among text.now texts.now }
+{
+    texts.iter().any(|other| *text == *other)
+}
+
+/// Whether a word is one of these, or begins with one of those.
+fn is_allowed_word(words: &[Text], beginnings: &[Text], word: &Text) -> bool
+    ensures { result ≡ is_allowed_word words.now beginnings.now word.now }
+{
+    is_text_among(word, words) || begins_with_one(beginnings, word.as_str())
+}
+
+/// Puts a word after a text, and a space between the two.
+fn push_word(made: &mut Text, word: &Text) -> Result<(), ParseFault>
+    ensures ok { OnOk result (made.new ≡ with_word made.old word.now) }
+    ensures fault { IfErr result (λ fault. fault ≡ Memory) }
+{
+    if !made.is_empty() {
+        made.push(' ')?;
+    }
+    made.push_str(word.as_str())
+}
+
+/// The same of a word that is not empty and allowed; another is left out.
+fn push_allowed(
+    words: &[Text],
+    beginnings: &[Text],
+    made: &mut Text,
+    word: &Text,
+) -> Result<(), ParseFault>
+    ensures ok { OnOk result (made.new ≡ joined_after made.old (filter (is_allowed_word words.now beginnings.now) (word_if word.now))) }
+    ensures fault { IfErr result (λ fault. fault ≡ Memory) }
+{
+    if word.is_empty() || !is_allowed_word(words, beginnings, word) {
+        return Ok(());
+    }
+    push_word(made, word)
+}
+
+/// The words of a value that are allowed, with a space between each two.
+fn allowed_words(
+    alloc: Global,
+    words: &[Text],
+    beginnings: &[Text],
+    value: &str,
+) -> Result<Text, ParseFault>
+    ensures ok { IfOk result (λ made. made ≡ allowed_words words.now beginnings.now (chars value.now)) }
+    ensures fault { IfErr result (λ fault. fault ≡ Memory) }
+{
+    let mut made = Text::empty(alloc);
+    let mut word = Text::empty(alloc);
+    for c in value.chars() {
+        if c.is_ascii_whitespace() {
+            push_allowed(words, beginnings, &mut made, &word)?;
+            word.clear();
+        } else {
+            word.push(c)?;
+        }
+    }
+    push_allowed(words, beginnings, &mut made, &word)?;
+    Ok(made)
+}
+
+/// A number and a digit after it, as far as 32 bits go.
+fn with_digit(n: u32, c: char) -> u32
+    ensures { result ≡ with_digit n c }
+{
+    n.saturating_mul(10)
+        .saturating_add((c as u32).saturating_sub(48))
+}
+
+/// The number that a text is in digits, if it is of digits alone.
+fn number(text: &str) -> Option<u32>
+    ensures some { IfSome result (λ n. n ≡ fold with_digit 0 (chars text.now)) }
+    ensures digits { IfSome result (λ _. list_all is_ascii_digit (chars text.now) ≡ true) }
+    ensures none { IfNone result (list_all is_ascii_digit (chars text.now) ≡ false) }
+{
+    let mut n: u32 = 0;
+    for c in text.chars() {
+        if !c.is_ascii_digit() {
+            return None;
+        }
+        n = with_digit(n, c);
+    }
+    Some(n)
+}
+
+/// Whether a text is a number in digits, from the least to the most.
+fn is_number_within(least: u32, most: u32, text: &str) -> bool
+    ensures { result ≡ is_number_within least most (chars text.now) }
+{
+    if is_no_text(text) {
+        return false;
+    }
+    match number(text) {
+        Some(n) => least <= n && n <= most,
+        None => false,
+    }
+}
+
+/// Whether a text with its ASCII letters lowered is one of these.
+fn is_lowered_among(alloc: Global, text: &Text, texts: &[Text]) -> Result<bool, ParseFault>
+    ensures ok { IfOk result (λ is. is ≡ is_among (map to_ascii_lowercase text.now) texts.now) }
+    ensures fault { IfErr result (λ fault. fault ≡ Memory) }
+{
+    let mut lowered = Text::empty(alloc);
+    lowered.push_lowered(text.as_str())?;
+    Ok(is_text_among(&lowered, texts))
+}
+
+/// What is left of a value.
+fn left_of(alloc: Global, allowed: &Allowed, value: Text) -> Result<Text, ParseFault>
+    ensures ok { IfOk result (λ left. left ≡ left_of allowed.now value) }
+    ensures fault { IfErr result (λ fault. fault ≡ Memory) }
+{
+    match allowed {
+        Allowed::Words { words, beginnings } => {
+            allowed_words(alloc, words, beginnings, value.as_str())
+        }
+        _ => Ok(value),
+    }
+}
+
+/// Whether a value is allowed.
+fn allows(alloc: Global, allowed: &Allowed, value: &Text) -> Result<bool, ParseFault>
+    ensures ok { IfOk result (λ is. is ≡ allows allowed.now value.now) }
+    ensures fault { IfErr result (λ fault. fault ≡ Memory) }
+{
+    match allowed {
+        Allowed::OneOf(texts) => is_lowered_among(alloc, value, texts),
+        Allowed::Words { words, beginnings } => {
+            let left = allowed_words(alloc, words, beginnings, value.as_str())?;
+            Ok(!is_no_text(value.as_str()) && left == *value)
+        }
+        Allowed::Number { least, most } => Ok(is_number_within(*least, *most, value.as_str())),
+    }
+}
+
+/// Whether a rule for one element, or for all, is for an element.
+fn is_for_element(of: &Option<LocalName>, element: &LocalName) -> bool
+    ensures { result ≡ is_for_element of.now element.now }
+{
+    match of {
+        Some(name) => *element == *name,
+        None => true,
+    }
+}
+
+/// Whether a rule is for an attribute of an element.
+fn is_rule_for(rule: &ValueRule, element: &LocalName, name: &LocalName) -> bool
+    ensures { result ≡ is_rule_for element.now name.now rule.now }
+{
+    *name == rule.attribute && is_for_element(&rule.element, element)
+}
+
+/// Whether a value meets each rule that is for its attribute.
+pub(crate) fn meets_all(
+    alloc: Global,
+    rules: &[ValueRule],
+    element: &LocalName,
+    name: &LocalName,
+    value: &Text,
+) -> Result<bool, ParseFault>
+    ensures ok { IfOk result (λ is. is ≡ meets_all rules.now element.now name.now value.now) }
+    ensures fault { IfErr result (λ fault. fault ≡ Memory) }
+{
+    for rule in rules {
+        if is_rule_for(rule, element, name) && !allows(alloc, &rule.allowed, value)? {
+            return Ok(false);
+        }
+    }
+    Ok(true)
+}
+
+/// What rules that are for an attribute leave of its value, one after the other.
+pub(crate) fn value_left(
+    alloc: Global,
+    rules: &[ValueRule],
+    element: &LocalName,
+    name: &LocalName,
+    value: Text,
+) -> Result<Text, ParseFault>
+    ensures ok { IfOk result (λ left. left ≡ value_left rules.now element.now name.now value) }
+    ensures fault { IfErr result (λ fault. fault ≡ Memory) }
+{
+    let mut left = value;
+    for rule in rules {
+        if is_rule_for(rule, element, name) {
+            left = left_of(alloc, &rule.allowed, left)?;
+        }
+    }
+    Ok(left)
+}
+
+impl Allowed {
+    /// One of these texts, which stand in lower case.
+    pub fn one_of(alloc: Global, texts: &[&str]) -> Result<Allowed, ParseFault>
+        ensures ok { IfOk result (λ allowed. texts_in allowed ≡ Some (map (λ text. chars text.now) texts.now)) }
+        ensures fault { IfErr result (λ fault. fault ≡ Memory) }
+    {
+        Ok(Allowed::OneOf(texts_of(alloc, texts)?))
+    }
+
+    /// Words, and beginnings of words: `Allowed::words(alloc, &["note"], &["language-"])`.
+    pub fn words(alloc: Global, words: &[&str], beginnings: &[&str]) -> Result<Allowed, ParseFault>
+        ensures ok { IfOk result (λ allowed. words_in allowed ≡ Some
+            (map (λ word. chars word.now) words.now, map (λ beginning. chars beginning.now) beginnings.now)) }
+        ensures fault { IfErr result (λ fault. fault ≡ Memory) }
+    {
+        Ok(Allowed::Words {
+            words: texts_of(alloc, words)?,
+            beginnings: texts_of(alloc, beginnings)?,
+        })
+    }
+}
