@@ -1,5 +1,5 @@
 -- Names of what a policy keeps in foreign content.
-use Rattle.std.proofs.Common.{◌≡◌, ◌∙◌, ℕ, Bool, true, false, List, [], ◌∷◌, map, Result, Ok, Err, ap, arith, refl, subst, sym, true≢false}
+use Rattle.std.proofs.Common.{◌≡◌, ◌∙◌, ℕ, Bool, true, false, ◌||◌, List, [], ◌∷◌, map, Result, Ok, Err, ap, arith, refl, subst, sym, true≢false}
 use Rattle.std.proofs.lemmas.Bool.{and_parts}
 use Rattle.std.proofs.lemmas.Bool.Decides.{nat_tests}
 use Rattle.std.proofs.lemmas.Slice.Eq.{bytes_eq-Decides}
@@ -31,7 +31,7 @@ use Rattle.html_clean.specs.declared.policy.Policy.{Policy}
 use Rattle.html_origins.specs.Allowed.{AreEntriesAllowed, AreOpenAllowed, IsAllowed, IsStateAllowed}
 use Rattle.html_origins.specs.KeptTokens.{KeptOrigin, with_kept_origin}
 use Rattle.html_origins.proofs.Rows.{among-all}
-use Rattle.html_clean_tree.specs.Elements.{CleanedOrigin, is_kept_element, lowered_attribute, with_cleaned_origin}
+use Rattle.html_clean_tree.specs.Elements.{CleanedOrigin, is_bare, is_kept_element, lowered_attribute, with_cleaned_origin}
 use Rattle.html_clean_tree.proofs.Pieces.{pieces-origins}
 
 -- CHARACTERS AND NAMES IN LOWER CASE
@@ -155,11 +155,17 @@ tag-same MathMl name h = refl
 tag-same (Other uri) name h = refl
 
 module _ (policy : Policy) (s : State) where
+  all-lower : (namespace : Namespace) (name : List ℕ) (attributes : List Attribute)
+      → (is_bare attributes || are_lawful_attributes policy name attributes) ≡ true
+      → map lowered_attribute (adjust_attributes namespace attributes) ≡ attributes
+  all-lower namespace name [] h = sound-lower namespace [] refl
+  all-lower namespace name (a ∷ rest) h = attributes-lower policy name namespace (a ∷ rest) h
+
   foreign-kept : (namespace : Namespace) (name : List ℕ) (attributes : List Attribute) → is_kept_element policy name attributes ≡ true
       → is_kept_element policy name (map lowered_attribute (adjust_attributes namespace attributes)) ≡ true
   foreign-kept namespace name attributes h =
-      let parts = and_parts (is_kept_name policy name) (are_lawful_attributes policy name attributes) h in
-      rw (attributes-lower policy name namespace attributes parts.1) h
+      let parts = and_parts (is_kept_name policy name) (is_bare attributes || are_lawful_attributes policy name attributes) h in
+      rw (all-lower namespace name attributes parts.1) h
 
   origin : (n : ℕ) (name : QualName) (attributes : List Attribute) → KeptOrigin (is_kept_element policy) s n name attributes
       → CleanedOrigin policy s n name attributes
@@ -167,7 +173,7 @@ module _ (policy : Policy) (s : State) where
   origin _ _ _ (KeptOrigin.Listed n new tag listed) = CleanedOrigin.Listed n new tag listed
   origin _ _ _ (KeptOrigin.Own n new local own kept) = CleanedOrigin.Kept n new local own kept
   origin _ _ _ (KeptOrigin.Foreign n new namespace local own kept space) =
-      let parts = and_parts (is_kept_name policy local) (are_lawful_attributes policy local own) kept in
+      let parts = and_parts (is_kept_name policy local) _ kept in
       subst (λ x. CleanedOrigin policy s n (element_name_of namespace x) (adjust_attributes namespace own))
       (sym (tag-same namespace local (kept-name policy local parts.0)))
       (CleanedOrigin.Foreign n new namespace space local (adjust_attributes namespace own) (foreign-kept namespace local own kept))

@@ -1,7 +1,7 @@
 -- Pieces that a policy keeps have tags that are kept.
 use Rattle.std.proofs.Common.{◌≡◌, ℕ, ◌+◌, Bool, true, false, List, [], ◌∷◌, refl, sym}
 use Rattle.std.proofs.lemmas.Bool.{and_parts}
-use Rattle.std.specs.Prelude.{◌&&◌, not, IfOk, Result, Ok, Err}
+use Rattle.std.specs.Prelude.{◌&&◌, ◌||◌, not, IfOk, Result, Ok, Err}
 use Rattle.markup.specs.Trees.{Trees}
 use Rattle.std.specs.List.{list_all}
 use Rattle.html_tokens.specs.Reading.{line_breaks, line_number}
@@ -20,7 +20,7 @@ use Rattle.html_origins.specs.Allowed.{IsStateAllowed}
 use Rattle.html_origins.specs.KeptTokens.{KeepsHtmlOnly, IsKeptToken, renamed_tags, with_kept_origin}
 use Rattle.html_origins.proofs.ManyTokens.{state, then}
 use Rattle.html_origins.proofs.Rows.{among-all}
-use Rattle.html_clean_tree.specs.Elements.{is_kept_element}
+use Rattle.html_clean_tree.specs.Elements.{is_bare, is_kept_element}
 
 -- `math`, `svg` and `image` are never kept
 none-safe : list_all (λ name. not (is_safe_name name)) renamed_tags ≡ true
@@ -34,7 +34,7 @@ clash false h e = sym e
 alone : (policy : Policy) → KeepsHtmlOnly (is_kept_element policy)
 alone policy name attributes h = by (is_among name renamed_tags) refl where
   kept : is_kept_name policy name ≡ true
-  kept = (and_parts (is_kept_name policy name) (are_lawful_attributes policy name attributes) h).0
+  kept = (and_parts (is_kept_name policy name) _ h).0
 
   safe : is_safe_name name ≡ true
   safe = (and_parts (is_safe_name name) (is_ruled policy.kept.items name) kept).0
@@ -47,8 +47,13 @@ with-true : (b : Bool) → b ≡ true → (b && true) ≡ true
 with-true true h = refl
 with-true false h = h
 
+with-bare : (kept lawful bare : Bool) → (kept && lawful) ≡ true → (kept && (bare || lawful)) ≡ true
+with-bare true lawful true h = refl
+with-bare true lawful false h = h
+with-bare false lawful bare h = h
+
 told : (policy : Policy) (piece : Piece) → is_kept_piece policy piece ≡ true → IsKeptToken (is_kept_element policy) (token_of piece)
-told policy (Start name attributes) h = h
+told policy (Start name attributes) h = with-bare (is_kept_name policy name) (are_lawful_attributes policy name attributes) (is_bare attributes) h
 told policy (Text text) h = tt
 told policy (End name) h = with-true (is_kept_name policy name) h
 

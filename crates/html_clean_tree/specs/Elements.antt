@@ -1,5 +1,5 @@
 -- Which elements a reader makes of cleaned text, wherever it is put.
-use Rattle.std.specs.Prelude.{◌≡◌, ℕ, Bool, true, ◌&&◌, List, [], map}
+use Rattle.std.specs.Prelude.{◌≡◌, ℕ, Bool, true, false, ◌&&◌, ◌||◌, List, [], ◌∷◌, map}
 use Rattle.std.specs.Char.{to_ascii_lowercase}
 use Rattle.markup.specs.Forest.{data_of, node_count, with_missing}
 use Rattle.markup.specs.Forest.NodeData.{Element as ElementNode}
@@ -16,9 +16,13 @@ use Rattle.html_origins.specs.Allowed.{Allowed, root_and_body}
 use Rattle.html_origins.specs.KeptTokens.{IsNamespaceOf, implied_names}
 use Rattle.html_origins.specs.Origin.{IsListed, IsNew}
 
--- whether a policy keeps an element of this name with these attributes
+abbrev pub is_bare : List Attribute → Bool
+is_bare [] = true
+is_bare (a ∷ attributes) = false
+
+-- whether a policy keeps an element of this name with these attributes; or with none, since an end tag of `p` or `br` may create one
 abbrev pub is_kept_element : Policy → List ℕ → List Attribute → Bool
-is_kept_element policy name attributes = is_kept_name policy name && are_lawful_attributes policy name attributes
+is_kept_element policy name attributes = is_kept_name policy name && (is_bare attributes || are_lawful_attributes policy name attributes)
 
 -- an attribute with its name in lower case
 abbrev pub lowered_attribute : Attribute → Attribute
