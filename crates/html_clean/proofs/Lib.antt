@@ -14,3 +14,4 @@ pub mod Stays
 pub mod Noted
 pub mod PlainTexts
 pub mod ValueTexts
+pub mod UserContent

@@ -1,5 +1,5 @@
--- The policy that is ready.
-use Rattle.std.specs.Prelude.{◌≡◌, ℕ, false, true, List, [], ◌∷◌, codes, map, Option, Some, None}
+-- The policies that are ready.
+use Rattle.std.specs.Prelude.{◌≡◌, ℕ, false, true, List, [], ◌∷◌, ◌++◌, codes, map, Option, Some, None}
 use Rattle.html_clean.specs.declared.policy.Addition.{Addition}
 use Rattle.html_clean.specs.declared.policy.Allowed.{Allowed}
 use Rattle.html_clean.specs.declared.policy.Allowed.TheVariants.{OneOf, Words}
@@ -94,3 +94,37 @@ pub record IsTextAlone (policy : Policy) : Type 0 where
   pub schemes : policy.schemes.items ≡ []
   pub relative : policy.allows_relative ≡ false
   pub hosts : policy.allows_hosts ≡ false
+
+-- what a rule for values is for, and what it allows: texts, words or beginnings of words
+abbrev pub limit_parts : ValueRule → Option (List ℕ) × (List ℕ × (Option (List (List ℕ)) × Option (List (List ℕ) × List (List ℕ))))
+limit_parts rule = (rule.element, (rule.attribute, (texts_in rule.allowed, words_in rule.allowed)))
+
+-- the elements of user content beside those of texts and links
+abbrev pub user_rules : List (List ℕ × List (List ℕ))
+user_rules =
+    (codes "code", codes "class" ∷ []) ∷ (codes "details", codes "open" ∷ []) ∷ (codes "input", codes "checked" ∷ []) ∷
+    (codes "li", codes "value" ∷ []) ∷ (codes "ol", codes "reversed" ∷ codes "type" ∷ []) ∷ (codes "section", []) ∷
+    (codes "time", codes "datetime" ∷ []) ∷ []
+
+abbrev pub user_limits : List (Option (List ℕ) × (List ℕ × (Option (List (List ℕ)) × Option (List (List ℕ) × List (List ℕ)))))
+user_limits =
+    (Some (codes "code"), (codes "class", (None, Some ([], codes "language-" ∷ [])))) ∷
+    (None, (codes "dir", (Some (codes "auto" ∷ codes "ltr" ∷ codes "rtl" ∷ []), None))) ∷
+    (Some (codes "ol"), (codes "type", (Some (codes "1" ∷ codes "a" ∷ codes "i" ∷ []), None))) ∷ []
+
+abbrev pub user_additions : List (List ℕ × (List ℕ × List ℕ))
+user_additions =
+    (codes "a", (codes "rel", codes "nofollow noopener ugc")) ∷ (codes "input", (codes "type", codes "checkbox")) ∷
+    (codes "input", (codes "disabled", [])) ∷ []
+
+pub record IsUserContent (policy : Policy) : Type 0 where
+  pub kept : map rule_names policy.kept.items ≡ ready_rules ++ user_rules
+  pub dropped : policy.dropped.items ≡ ready_dropped
+  pub everywhere : policy.everywhere.items ≡ codes "lang" ∷ codes "title" ∷ codes "dir" ∷ []
+  pub beginnings : policy.beginnings.items ≡ []
+  pub values : map limit_parts policy.values.items ≡ user_limits
+  pub added : map addition_parts policy.added.items ≡ user_additions
+  pub urls : policy.urls.items ≡ []
+  pub schemes : policy.schemes.items ≡ ready_schemes
+  pub relative : policy.allows_relative ≡ true
+  pub hosts : policy.allows_hosts ≡ true

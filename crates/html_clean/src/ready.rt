@@ -1,11 +1,11 @@
-//! A policy that is ready.
+//! Policies that are ready.
 ghost use Rattle.std.specs.Prelude.{◌≡◌, ◌++◌, [], map, OnOk, IfOk, IfErr};
 ghost use Rattle.std.specs.Str.{chars};
-ghost use Rattle.html_clean.specs.Ready.{IsTextAlone, IsTextAndLinks, ready_rules, rule_names};
+ghost use Rattle.html_clean.specs.Ready.{IsTextAlone, IsTextAndLinks, IsUserContent, addition_parts, ready_rules, rule_names};
 ghost use Rattle.markup.specs.declared.fault.ParseFault.TheVariants.{Memory};
 
-use crate::policy::{Policy, Rule, names_of};
-use markup::{ParseFault, Text};
+use crate::policy::{Allowed, Policy, Rule, names_of};
+use markup::{LocalName, ParseFault, Text};
 use std::alloc::Global;
 
 /// Elements that are kept without attributes of their own.
@@ -108,6 +108,24 @@ const DROPPED: [&str; 9] = [
 /// Attributes that each element may have.
 const EVERYWHERE: [&str; 2] = ["lang", "title"];
 
+/// Elements of user content beside those of texts and links.
+const USER_ELEMENTS: [(&str, &[&str]); 7] = [
+    ("code", &["class"]),
+    ("details", &["open"]),
+    ("input", &["checked"]),
+    ("li", &["value"]),
+    ("ol", &["reversed", "type"]),
+    ("section", &[]),
+    ("time", &["datetime"]),
+];
+
+/// Attributes that links and check boxes are given.
+const USER_ADDITIONS: [(&str, &str, &str); 3] = [
+    ("a", "rel", "nofollow noopener ugc"),
+    ("input", "type", "checkbox"),
+    ("input", "disabled", ""),
+];
+
 /// Schemes of URLs.
 const SCHEMES: [&str; 25] = [
     "bitcoin",
@@ -177,6 +195,23 @@ fn push_rules(
     Ok(())
 }
 
+/// Gives elements attributes.
+fn push_additions(
+    alloc: Global,
+    list: &[(&str, &str, &str)],
+    policy: &mut Policy,
+) -> Result<(), ParseFault>
+    ensures ok { OnOk result (map addition_parts policy.new.added.items ≡ map addition_parts policy.old.added.items
+        ++ map (λ row. (chars row.0.now, (chars row.1.now, chars row.2.now))) list.now) }
+    ensures same { policy.new ≡ record policy.old { added = policy.new.added } }
+    ensures fault { IfErr result (λ fault. fault ≡ Memory) }
+{
+    for (element, name, value) in list {
+        policy.add(alloc, element, name, value)?;
+    }
+    Ok(())
+}
+
 /// The rules of the policy.
 fn rules(alloc: Global) -> Result<Vec<Rule>, ParseFault>
     ensures ok { IfOk result (λ rules. map rule_names rules.items ≡ ready_rules) }
@@ -231,5 +266,27 @@ impl Policy {
             allows_relative: true,
             allows_hosts: true,
         })
+    }
+
+    /// What people write in forums, comments and Markdown: beside what [`text_and_links`](Policy::text_and_links) keeps, the classes
+    /// `language-..` of `code`, check boxes of task lists, lists that are numbered otherwise, `details` that are open, sections, dates and
+    /// directions.
+    ///
+    /// Each link gets `rel="nofollow noopener ugc"`, and each `input` is a check box that is disabled.
+    pub fn user_content(alloc: Global) -> Result<Policy, ParseFault>
+        ensures ok { IfOk result IsUserContent }
+        ensures fault { IfErr result (λ fault. fault ≡ Memory) }
+    {
+        let mut policy = Policy::text_and_links(alloc)?;
+        push_rules(alloc, &USER_ELEMENTS, &mut policy.kept)?;
+        policy.everywhere.push(LocalName::from_str(alloc, "dir")?)?;
+        let classes = Allowed::words(alloc, &[], &["language-"])?;
+        policy.limit(alloc, Some("code"), "class", classes)?;
+        let directions = Allowed::one_of(alloc, &["auto", "ltr", "rtl"])?;
+        policy.limit(alloc, None, "dir", directions)?;
+        let kinds = Allowed::one_of(alloc, &["1", "a", "i"])?;
+        policy.limit(alloc, Some("ol"), "type", kinds)?;
+        push_additions(alloc, &USER_ADDITIONS, &mut policy)?;
+        Ok(policy)
     }
 }

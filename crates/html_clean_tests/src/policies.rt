@@ -183,6 +183,56 @@ const ARTICLES: [(&str, &str); 10] = [
     ),
 ];
 
+const USER_CONTENT: [(&str, &str); 9] = [
+    (
+        "<ul><li><input type=checkbox checked> a</ul>",
+        "<ul><li><input type=\"checkbox\" disabled=\"\" checked=\"\"> a</li></ul>",
+    ),
+    (
+        "<input type=text name=q value=x onfocus=y>",
+        "<input type=\"checkbox\" disabled=\"\">",
+    ),
+    (
+        "<pre><code class='x language-rust'>fn</code></pre>",
+        "<pre><code class=\"language-rust\">fn</code></pre>",
+    ),
+    (
+        "<ol type=A reversed start=3><li value=4>a</ol>",
+        "<ol type=\"A\" reversed=\"\" start=\"3\"><li value=\"4\">a</li></ol>",
+    ),
+    (
+        "<details open ontoggle=x><summary>s</summary>t</details>",
+        "<details open=\"\"><summary>s</summary>t</details>",
+    ),
+    (
+        "<section dir=rtl><p dir=up class=c>a</section>",
+        "<section dir=\"rtl\"><p>a</p></section>",
+    ),
+    (
+        "<time datetime=2026-11-29>today</time>",
+        "<time datetime=\"2026-11-29\">today</time>",
+    ),
+    (
+        "<img src=a alt=b srcset=c>",
+        "<img src=\"a\" alt=\"b\">",
+    ),
+    (
+        "<a href=javascript:x rel=opener target=_top>y</a>",
+        "<a rel=\"nofollow noopener ugc\">y</a>",
+    ),
+];
+
+#[test]
+fn user_content_is_kept(rt: HostRuntime) -> Result<(), Fail> {
+    let alloc = rt.alloc();
+    let policy = Policy::user_content(alloc)?;
+    assert!(rt; policy.checked_for_fragments().is_ok());
+    for (page, left) in &USER_CONTENT {
+        assert!(rt; writes(alloc, &policy, page, left), "{}", page);
+    }
+    Ok(())
+}
+
 #[test]
 fn values_are_limited_and_attributes_added(rt: HostRuntime) -> Result<(), Fail> {
     let alloc = rt.alloc();
