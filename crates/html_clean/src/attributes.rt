@@ -115,6 +115,9 @@ fn left_value(
         (value_left policy.now.values.items element.now attribute.now.name.local attribute.now.value)) }
     ensures fault { IfErr result (λ fault. fault ≡ Memory) }
 {
+    if policy.values.is_empty() {
+        return plain_text(alloc, attribute.value.as_str());
+    }
     let value = attribute.value.copy(alloc)?;
     let left = value_left(alloc, &policy.values, element, &attribute.name.local, value)?;
     plain_text(alloc, left.as_str())
