@@ -4,6 +4,7 @@ use devices::{MemReader, MemWriter, VecWriter};
 use html_clean::{Allowed, Cleaned, Policy};
 use html_clean_document::{clean, clean_fragment, clean_fragment_in};
 use html_normal::{Exact, NormalFault, References};
+use html_policy_text::{PolicyFault, Problem, read_policy};
 use markup::{KnownNamespace, LocalName, Namespace, ParseFault, QualName, Text};
 use std::alloc::{AllocError, Global};
 use std::test::Fail;
@@ -241,6 +242,50 @@ fn values_are_limited_and_attributes_added(rt: HostRuntime) -> Result<(), Fail> 
     for (page, left) in &ARTICLES {
         assert!(rt; writes(alloc, &policy, page, left), "{}", page);
     }
+    Ok(())
+}
+
+/// The same policy as text, but for numbers, without what text and links keep besides.
+const ARTICLES_TEXT: &str = "# articles
+keep a href title
+keep bdo dir
+keep code class
+keep ol start
+keep li
+keep p
+relative
+beginning data-
+words code class note ^language-
+one-of * dir auto ltr rtl
+
+add a rel nofollow noopener
+";
+
+#[test]
+fn a_policy_is_read_from_a_text(rt: HostRuntime) -> Result<(), Fail> {
+    let alloc = rt.alloc();
+    let Ok(policy) = read_policy(alloc, ARTICLES_TEXT) else {
+        return Err(Fail::from("the policy is not read"));
+    };
+    for (page, left) in &ARTICLES[..7] {
+        assert!(rt; writes(alloc, &policy, page, left), "{}", page);
+    }
+    Ok(())
+}
+
+#[test]
+fn a_line_that_is_no_rule_is_named(rt: HostRuntime) -> Result<(), Fail> {
+    let alloc = rt.alloc();
+    let unknown = PolicyFault::Line {
+        line: 2,
+        problem: Problem::UnknownRule,
+    };
+    let wrong = PolicyFault::Line {
+        line: 3,
+        problem: Problem::WrongWords,
+    };
+    assert!(rt; read_policy(alloc, "keep a\nkepp b\ndrop").err() == Some(unknown));
+    assert!(rt; read_policy(alloc, "keep a\n\nadd a\n").err() == Some(wrong));
     Ok(())
 }
 

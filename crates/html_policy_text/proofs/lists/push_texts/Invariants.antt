@@ -1,0 +1,5 @@
+use Rattle.std.proofs.Common.{◌≡◌, ◌++◌, take}
+use Rattle.html_policy_text.proofs.lists.push_texts.Given as goal
+
+abbrev pub invariant-loop-word : goal.invariant-loop-word
+invariant-loop-word l = l.texts.items ≡ l.fn.texts.items ++ take l.word-index l.words

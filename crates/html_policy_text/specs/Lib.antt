@@ -1,0 +1,3 @@
+pub mod Rules
+pub mod PolicyText
+pub mod Rows
