@@ -8,6 +8,6 @@ mod links;
 mod shown;
 mod tree;
 
-pub use links::{link_of, links_below};
+pub use links::{has_href, has_source, link_of, links_below, without_breaks};
 pub use shown::{is_shown, shown_text};
 pub use tree::write_tree;

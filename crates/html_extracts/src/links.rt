@@ -12,15 +12,15 @@ use html_nodes::{attribute_of, element_name, nodes_below};
 use markup::{KnownNamespace, ParseFault, Text};
 use std::alloc::Global;
 
-// Whether an element of HTML of this name leads where its `href` says.
-fn has_href(local: &str) -> bool
+/// Whether an element of HTML of this name leads where its `href` says.
+pub fn has_href(local: &str) -> bool
     ensures { result ≡ spec.has_href local.now }
 {
     local == "a" || local == "area" || local == "link"
 }
 
-// Whether an element of HTML of this name takes what it shows from where its `src` says.
-fn has_source(local: &str) -> bool
+/// Whether an element of HTML of this name takes what it shows from where its `src` says.
+pub fn has_source(local: &str) -> bool
     ensures { result ≡ spec.has_source local.now }
 {
     local == "img"
@@ -53,20 +53,22 @@ pub fn link_of(forest: &Forest, id: NodeId) -> Option<&str>
     None
 }
 
-// Whether a character of a link stays in it (URL Standard, section 4.4).
+// Whether a character of a URL stays in it (URL Standard, section 4.4).
 fn is_in_line(character: char) -> bool
     ensures { result ≡ is_in_line character }
 {
     character != '\t' && character != '\n' && character != '\r'
 }
 
-// A link in one line.
-fn line_of(alloc: Global, link: &str) -> Result<Text, ParseFault>
-    ensures ok { IfOk result (λ line. line ≡ filter is_in_line (chars link.now)) }
+/// The characters of a URL but tabs and line breaks, which are no part of it (URL Standard, section 4.4).
+///
+/// Errors: [`ParseFault::Memory`].
+pub fn without_breaks(alloc: Global, url: &str) -> Result<Text, ParseFault>
+    ensures ok { IfOk result (λ line. line ≡ filter is_in_line (chars url.now)) }
     ensures fault { IfErr result (λ fault. fault ≡ Memory) }
 {
     let mut line = Text::empty(alloc);
-    for character in link.chars() {
+    for character in url.chars() {
         if is_in_line(character) {
             line.push(character)?;
         }
@@ -83,7 +85,7 @@ pub fn links_below(alloc: Global, forest: &Forest, top: NodeId) -> Result<Vec<Te
     let mut found = Vec::new(alloc);
     for id in nodes_below(forest, top) {
         if let Some(link) = link_of(forest, id) {
-            found.push(line_of(alloc, link)?)?;
+            found.push(without_breaks(alloc, link)?)?;
         }
     }
     Ok(found)
