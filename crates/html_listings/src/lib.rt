@@ -12,5 +12,5 @@ mod srcset;
 mod writing;
 
 pub use links::{Link, LinkKind, links_below};
-pub use listing::{Listing, write_links};
+pub use listing::{Listing, local_of, write_links};
 pub use selected::{Show, write_selected};

@@ -1,13 +1,13 @@
 //! The links of a page, of each kind.
-ghost use Rattle.std.specs.Prelude.{◌≡◌, ◌∷◌, ◌++◌, [], IfErr, IfOk, OnOk, filter, map};
+ghost use Rattle.std.specs.Prelude.{◌≡◌, ◌∷◌, ◌++◌, [], IfErr, IfOk, OnOk, map};
 ghost use Rattle.std.specs.List.{flat_map};
 ghost use Rattle.std.specs.Str.{chars};
 ghost use Rattle.markup.specs.declared.fault.ParseFault.TheVariants.{Memory};
-ghost use Rattle.html_extracts.specs.Links.{has_href, has_source, is_in_line};
 ghost use Rattle.html_listings.specs.Links as spec;
 ghost use Rattle.html_listings.specs.Links.{in_one_line, kinds, leads, link, links_at, links_of, urls_in, word_of};
 
 use crate::srcset::candidates;
+use html_extracts::{has_href, has_source, without_breaks};
 use html_forest::{Forest, NodeId};
 use html_nodes::{attribute_of, element_name, nodes_below};
 use markup::{KnownNamespace, ParseFault, Text};
@@ -67,29 +67,6 @@ const KINDS: [LinkKind; 6] = [
     LinkKind::Poster,
 ];
 
-/// Whether an element of HTML of this name leads where its `href` says.
-fn has_href(local: &str) -> bool
-    ensures { result ≡ has_href local.now }
-{
-    local == "a" || local == "area" || local == "link"
-}
-
-/// Whether an element of HTML of this name takes what it shows from where its `src` says.
-fn has_source(local: &str) -> bool
-    ensures { result ≡ has_source local.now }
-{
-    local == "img"
-        || local == "script"
-        || local == "iframe"
-        || local == "source"
-        || local == "video"
-        || local == "audio"
-        || local == "track"
-        || local == "embed"
-        || local == "input"
-        || local == "frame"
-}
-
 /// Whether an element of HTML of this name has URLs in the attribute.
 #[tactic(auto, unfolding(crate::specs::Links::leads))]
 fn leads(kind: LinkKind, local: &str) -> bool
@@ -103,27 +80,6 @@ fn leads(kind: LinkKind, local: &str) -> bool
         LinkKind::Data => local == "object",
         LinkKind::Poster => local == "video",
     }
-}
-
-/// Whether a character of a URL stays in it (URL Standard, section 4.4).
-fn is_in_line(character: char) -> bool
-    ensures { result ≡ is_in_line character }
-{
-    character != '\t' && character != '\n' && character != '\r'
-}
-
-/// The characters of a URL without tabs and line breaks.
-fn without_breaks(alloc: Global, url: &str) -> Result<Text, ParseFault>
-    ensures ok { IfOk result (λ line. line ≡ filter is_in_line (chars url.now)) }
-    ensures fault { IfErr result (λ fault. fault ≡ Memory) }
-{
-    let mut line = Text::empty(alloc);
-    for character in url.chars() {
-        if is_in_line(character) {
-            line.push(character)?;
-        }
-    }
-    Ok(line)
 }
 
 /// A URL in one line, without the white space at its ends.

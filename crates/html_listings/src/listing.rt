@@ -45,8 +45,8 @@ struct Page<'a> {
     base: Option<Url>,
 }
 
-/// The local name of an element.
-fn local_of(forest: &Forest, id: NodeId) -> &str
+/// The local name of an element; empty for another node.
+pub fn local_of(forest: &Forest, id: NodeId) -> &str
     ensures { result.now ≡ local_of forest.now id }
 {
     match element_name(forest, id) {
