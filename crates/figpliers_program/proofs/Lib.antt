@@ -1,5 +1,7 @@
+mod Answering
 mod Building
 mod Found
+mod Given
 mod Texts
 mod Made
 mod Notes
@@ -7,5 +9,6 @@ mod Outcomes
 mod Paths
 mod Printing
 mod Reading
+mod Rejections
+mod Reported
 mod Sources
-mod Told

@@ -1,17 +1,16 @@
 -- Pages one after another.
-use Rattle.std.proofs.Common.{◌≡◌, ◌∙◌, ◌+◌, ◌<◌, ℕ, List, drop, get_or, length, map, refl, subst, sym}
+use Rattle.std.proofs.Common.{◌≡◌, ◌∙◌, ◌+◌, ◌<◌, ℕ, List, drop, get_or, inl, length, map, refl, subst, sym}
 use Rattle.std.proofs.lemmas.List.{drop_more}
-use Rattle.std.specs.Prelude.{Result, codes}
+use Rattle.std.specs.Prelude.{Result}
 use Rattle.figpliers.specs.Puts.{WriterView}
 use Rattle.html_normal_program.specs.Program.{Files}
-use Rattle.figpliers_program.specs.Jobs.{IsRefused}
+use Rattle.figpliers_program.specs.Jobs.{IsRefused, ReportsNoMemory}
 use Rattle.figpliers_program.specs.Outcome.{AreDone, IfUnwritten, IsPageDone, Stream}
-use Rattle.figpliers_program.specs.Verdicts.{Tells, graver}
+use Rattle.figpliers_program.specs.Verdicts.{graver}
 use Rattle.figpliers_program.specs.declared.command.DocumentJob.TheVariants.{Check, Links, Markdown, Select, Text, Tree}
 use Rattle.figpliers_program.specs.declared.command.Job.{Job}
 use Rattle.figpliers_program.specs.declared.command.Job.TheVariants.{OfDocument, OfText}
 use Rattle.figpliers_program.specs.declared.faults.PageFault.{PageFault}
-use Rattle.figpliers_program.specs.declared.faults.PageFault.TheVariants.{Memory}
 use Rattle.figpliers_program.specs.declared.faults.Verdict.{Verdict}
 use Rattle.figpliers_program.specs.declared.faults.Verdict.TheVariants.{Errors, Fault, Fine, Nothing, Unwritten}
 
@@ -29,16 +28,16 @@ if-so verdict P Q is p = subst (λ v. IfUnwritten v P Q) (sym is) p
 pub goes-on : {X : Type 0} (files : Files)
     (IsMadeOf : (name page : List ℕ) → WriterView → Result Verdict PageFault → WriterView → Type 0)
     (f : X → List ℕ) (items : List X) (i : ℕ) (d : X) (name : List ℕ) (before one after : Verdict) (left next left' : Stream)
-    (out mid out' : WriterView) (errors told errors' : Stream) (verdict : Verdict) → i < length items → name ≡ f (get_or items i d)
-    → IsPageDone files IsMadeOf name left next out mid errors told one → after ≡ graver before one → (after ≡ Unwritten → ⊥)
-    → AreDone files IsMadeOf (map f (drop (i + 1) items)) after next left' mid out' told errors' verdict
+    (out mid out' : WriterView) (errors between errors' : Stream) (verdict : Verdict) → i < length items → name ≡ f (get_or items i d)
+    → IsPageDone files IsMadeOf name left next out mid errors between one → after ≡ graver before one → (after ≡ Unwritten → ⊥)
+    → AreDone files IsMadeOf (map f (drop (i + 1) items)) after next left' mid out' between errors' verdict
     → AreDone files IsMadeOf (map f (drop i items)) before left left' out out' errors errors' verdict
-goes-on files IsMadeOf f items i d name before one after left next left' out mid out' errors told errors' verdict
+goes-on files IsMadeOf f items i d name before one after left next left' out mid out' errors between errors' verdict
     inside is page gives other rest =
     rw (drop_more items i d inside) (
       next,
       mid,
-      told,
+      between,
       one,
       rw is at page,
       if-other (graver before one) _ _ (λ e. other (gives ∙ e)) (rw gives at rest),
@@ -48,25 +47,25 @@ goes-on files IsMadeOf f items i d name before one after left next left' out mid
 pub stops : {X : Type 0} (files : Files)
     (IsMadeOf : (name page : List ℕ) → WriterView → Result Verdict PageFault → WriterView → Type 0)
     (f : X → List ℕ) (items : List X) (i : ℕ) (d : X) (name : List ℕ) (before one after : Verdict) (left next : Stream)
-    (out mid : WriterView) (errors told : Stream) → i < length items → name ≡ f (get_or items i d)
-    → IsPageDone files IsMadeOf name left next out mid errors told one → after ≡ graver before one → after ≡ Unwritten
-    → AreDone files IsMadeOf (map f (drop i items)) before left next out mid errors told Unwritten
-stops files IsMadeOf f items i d name before one after left next out mid errors told inside is page gives unwritten =
+    (out mid : WriterView) (errors between : Stream) → i < length items → name ≡ f (get_or items i d)
+    → IsPageDone files IsMadeOf name left next out mid errors between one → after ≡ graver before one → after ≡ Unwritten
+    → AreDone files IsMadeOf (map f (drop i items)) before left next out mid errors between Unwritten
+stops files IsMadeOf f items i d name before one after left next out mid errors between inside is page gives unwritten =
     rw (drop_more items i d inside) (
       next,
       mid,
-      told,
+      between,
       one,
       rw is at page,
       if-so (graver before one) _ _ (sym gives ∙ unwritten) (refl, refl, refl, refl),
     )
 
 -- out of memory is a refusal of every command
-pub refused : (job : Job) (errors errors' : Stream) → Tells (codes "figpliers") Memory errors errors' → IsRefused job errors errors'
-refused (OfText job) errors errors' told = told
-refused (OfDocument (Select selector show)) errors errors' told = tt
-refused (OfDocument Tree) errors errors' told = told
-refused (OfDocument Text) errors errors' told = told
-refused (OfDocument Check) errors errors' told = told
-refused (OfDocument Markdown) errors errors' told = told
-refused (OfDocument (Links listing)) errors errors' told = told
+pub refused : (job : Job) (errors errors' : Stream) → ReportsNoMemory errors errors' → IsRefused job errors errors'
+refused (OfText job) errors errors' line = line
+refused (OfDocument (Select selector show)) errors errors' line = inl line
+refused (OfDocument Tree) errors errors' line = line
+refused (OfDocument Text) errors errors' line = line
+refused (OfDocument Check) errors errors' line = line
+refused (OfDocument Markdown) errors errors' line = line
+refused (OfDocument (Links listing)) errors errors' line = line

@@ -1,10 +1,12 @@
 -- What the words after the program's name ask for, by what clap makes of them.
-use Rattle.std.specs.Prelude.{◌≡◌, ◌⊎◌, Bool, String, true, false, not, List, [], map, Option, Some, None, codes, option_map, unwrap_or}
-use Rattle.std.specs.Prelude.{is_some}
-use Rattle.std.specs.declared.alloc.Global.{Global}
-use Rattle.std.specs.Char.{to_ascii_lowercase}
+use Rattle.std.specs.Prelude.{◌≡◌, ◌&&◌, ◌||◌, ◌==◌, ℕ, Bool, true, false, not, List, [], ◌∷◌, map, Option, Some, None, codes}
+use Rattle.std.specs.Prelude.{count_by, is_some, nat_le, option_map, slice_get, unwrap_or}
+use Rattle.std.specs.Char.{is_ascii_alphabetic, is_ascii_whitespace, to_ascii_lowercase}
+use Rattle.std.specs.List.{list_all}
+use Rattle.std.specs.Option.{option_map_or}
 use Rattle.std.specs.String.{string_bytes}
 use Rattle.clap.specs.Simple.{subcommand_of}
+use Rattle.clap.specs.Takes.{is_given}
 use Rattle.clap.specs.Walk.{Row, Text, all_of, first_of, one_of}
 use Rattle.figpliers.specs.EncodingLabels.{label_encoding}
 use Rattle.figpliers_program.specs.CommandLine.{figpliers}
@@ -95,22 +97,68 @@ pub record IsAsked (name : Text) (rows : List Row) (asked : Asked) : Type 0 wher
   pub output : option_map string_bytes asked.output ≡ first_of (codes "output") rows
   pub files : map string_bytes asked.files.items ≡ unwrap_or (all_of (codes "files") rows) []
 
--- a label that is given is that of an encoding
+-- OPTIONS THAT EXCLUDE EACH OTHER
+
+-- at most one of these options is used
+abbrev pub are_apart : List Row → List Text → Bool
+are_apart rows names = nat_le (count_by (λ name. is_given name rows) names) 1
+
+-- options that exclude each other: those that say how pages are read, what is printed of elements, of links, and whether names are
+abbrev pub reading_options : List Text
+reading_options = codes "encoding" ∷ codes "utf-8" ∷ codes "lossy" ∷ []
+
+abbrev pub element_options : List Text
+element_options = codes "text" ∷ codes "attr" ∷ codes "count" ∷ codes "json" ∷ []
+
+abbrev pub link_options : List Text
+link_options = codes "kind" ∷ codes "json" ∷ []
+
+abbrev pub naming_options : List Text
+naming_options = codes "with-filename" ∷ codes "no-filename" ∷ []
+
+abbrev pub has_conflict : List Row → Bool
+has_conflict rows = not (are_apart rows reading_options && (are_apart rows element_options
+    && (are_apart rows link_options && are_apart rows naming_options)))
+
+-- the same of the command that clap entered
+abbrev pub has_conflict_in : Option (Text × List Row) → Bool
+has_conflict_in None = false
+has_conflict_in (Some (name, rows)) = has_conflict rows
+
+-- VALUES
+
+-- a label that is given is none of an encoding
 abbrev pub has_unknown_label : Reading → Bool
 has_unknown_label (Found (Some label)) = not (is_some (label_encoding (string_bytes label)))
 has_unknown_label reading = false
+
+-- a character ends the name of a tag (HTML Standard, section 13.2.5.8)
+abbrev pub ends_name : ℕ → Bool
+ends_name byte = is_ascii_whitespace byte || (byte == 47 || (byte == 62 || byte == 0))
+
+abbrev pub begins_with_letter : Text → Bool
+begins_with_letter text = option_map_or is_ascii_alphabetic (slice_get text 0) false
+
+-- a tag may have that name: it begins with a letter, and no character ends it
+abbrev pub is_name : Text → Bool
+is_name text = begins_with_letter text && list_all (λ byte. not (ends_name byte)) text
+
+-- a fragment is to be read in an element of a name that none has
+abbrev pub has_no_name : Job → Bool
+has_no_name (OfText (Fragment element)) = not (is_name (string_bytes element))
+has_no_name job = false
+
+-- WORDS
 
 -- the command that clap entered, with what it found
 abbrev pub IsCommandOf : Option (Text × List Row) → Asked → Type 0
 IsCommandOf None asked = ⊥
 IsCommandOf (Some (name, rows)) asked = IsAsked name rows asked
 
--- The words, of which the first is the program's name, name a command, and this is what it found. A label that is given is that of an
--- encoding.
+-- The words, of which the first is the program's name, name a command, and this is what it found. No two of the options that are used
+-- exclude each other, a label that is given is that of an encoding, and an element that is named has a name of elements.
 pub record AsksFor (words : List Text) (asked : Asked) : Type 0 where
   pub is : IsCommandOf (subcommand_of figpliers words) asked
+  pub apart : has_conflict_in (subcommand_of figpliers words) ≡ false
   pub label : has_unknown_label asked.reading ≡ false
-
--- The words name this file to write to, or none; or they name no command.
-abbrev pub IsOutputOf : List Text → Option (String Global) → Type 0
-IsOutputOf words found = ((asked : Asked) × AsksFor words asked × (found ≡ asked.output)) ⊎ (found ≡ None)
+  pub named : has_no_name asked.job ≡ false

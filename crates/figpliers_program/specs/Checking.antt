@@ -1,6 +1,7 @@
 -- What `check` prints of a document.
 use Rattle.std.specs.Prelude.{◌≡◌, ◌⊎◌, ◌++◌, ◌∷◌, ℕ, false, true, List, [], Option, Some, None, codes}
 use Rattle.html_faithful.specs.Walk.{is_faithful_forest}
+use Rattle.html_faithful_walk.specs.First.{IsFirst}
 use Rattle.html_faithful_walk.specs.Reasons.{shows}
 use Rattle.html_faithful_walk.specs.declared.reasons.Unfaithful.{Unfaithful}
 use Rattle.html_faithful_walk.specs.declared.reasons.Unfaithful.TheVariants as why
@@ -59,10 +60,12 @@ faithful_line name = name ++ codes ": faithful\n"
 abbrev pub unfaithful_line : (name path reason : List ℕ) → List ℕ
 unfaithful_line name path reason = name ++ (codes ": " ++ (path ++ (codes ": " ++ (reason ++ codes "\n"))))
 
--- a document is not faithful, and this is the line of one of its nodes: where it is, and what it shows of the reason
+-- a document is not faithful, and this is the line of the first of its nodes that is not read as it is written: where it is, and what it
+-- shows of the reason
 pub record IsUnfaithful (name : List ℕ) (document : Forest) (text : List ℕ) (verdict : Verdict) : Type 0 where
   pub judged : is_faithful_forest true document ≡ false
   pub node : ℕ
+  pub first : IsFirst true document node
   pub around : List ℕ
   pub are_around : AreAround document node around
   pub why : Unfaithful

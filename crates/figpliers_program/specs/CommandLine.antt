@@ -18,11 +18,7 @@ flag_rule name = record (new_rule name) { long = Some name; action = Some SetTru
 abbrev pub option_rule : Text → Rule
 option_rule name = record (new_rule name) { long = Some name; action = Some Set; value_names = 1 }
 
--- an option that may not be used beside some others
-abbrev pub excluding : Rule → Rule
-excluding rule = record rule { is_free = false }
-
--- an option of its command alone that may be used beside all others
+-- an option of its command alone, of which clap has no rule on its use beside others
 abbrev pub IsPlainOption : Arg → Type 0
 IsPlainOption option = (option.global ≡ false) × (option.conflicts.items ≡ [])
 
@@ -41,7 +37,7 @@ abbrev pub selector_rule : Rule
 selector_rule = record (new_rule (codes "selector")) { action = Some Set; value_names = 1; required = true }
 
 abbrev pub with_names_rule : Rule
-with_names_rule = excluding (record (flag_rule (codes "with-filename")) { short = Some 72 })
+with_names_rule = record (flag_rule (codes "with-filename")) { short = Some 72 }
 
 abbrev pub without_names_rule : Rule
 without_names_rule = record (flag_rule (codes "no-filename")) { short = Some 104 }
@@ -53,8 +49,8 @@ long_help_rule = record (new_rule (codes "help")) { long = Some (codes "help"); 
 
 -- how pages are read
 abbrev pub with_reading : App → App
-with_reading command = with_rule (with_rule (with_rule command (excluding (option_rule (codes "encoding"))))
-    (excluding (flag_rule (codes "utf-8")))) (flag_rule (codes "lossy"))
+with_reading command = with_rule (with_rule (with_rule command (option_rule (codes "encoding"))) (flag_rule (codes "utf-8")))
+    (flag_rule (codes "lossy"))
 
 -- the same, where to write to, and the pages
 abbrev pub with_pages : ArgAction → App → App
@@ -62,13 +58,13 @@ with_pages action command = with_rule (with_rule (with_reading command) output_r
 
 -- what is printed of elements
 abbrev pub with_shows : App → App
-with_shows command = with_rule (with_rule (with_rule (with_rule command (excluding (flag_rule (codes "text"))))
-    (excluding (option_rule (codes "attr")))) (excluding (flag_rule (codes "count")))) (flag_rule (codes "json"))
+with_shows command = with_rule (with_rule (with_rule (with_rule command (flag_rule (codes "text"))) (option_rule (codes "attr")))
+    (flag_rule (codes "count"))) (flag_rule (codes "json"))
 
 -- how links are printed
 abbrev pub with_listing : App → App
 with_listing command = with_rule (with_rule (with_rule (with_rule command (option_rule (codes "base"))) (flag_rule (codes "anchors")))
-    (excluding (flag_rule (codes "kind")))) (flag_rule (codes "json"))
+    (flag_rule (codes "kind"))) (flag_rule (codes "json"))
 
 -- whether the names of files are
 abbrev pub with_naming : App → App

@@ -1,11 +1,15 @@
 -- What is written of a page by each command, and what the program does for a command.
 use Rattle.std.specs.Prelude.{◌≡◌, ◌⊎◌, ◌∷◌, ℕ, Bool, List, [], map, codes, Result, Ok, Err, nat_lt}
+use Rattle.std.specs.Bool.{MatchBool}
 use Rattle.std.specs.Str.{chars}
 use Rattle.std.specs.Vec.{vec_len}
 use Rattle.std.specs.String.{string_bytes}
+use Rattle.clap.specs.declared.error.kind.ErrorKind.{ErrorKind}
 use Rattle.selectors.specs.declared.selector.Selectors.{Selectors}
 use Rattle.html_selector_text.specs.Grammar.{parsed}
+use Rattle.html_selector_text.specs.Results.{Fails, Wrong}
 use Rattle.html_selector_text.specs.Trees.{list_tree}
+use Rattle.html_selector_text.specs.declared.fault.SelectorError.{SelectorError}
 use Rattle.figpliers.specs.Puts.{Broke, WriterView, with_bytes}
 use Rattle.figpliers.specs.Table.{Row}
 use Rattle.figpliers.specs.TableFile.{rows_of}
@@ -16,7 +20,8 @@ use Rattle.figpliers_program.specs.Outcome.{AreDone, IsPageDone, Stream}
 use Rattle.figpliers_program.specs.Pages.{PageText, TextText}
 use Rattle.figpliers_program.specs.Printing.{PrintsSome}
 use Rattle.figpliers_program.specs.Reading.{HasNoText, IsTextOf}
-use Rattle.figpliers_program.specs.Verdicts.{Tells}
+use Rattle.figpliers_program.specs.Rejected.{IsRejectedBy, is_help}
+use Rattle.figpliers_program.specs.Verdicts.{IsReported}
 use Rattle.figpliers_program.specs.declared.command.Asked.{Asked}
 use Rattle.figpliers_program.specs.declared.command.DocumentJob.{DocumentJob}
 use Rattle.figpliers_program.specs.declared.command.DocumentJob.TheVariants.{Select}
@@ -61,10 +66,21 @@ ArePagesDone files P [] left left' out out' errors errors' verdict =
 ArePagesDone files P (name ∷ names) left left' out out' errors errors' verdict =
     AreDone files P (name ∷ names) Nothing left left' out out' errors errors' verdict
 
--- What is reported where nothing was done: out of memory, for every command but `select`. Of what `select` reports nothing is said.
+-- an error of reading selectors, of a command: the text of those of `select` is none, or memory ran out
+abbrev pub AreNoSelectors : Job → SelectorError → Type 0
+AreNoSelectors (OfDocument (Select selector show)) error = Fails error (parsed (chars (string_bytes selector)))
+AreNoSelectors job error = ⊥
+
+-- the line of the program that says that it is out of memory
+abbrev pub ReportsNoMemory : (errors errors' : Stream) → Type 0
+ReportsNoMemory errors errors' = IsReported (codes "figpliers") Memory errors errors'
+
+-- Why nothing was done for a command: out of memory; or the text of the selectors of `select` is none, and of what is reported then nothing
+-- is said.
 abbrev pub IsRefused : Job → (errors errors' : Stream) → Type 0
-IsRefused (OfDocument (Select selector show)) errors errors' = Unit {0}
-IsRefused job errors errors' = Tells (codes "figpliers") Memory errors errors'
+IsRefused (OfDocument (Select selector show)) errors errors' = ReportsNoMemory errors errors'
+    ⊎ ((wrong : Wrong) × (parsed (chars (string_bytes selector)) ≡ Err wrong))
+IsRefused job errors errors' = ReportsNoMemory errors errors'
 
 -- What is asked for was done with the Standard's references; or nothing was read or written but to standard error.
 abbrev pub IsRun : Files → Asked → (left left' : Stream) (out out' : WriterView) (errors errors' : Stream) → Verdict → Type 0
@@ -73,15 +89,30 @@ IsRun files asked left left' out out' errors errors' verdict =
     ⊎ ((table : List Row) × (rows_of STANDARD_ROWS.now ≡ Ok table) × ArePagesDone files (IsMadeOf table asked)
     (map string_bytes asked.files.items) left left' out out' errors errors' verdict)
 
--- The outcome of arguments that name no command: an error, and nothing on standard output; or help, which is written to standard output.
-abbrev pub IsAnswered : (out out' : WriterView) (errors errors' : Stream) → Verdict → Type 0
-IsAnswered out out' errors errors' Fault = out' ≡ out
-IsAnswered out out' errors errors' Fine = (errors' ≡ errors) × ((text : List ℕ) × (out' ≡ with_bytes out text))
-IsAnswered out out' errors errors' Unwritten = (errors' ≡ errors) × ((text : List ℕ) × Broke out text out')
-IsAnswered out out' errors errors' verdict = ⊥
+-- What becomes of words that are rejected by an error of a kind: help, or the version, is written to standard output, or a beginning of it;
+-- of what is written to standard error for any other nothing is said.
+abbrev pub IsHelped : (out out' : WriterView) (errors errors' : Stream) → Verdict → Type 0
+IsHelped out out' errors errors' Fine = (errors' ≡ errors) × ((text : List ℕ) × (out' ≡ with_bytes out text))
+IsHelped out out' errors errors' Unwritten = (errors' ≡ errors) × ((text : List ℕ) × Broke out text out')
+IsHelped out out' errors errors' verdict = ⊥
+
+abbrev pub IsAnswered : ErrorKind → (out out' : WriterView) (errors errors' : Stream) → Verdict → Type 0
+IsAnswered kind out out' errors errors' verdict =
+    MatchBool (is_help kind) (IsHelped out out' errors errors' verdict) ((verdict ≡ Fault) × (out' ≡ out))
+
+-- the program was out of memory before it did anything
+abbrev pub IsOutOfMemory : (out out' : WriterView) (errors errors' : Stream) → Verdict → Type 0
+IsOutOfMemory out out' errors errors' verdict = (verdict ≡ Fault) × (out' ≡ out) × ReportsNoMemory errors errors'
+
+-- the words are rejected, and this is the answer
+abbrev pub IsRejection : List (List ℕ) → (out out' : WriterView) (errors errors' : Stream) → Verdict → Type 0
+IsRejection words out out' errors errors' verdict =
+    (kind : ErrorKind) × IsRejectedBy words kind × IsAnswered kind out out' errors errors' verdict
 
 -- The outcome of the program, by the files and the words, the bytes of standard input that are left before and after it, the view of
 -- standard output, and the bytes that were written to standard error.
 abbrev pub IsOutcome : Files → List (List ℕ) → (left left' : Stream) (out out' : WriterView) (errors errors' : Stream) → Verdict → Type 0
-IsOutcome files words left left' out out' errors errors' verdict = ((left' ≡ left) × IsAnswered out out' errors errors' verdict)
+IsOutcome files words left left' out out' errors errors' verdict =
+    ((left' ≡ left) × IsOutOfMemory out out' errors errors' verdict)
+    ⊎ ((left' ≡ left) × IsRejection words out out' errors errors' verdict)
     ⊎ ((asked : Asked) × AsksFor words asked × IsRun files asked left left' out out' errors errors' verdict)

@@ -7,4 +7,7 @@ pub mod Outcome
 pub mod Pages
 pub mod Printing
 pub mod Reading
+pub mod Rejected
+pub mod RowsOfLines
+pub mod RowsOfWords
 pub mod Verdicts

@@ -3,7 +3,7 @@ use Rattle.std.specs.Prelude.{◌≡◌, ◌⊎◌, ◌∷◌, ℕ, List, [], Op
 use Rattle.figpliers.specs.Puts.{WriterView}
 use Rattle.html_normal_program.specs.Program.{Files}
 use Rattle.figpliers_program.specs.Reading.{IsNotRead, IsRead}
-use Rattle.figpliers_program.specs.Verdicts.{Tells, graver, verdict_of}
+use Rattle.figpliers_program.specs.Verdicts.{IsReported, graver, verdict_of}
 use Rattle.figpliers_program.specs.declared.faults.PageFault.{PageFault}
 use Rattle.figpliers_program.specs.declared.faults.Verdict.{Verdict}
 use Rattle.figpliers_program.specs.declared.faults.Verdict.TheVariants.{Unwritten}
@@ -14,7 +14,7 @@ Stream = Option (List ℕ)
 -- how a page ends: its verdict, and for an error its line on standard error
 abbrev pub Ends : (name : List ℕ) → Result Verdict PageFault → (errors errors' : Stream) → Verdict → Type 0
 Ends name (Ok done) errors errors' verdict = (verdict ≡ done) × (errors' ≡ errors)
-Ends name (Err fault) errors errors' verdict = (verdict ≡ verdict_of fault) × Tells name fault errors errors'
+Ends name (Err fault) errors errors' verdict = (verdict ≡ verdict_of fault) × IsReported name fault errors errors'
 
 -- where not all was written, P, and else Q
 abbrev pub IfUnwritten : Verdict → Type 0 → Type 0 → Type 0
@@ -40,7 +40,7 @@ module _ (files : Files) (IsMadeOf : (name bytes : List ℕ) → WriterView → 
       → (left left' : Stream) (out out' : WriterView) (errors errors' : Stream) → Verdict → Type 0
   AreDone [] before left left' out out' errors errors' verdict = (verdict ≡ before) × (left' ≡ left) × (out' ≡ out) × (errors' ≡ errors)
   AreDone (name ∷ names) before left left' out out' errors errors' verdict =
-      (next : Stream) × (mid : WriterView) × (told : Stream) × (one : Verdict)
-      × IsPageDone name left next out mid errors told one
-      × IfUnwritten (graver before one) ((verdict ≡ Unwritten) × (left' ≡ next) × (out' ≡ mid) × (errors' ≡ told))
-      (AreDone names (graver before one) next left' mid out' told errors' verdict)
+      (next : Stream) × (mid : WriterView) × (between : Stream) × (one : Verdict)
+      × IsPageDone name left next out mid errors between one
+      × IfUnwritten (graver before one) ((verdict ≡ Unwritten) × (left' ≡ next) × (out' ≡ mid) × (errors' ≡ between))
+      (AreDone names (graver before one) next left' mid out' between errors' verdict)

@@ -67,11 +67,11 @@ IsUnread fault = ⊥
 -- FILES, by what is stated of the file of a name
 
 abbrev pub IsFileRead : Option (Option (List ℕ)) → (bytes : List ℕ) → Type 0
-IsFileRead told bytes = (left : Option (List ℕ)) × (left' : Option (List ℕ)) × IsOpened told left × IsReadFrom left left' bytes
+IsFileRead stated bytes = (left : Option (List ℕ)) × (left' : Option (List ℕ)) × IsOpened stated left × IsReadFrom left left' bytes
 
 abbrev pub IsFileUnread : Option (Option (List ℕ)) → PageFault → Type 0
-IsFileUnread told (Open why) = IsMissing told
-IsFileUnread told fault = (left : Option (List ℕ)) × IsOpened told left × IsUnread fault
+IsFileUnread stated (Open why) = IsMissing stated
+IsFileUnread stated fault = (left : Option (List ℕ)) × IsOpened stated left × IsUnread fault
 
 -- PAGES: the name - is that of standard input
 

@@ -61,6 +61,6 @@ verdict_of fault = Fault
 
 -- How an error is reported on standard error: by its line, or a prefix of the line where a write failed. A failed write to standard output
 -- is not reported.
-abbrev pub Tells : List ℕ → PageFault → (errors errors' : Option (List ℕ)) → Type 0
-Tells name Write errors errors' = errors' ≡ errors
-Tells name fault errors errors' = (failed : Bool) × IsPut (fault_line name fault) errors errors' failed
+abbrev pub IsReported : List ℕ → PageFault → (errors errors' : Option (List ℕ)) → Type 0
+IsReported name Write errors errors' = errors' ≡ errors
+IsReported name fault errors errors' = (failed : Bool) × IsPut (fault_line name fault) errors errors' failed

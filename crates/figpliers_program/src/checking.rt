@@ -8,13 +8,14 @@ ghost use Rattle.figpliers_program.specs.Checking.{slashed, unfaithful_line};
 ghost use Rattle.figpliers_program.specs.Printing.{Prints, PrintsSome};
 ghost use Rattle.figpliers_program.specs.declared.faults.PageFault.TheVariants.{Memory};
 ghost use Rattle.html_faithful.specs.Walk.{is_faithful_forest};
-ghost use Rattle.html_listings.specs.Listings.{local_of};
+ghost use Rattle.html_faithful_walk.specs.First.{IsFirst};
 
 use crate::faults::{PageFault, Verdict};
 use crate::writing::put;
 use figpliers::{
     Forest, NodeId, Target, Unfaithful, element_name, first_unfaithful, why_unfaithful,
 };
+use html_listings::local_of;
 use std::alloc::{AllocError, Global};
 
 /// What is wrong with a node, in words.
@@ -33,16 +34,6 @@ fn reason(why: Unfaithful) -> &'static str
         Unfaithful::BesideText => "the text follows another text",
         Unfaithful::RawText => "the text does not end where its element ends",
         Unfaithful::Place => "something else is read here",
-    }
-}
-
-/// The local name of an element.
-fn local_of(forest: &Forest, id: NodeId) -> &str
-    ensures { result.now ≡ local_of forest.now id }
-{
-    match element_name(forest, id) {
-        Some(name) => name.local.as_str(),
-        None => "",
     }
 }
 
@@ -129,7 +120,8 @@ fn write_unfaithful<W: Target>(
     id: NodeId,
     writer: &mut W,
 ) -> Result<Verdict, PageFault>
-    requires { is_faithful_forest true forest.now ≡ false }
+    requires judged { is_faithful_forest true forest.now ≡ false }
+    requires first { IsFirst true forest.now id }
     ensures { PrintsSome (IsUnfaithful name.now forest.now) (told_by W.written W.failures writer.old) result
         (told_by W.written W.failures writer.new) }
 {

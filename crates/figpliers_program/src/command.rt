@@ -1,15 +1,23 @@
 //! The words after the program's name.
 
-ghost use Rattle.std.specs.Prelude.{◌≡◌, IfOk, IfSome, Some, [], codes, map, option_map, unwrap_or};
+ghost use Rattle.std.specs.Prelude.{◌≡◌, ◌⊎◌, ◌||◌, IfErr, IfOk, IfSome, None, Ok, Some, [], codes, count_by, false, is_some, map};
+ghost use Rattle.std.specs.Prelude.{nat_le, not, option_map, unwrap_or};
+ghost use Rattle.std.specs.List.{list_all};
 ghost use Rattle.std.specs.String.{string_bytes};
 ghost use Rattle.clap.specs.Matches.{found_of};
 ghost use Rattle.clap.specs.Simple.{subcommand_rows_of};
+ghost use Rattle.clap.specs.Takes as clap_spec;
+ghost use Rattle.clap.specs.Values.{kind_of};
 ghost use Rattle.clap.specs.Walk.{all_of, first_of, rows_of};
+ghost use Rattle.clap.specs.declared.error.kind.ErrorKind.TheVariants.{OutOfMemory};
 ghost use Rattle.figpliers_program.specs.Asked as spec;
-ghost use Rattle.figpliers_program.specs.Asked.{AsksFor, IsJob, IsListing, IsNaming, IsReading, IsSet, IsShow, lowered_value};
+ghost use Rattle.figpliers_program.specs.Asked.{AsksFor, IsJob, IsListing, IsNaming, IsReading, IsSet, IsShow, has_conflict_in};
+ghost use Rattle.figpliers_program.specs.Asked.{lowered_value};
+ghost use Rattle.figpliers_program.specs.Rejected.{IsRejectedBy, enters_command, is_command};
 
 use crate::command_line::command_line;
 use clap::error::ErrorKind;
+use clap::parser::ValueSource;
 use clap::{ArgMatches, Error};
 use figpliers::encoding_of_label;
 use html_listings::{Listing, Show};
@@ -117,14 +125,41 @@ fn fragment_of(alloc: Global, matches: &ArgMatches<'_>) -> Result<Option<String>
     }
 }
 
-/// Whether a tag may have that name (HTML Standard, section 13.2.5.8).
-fn is_name(name: &str) -> bool {
-    name.starts_with(|c: char| c.is_ascii_alphabetic())
-        && !name.contains(|c: char| c.is_ascii_whitespace() || matches!(c, '/' | '>' | '\0'))
+/// Whether a character ends the name of a tag (HTML Standard, section 13.2.5.8).
+fn ends_name(byte: u8) -> bool
+    ensures { result ≡ spec.ends_name byte }
+{
+    byte.is_ascii_whitespace() || byte == b'/' || byte == b'>' || byte == 0
+}
+
+/// Whether a text begins with a letter.
+fn begins_with_letter(bytes: &[u8]) -> bool
+    ensures { result ≡ spec.begins_with_letter bytes.now }
+{
+    match bytes.first() {
+        Some(byte) => byte.is_ascii_alphabetic(),
+        None => false,
+    }
+}
+
+/// Whether no character of a text ends the name of a tag.
+fn goes_on(bytes: &[u8]) -> bool
+    ensures { result ≡ list_all (λ byte. not (spec.ends_name byte)) bytes.now }
+{
+    bytes.iter().all(|byte| !ends_name(*byte))
+}
+
+/// Whether a tag may have that name.
+fn is_name(name: &str) -> bool
+    ensures { result ≡ spec.is_name name.now }
+{
+    begins_with_letter(name.as_bytes()) && goes_on(name.as_bytes())
 }
 
 /// Whether a fragment is to be read in an element of a name that none has.
-fn has_no_name(job: &Job) -> bool {
+fn has_no_name(job: &Job) -> bool
+    ensures { result ≡ spec.has_no_name job.now }
+{
     match job {
         Job::OfText(TextJob::Fragment { element }) => !is_name(element.as_str()),
         _ => false,
@@ -218,7 +253,8 @@ fn links_of(alloc: Global, matches: &ArgMatches<'_>) -> Result<Job, AllocError>
 
 /// What a command of that name does; nothing where there is none of that name.
 fn job_of(alloc: Global, name: &str, matches: &ArgMatches<'_>) -> Result<Option<Job>, AllocError>
-    ensures { IfOk result (λ found. IfSome found (IsJob name.now (rows_of (found_of matches.now)))) }
+    ensures ok { IfOk result (λ found. IfSome found (IsJob name.now (rows_of (found_of matches.now)))) }
+    ensures none { (result ≡ Ok None) → is_command name.now ≡ false }
 {
     match name {
         "errors" => Ok(Some(Job::OfText(TextJob::Errors))),
@@ -286,7 +322,8 @@ fn asked_of(
     name: &str,
     matches: &ArgMatches<'_>,
 ) -> Result<Option<Asked>, AllocError>
-    ensures { IfOk result (λ found. IfSome found (spec.IsAsked name.now (rows_of (found_of matches.now)))) }
+    ensures ok { IfOk result (λ found. IfSome found (spec.IsAsked name.now (rows_of (found_of matches.now)))) }
+    ensures none { (result ≡ Ok None) → is_command name.now ≡ false }
 {
     let Some(job) = job_of(alloc, name, matches)? else {
         return Ok(None);
@@ -301,7 +338,8 @@ fn asked_of(
 
 /// What was asked for; nothing where no command was named.
 fn read_matches(alloc: Global, matches: &ArgMatches<'_>) -> Result<Option<Asked>, AllocError>
-    ensures { IfOk result (λ found. IfSome found (spec.IsCommandOf (subcommand_rows_of matches.now))) }
+    ensures ok { IfOk result (λ found. IfSome found (spec.IsCommandOf (subcommand_rows_of matches.now))) }
+    ensures none { (result ≡ Ok None) → enters_command (subcommand_rows_of matches.now) ≡ false }
 {
     match matches.subcommand() {
         Some((name, matches)) => asked_of(alloc, name, matches),
@@ -309,26 +347,83 @@ fn read_matches(alloc: Global, matches: &ArgMatches<'_>) -> Result<Option<Asked>
     }
 }
 
+/// Whether an option is used, and does not just have its default.
+fn is_given(matches: &ArgMatches<'_>, name: &str) -> bool
+    ensures { result ≡ clap_spec.is_given name.now (rows_of (found_of matches.now)) }
+{
+    match matches.value_source(name) {
+        Some(ValueSource::DefaultValue) => false,
+        Some(ValueSource::CommandLine) => true,
+        None => matches.contains_id(name),
+    }
+}
+
+/// Whether at most one of some options is used.
+fn are_apart(matches: &ArgMatches<'_>, names: &[&str]) -> bool
+    ensures { result ≡ nat_le (count_by (λ name. clap_spec.is_given name.now (rows_of (found_of matches.now))) names.now) 1 }
+{
+    names.iter().filter(|name| is_given(matches, name)).count() <= 1
+}
+
+/// Which options of a command exclude each other, in words, if some do that are used.
+fn conflict_of(matches: &ArgMatches<'_>) -> Option<&'static str>
+    ensures { is_some result ≡ spec.has_conflict (rows_of (found_of matches.now)) }
+{
+    if !are_apart(matches, &["encoding", "utf-8", "lossy"]) {
+        return Some("only one of '--encoding', '--utf-8' and '--lossy' can be used");
+    }
+    if !are_apart(matches, &["text", "attr", "count", "json"]) {
+        return Some("only one of '--text', '--attr', '--count' and '--json' can be used");
+    }
+    if !are_apart(matches, &["kind", "json"]) {
+        return Some("only one of '--kind' and '--json' can be used");
+    }
+    if !are_apart(matches, &["with-filename", "no-filename"]) {
+        return Some("only one of '--with-filename' and '--no-filename' can be used");
+    }
+    None
+}
+
+/// The same of the command that was named.
+fn conflict_in(matches: &ArgMatches<'_>) -> Option<&'static str>
+    ensures { is_some result ≡ has_conflict_in (subcommand_rows_of matches.now) }
+{
+    match matches.subcommand() {
+        Some((_, matches)) => conflict_of(matches),
+        None => None,
+    }
+}
+
+/// Which value cannot be used, in words, if there is such a one.
+fn fault_of(asked: &Asked) -> Option<&'static str>
+    ensures { is_some result ≡ (spec.has_unknown_label asked.now.reading || spec.has_no_name asked.now.job) }
+{
+    if has_unknown_label(&asked.reading) {
+        return Some("no encoding has the label that was given");
+    }
+    if has_no_name(&asked.job) {
+        return Some("no element has the name that was given for --fragment");
+    }
+    None
+}
+
 /// What words ask for, of which the first is the program's name.
 pub fn read_words(alloc: Global, words: &[String]) -> Result<Asked, Error>
-    ensures { IfOk result (AsksFor (map string_bytes words.now)) }
+    ensures ok { IfOk result (AsksFor (map string_bytes words.now)) }
+    ensures err { IfErr result (λ error. (kind_of error ≡ OutOfMemory) ⊎ IsRejectedBy (map string_bytes words.now) (kind_of error)) }
 {
     let mut command = command_line(alloc)?;
     let matches = command.try_get_matches_from_mut(words)?;
-    let Some(asked) = read_matches(alloc, &matches)? else {
-        return Err(command.error(ErrorKind::MissingSubcommand, "no command was named")?);
+    let asked = match read_matches(alloc, &matches)? {
+        Some(asked) => asked,
+        None => return Err(command.error(ErrorKind::MissingSubcommand, "no command was named")?),
     };
-    if has_unknown_label(&asked.reading) {
-        return Err(command.error(
-            ErrorKind::ValueValidation,
-            "no encoding has the label that was given",
-        )?);
+    match conflict_in(&matches) {
+        Some(why) => return Err(command.error(ErrorKind::ArgumentConflict, why)?),
+        None => {}
     }
-    if has_no_name(&asked.job) {
-        return Err(command.error(
-            ErrorKind::ValueValidation,
-            "no element has the name that was given for --fragment",
-        )?);
+    match fault_of(&asked) {
+        Some(why) => Err(command.error(ErrorKind::ValueValidation, why)?),
+        None => Ok(asked),
     }
-    Ok(asked)
 }

@@ -1,5 +1,5 @@
 //! The commands of the program and their options.
-ghost use Rattle.std.specs.Prelude.{◌≡◌, IfOk, false};
+ghost use Rattle.std.specs.Prelude.{◌≡◌, IfOk};
 ghost use Rattle.clap.specs.Simple.{app_of};
 ghost use Rattle.clap.specs.Walk.{rule_of};
 ghost use Rattle.figpliers_program.specs.CommandLine as spec;
@@ -78,8 +78,6 @@ fn reads<'a>(alloc: Global, command: Command<'a>) -> Result<Command<'a>, AllocEr
         "lossy",
         "Read pages as UTF-8, and what is not as U+FFFD",
     );
-    let encoding = encoding.conflicts_with("utf-8")?.conflicts_with("lossy")?;
-    let utf_8 = utf_8.conflicts_with("lossy")?;
     command.arg(encoding)?.arg(utf_8)?.arg(lossy)
 }
 
@@ -159,12 +157,6 @@ fn shows<'a>(alloc: Global, command: Command<'a>) -> Result<Command<'a>, AllocEr
         "json",
         "Print an object of JSON for each element: its file, its name and its HTML",
     );
-    let text = text
-        .conflicts_with("attr")?
-        .conflicts_with("count")?
-        .conflicts_with("json")?;
-    let attribute = attribute.conflicts_with("count")?.conflicts_with("json")?;
-    let count = count.conflicts_with("json")?;
     command.arg(text)?.arg(attribute)?.arg(count)?.arg(json)
 }
 
@@ -205,21 +197,20 @@ fn lists<'a>(alloc: Global, command: Command<'a>) -> Result<Command<'a>, AllocEr
         "json",
         "Print an object of JSON for each link: its file, its kind, its element and its URL",
     );
-    let kinds = kinds.conflicts_with("json")?;
     command.arg(base)?.arg(anchors)?.arg(kinds)?.arg(json)
 }
 
 /// The option of `links` by which the names of files are printed.
-fn with_names<'a>(alloc: Global) -> Result<Arg<'a>, AllocError>
-    ensures rule { IfOk result (λ made. rule_of made ≡ spec.with_names_rule) }
-    ensures local { IfOk result (λ made. made.global ≡ false) }
+fn with_names<'a>(alloc: Global) -> Arg<'a>
+    ensures rule { rule_of result ≡ spec.with_names_rule }
+    ensures plain { IsPlainOption result }
 {
     let option = flag(
         alloc,
         "with-filename",
         "Print the name of the file before each link, as where there are several files",
     );
-    option.short('H').conflicts_with("no-filename")
+    option.short('H')
 }
 
 /// A command with the options that say whether the names of files are printed; `-h` is one of them, so help has no short name.
@@ -234,7 +225,7 @@ fn names<'a>(alloc: Global, command: Command<'a>) -> Result<Command<'a>, AllocEr
         .help("Print help");
     command
         .disable_help_flag(true)
-        .arg(with_names(alloc)?)?
+        .arg(with_names(alloc))?
         .arg(without_names)?
         .arg(help)
 }

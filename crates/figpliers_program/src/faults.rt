@@ -1,7 +1,7 @@
 //! What is said on standard error, and by the status.
 ghost use Rattle.std.specs.Prelude.{◌≡◌, ◌++◌, ◌∷◌, [], Bool, codes, is_err};
 ghost use Rattle.html_normal_program.specs.Streams.{IsPut};
-ghost use Rattle.figpliers_program.specs.Verdicts.{Tells, fault_line, fault_words, graver, open_words, status_of};
+ghost use Rattle.figpliers_program.specs.Verdicts.{IsReported, fault_line, fault_words, graver, open_words, status_of};
 ghost use Rattle.figpliers_program.specs.Verdicts.{unwritten_line, verdict_of};
 ghost use Rattle.figpliers_program.specs.Faults.{normal_fault_of, serialize_fault_of};
 ghost use Rattle.figpliers_program.specs.declared.faults.PageFault.TheVariants.{Memory, Write};
@@ -178,7 +178,7 @@ fn put_line<Errors: Target>(
 /// its reader may have closed the pipe, and the caller sees it by the verdict.
 pub fn report<Errors: Target>(errors: &mut Errors, name: &str, fault: PageFault) -> Verdict
     ensures verdict { result ≡ verdict_of fault }
-    ensures line { Tells name.now fault (Errors.written errors.old) (Errors.written errors.new) }
+    ensures line { IsReported name.now fault (Errors.written errors.old) (Errors.written errors.new) }
 {
     match fault {
         PageFault::Write => Verdict::Unwritten,

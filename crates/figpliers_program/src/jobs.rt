@@ -1,8 +1,9 @@
 //! What is made of pages.
-ghost use Rattle.std.specs.Prelude.{◌≡◌, IfOk, map};
+ghost use Rattle.std.specs.Prelude.{◌≡◌, IfErr, IfOk, map};
 ghost use Rattle.std.specs.String.{string_bytes};
 ghost use Rattle.figpliers.specs.Puts.{told_by};
-ghost use Rattle.figpliers_program.specs.Jobs.{AreSelectorsIn, AreSelectorsOf, ArePagesDone, IsMadeOf, IsRefused, IsRun};
+ghost use Rattle.figpliers_program.specs.Jobs.{AreNoSelectors, ArePagesDone, AreSelectorsIn, AreSelectorsOf, IsMadeOf, IsRefused};
+ghost use Rattle.figpliers_program.specs.Jobs.{IsRun, ReportsNoMemory};
 ghost use Rattle.figpliers_program.specs.Outcome.{AreDone, IsPageDone};
 ghost use Rattle.figpliers_program.specs.Pages.{DocumentText, TextText};
 ghost use Rattle.figpliers_program.specs.Printing.{PrintsSome};
@@ -225,7 +226,8 @@ fn report_text<Errors: Target>(
     selector: &str,
     error: SelectorError,
 ) -> Verdict
-    ensures { result ≡ Fault }
+    ensures verdict { result ≡ Fault }
+    ensures line { error ≡ SelectorError.Memory → ReportsNoMemory (Errors.written errors.old) (Errors.written errors.new) }
 {
     match error {
         SelectorError::Syntax { fault, at } => {
@@ -243,8 +245,9 @@ fn report_selector<Errors: Target>(
     job: &Job,
     error: SelectorError,
 ) -> Verdict
+    requires { AreNoSelectors job.now error }
     ensures verdict { result ≡ Fault }
-    ensures told { IsRefused job.now (Errors.written errors.old) (Errors.written errors.new) }
+    ensures refused { IsRefused job.now (Errors.written errors.old) (Errors.written errors.new) }
 {
     match job {
         Job::OfDocument(DocumentJob::Select { selector, .. }) => {
@@ -256,7 +259,8 @@ fn report_selector<Errors: Target>(
 
 /// The selectors that are asked for; none, where another command was named.
 fn selectors_of(alloc: Global, job: &Job) -> Result<Selectors, SelectorError>
-    ensures { IfOk result (AreSelectorsIn job.now) }
+    ensures ok { IfOk result (AreSelectorsIn job.now) }
+    ensures err { IfErr result (AreNoSelectors job.now) }
 {
     match job {
         Job::OfDocument(DocumentJob::Select { selector, .. }) => {

@@ -12,6 +12,7 @@ mod files;
 mod jobs;
 mod pages;
 mod program;
+pub mod rows;
 mod writing;
 
 pub use faults::{PageFault, Verdict, Why, report, report_unwritten};

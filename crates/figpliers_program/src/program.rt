@@ -1,9 +1,11 @@
 //! From words to what is written and the status.
-ghost use Rattle.std.specs.Prelude.{◌≡◌, IfErr, IfOk, map};
+ghost use Rattle.std.specs.Prelude.{◌≡◌, ◌≢◌, ◌⊎◌, IfErr, IfOk, map};
 ghost use Rattle.std.specs.String.{string_bytes};
+ghost use Rattle.clap.specs.Values.{kind_of};
+ghost use Rattle.clap.specs.declared.error.kind.ErrorKind.TheVariants.{OutOfMemory};
 ghost use Rattle.figpliers.specs.Puts.{told_by};
-ghost use Rattle.figpliers_program.specs.Jobs.{IsAnswered, IsOutcome};
-ghost use Rattle.figpliers_program.specs.Asked.{IsOutputOf};
+ghost use Rattle.figpliers_program.specs.Jobs.{IsAnswered, IsOutOfMemory, IsOutcome};
+ghost use Rattle.figpliers_program.specs.Rejected.{IsOutputOf};
 ghost use Rattle.figpliers_program.specs.declared.faults.PageFault.TheVariants.{Memory};
 
 use crate::command::{Asked, read_words};
@@ -16,15 +18,17 @@ use clap::error::ErrorKind;
 use figpliers::{Source, Target, write_whole};
 use std::alloc::Global;
 
-/// Writes what is wrong with the words to standard error, or the help that was asked for to standard output.
-fn answer<Output: Target, Errors: Target>(
+/// Writes the text of an error other than out of memory: to standard error, or, of help, to standard output.
+fn answer_text<Output: Target, Errors: Target>(
     alloc: Global,
     error: &Error,
     output: &mut Output,
     errors: &mut Errors,
 ) -> Verdict
-    ensures { IsAnswered (told_by Output.written Output.failures output.old) (told_by Output.written Output.failures output.new)
-        (Errors.written errors.old) (Errors.written errors.new) result }
+    ensures { IsOutOfMemory (told_by Output.written Output.failures output.old) (told_by Output.written Output.failures output.new)
+        (Errors.written errors.old) (Errors.written errors.new) result
+        ⊎ IsAnswered (kind_of error.now) (told_by Output.written Output.failures output.old)
+        (told_by Output.written Output.failures output.new) (Errors.written errors.old) (Errors.written errors.new) result }
 {
     let Ok(text) = format!(in alloc; "{error}") else {
         return report(errors, "figpliers", PageFault::Memory);
@@ -39,6 +43,24 @@ fn answer<Output: Target, Errors: Target>(
     }
 }
 
+/// Writes what is wrong with the words to standard error, or the help that was asked for to standard output.
+fn answer<Output: Target, Errors: Target>(
+    alloc: Global,
+    error: &Error,
+    output: &mut Output,
+    errors: &mut Errors,
+) -> Verdict
+    ensures { IsOutOfMemory (told_by Output.written Output.failures output.old) (told_by Output.written Output.failures output.new)
+        (Errors.written errors.old) (Errors.written errors.new) result
+        ⊎ ((kind_of error.now ≢ OutOfMemory) × IsAnswered (kind_of error.now) (told_by Output.written Output.failures output.old)
+        (told_by Output.written Output.failures output.new) (Errors.written errors.old) (Errors.written errors.new) result) }
+{
+    match error.kind() {
+        ErrorKind::OutOfMemory => report(errors, "figpliers", PageFault::Memory),
+        _ => answer_text(alloc, error, output, errors),
+    }
+}
+
 /// The file to write to.
 fn output_in(asked: Asked) -> Option<String>
     ensures { result ≡ asked.output }
@@ -47,7 +69,7 @@ fn output_in(asked: Asked) -> Option<String>
     output
 }
 
-/// The file to write to that the words name with which the program was started; nothing where they name none, or name no command.
+/// The file to write to that the words name with which the program was started; nothing where they name none, or are rejected.
 ///
 /// Errors: [`PageFault::Memory`].
 pub fn output_of(alloc: Global, words: &[String]) -> Result<Option<String>, PageFault>

@@ -517,10 +517,23 @@ const REFUSALS: &[(&[&str], &str)] = &[
         &["text", "--encoding", "none", "a.html"],
         "error: no encoding has the label",
     ),
-    (&["text", "--utf-8", "--lossy", "a.html"], "error: "),
-    (&["select", "--text", "--count", "p", "a.html"], "error: "),
+    (
+        &["text", "--utf-8", "--lossy", "a.html"],
+        "error: only one of '--encoding', '--utf-8' and '--lossy'",
+    ),
+    (
+        &["select", "--text", "--count", "p", "a.html"],
+        "error: only one of '--text', '--attr', '--count' and '--json'",
+    ),
     (&["select"], "error: "),
-    (&["links", "-H", "-h", "a.html"], "error: "),
+    (
+        &["links", "-H", "-h", "a.html"],
+        "error: only one of '--with-filename' and '--no-filename'",
+    ),
+    (
+        &["links", "--kind", "--json", "a.html"],
+        "error: only one of '--kind' and '--json'",
+    ),
     (
         &["tree", "--fragment", "a b", "a.html"],
         "error: no element has the name",
@@ -633,6 +646,7 @@ fn a_file_to_write_to_is_named(rt: HostRuntime) {
     assert!(rt; output_is(alloc, &["links", "--output", "x", "-H"], Some("x")));
     assert!(rt; output_is(alloc, &["check", "a.html"], None));
     assert!(rt; output_is(alloc, &["-o", "x"], None));
+    assert!(rt; output_is(alloc, &["text", "-o", "x", "--utf-8", "--lossy"], None));
 }
 
 #[test]

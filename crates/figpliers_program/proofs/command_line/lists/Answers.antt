@@ -1,22 +1,20 @@
 use Rattle.std.proofs.Common.{refl}
 use Rattle.std.proofs.lemmas.Result.{IfOk-weaker}
-use Rattle.figpliers_program.proofs.Building.{app-after, local-after, rule-after, same-place}
+use Rattle.figpliers_program.proofs.Building.{app-after, local-after}
 use Rattle.figpliers_program.proofs.command_line.lists.Goals as goal
 
 pub returns-clause-app : goal.returns-clause-app
 returns-clause-app c = IfOk-weaker c.arg-4.result _ _ (λ made adds. app-after _ made _ _ _ adds c.flag-json.ensures.plain.0
-    (app-after _ _ _ _ _ c.in_ok-arg-3.ensures (same-place c.flag-kinds.result c.in_ok-kinds.kinds _ c.in_ok-kinds.ensures
-    c.flag-kinds.ensures.plain.0)
+    (app-after _ _ _ _ _ c.in_ok-arg-3.ensures c.flag-kinds.ensures.plain.0
     (app-after _ _ _ _ _ c.in_ok-arg-2.ensures c.flag-anchors.ensures.plain.0
     (app-after _ _ _ _ _ c.in_ok-arg.ensures c.option-base.ensures.plain.0 refl c.option-base.ensures.rule)
     c.flag-anchors.ensures.rule)
-    (rule-after c.flag-kinds.result c.in_ok-kinds.kinds _ _ c.in_ok-kinds.ensures c.flag-kinds.ensures.rule))
+    c.flag-kinds.ensures.rule)
     c.flag-json.ensures.rule) c.arg-4.ensures
 
 pub returns-clause-local : goal.returns-clause-local
 returns-clause-local c = λ local. IfOk-weaker c.arg-4.result _ _ (λ made adds. local-after _ made _ adds c.flag-json.ensures.plain.0
-    (local-after _ _ _ c.in_ok-arg-3.ensures (same-place c.flag-kinds.result c.in_ok-kinds.kinds _ c.in_ok-kinds.ensures
-    c.flag-kinds.ensures.plain.0)
+    (local-after _ _ _ c.in_ok-arg-3.ensures c.flag-kinds.ensures.plain.0
     (local-after _ _ _ c.in_ok-arg-2.ensures c.flag-anchors.ensures.plain.0
     (local-after _ _ _ c.in_ok-arg.ensures c.option-base.ensures.plain.0 local))))
     c.arg-4.ensures

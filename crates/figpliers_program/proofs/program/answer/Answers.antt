@@ -1,8 +1,8 @@
-use Rattle.std.proofs.Common.{refl}
+use Rattle.std.proofs.Common.{◌∙◌, inl, inr}
 use Rattle.figpliers_program.proofs.program.answer.Goals as goal
 
-pub returns-in-Ok-put : goal.returns-in-Ok-put
-returns-in-Ok-put g c = (refl, (c.as_str.result.now, c.in-Ok-put.ensures.prints))
-
-pub returns : goal.returns
-returns g c = (refl, (c.as_str.result.now, rw c.in-Err.ensures.fault at c.in-Err.ensures.prints))
+pub returns-in_default : goal.returns-in_default
+returns-in_default g c = elim c.answer_text.ensures [
+  | inl none ↦ inl none
+  | inr is ↦ inr ((λ e. c.in_default.not-OutOfMemory (c.kind.ensures ∙ e)), is)
+]

@@ -1,8 +1,9 @@
-use Rattle.std.proofs.Common.{inl, inr, refl}
+use Rattle.std.proofs.Common.{inr}
+use Rattle.figpliers_program.proofs.Answering.{nothing-done}
 use Rattle.figpliers_program.proofs.program.obey.Goals as goal
 
 pub returns-in-Ok : goal.returns-in-Ok
-returns-in-Ok g c = inr (c.in-Ok.asked, c.in-Ok.ensures, c.run.ensures)
+returns-in-Ok g c = inr (inr (c.in-Ok.asked, c.in-Ok.ensures.ok, c.run.ensures))
 
 pub returns-in-Err : goal.returns-in-Err
-returns-in-Err g c = inl (refl, c.answer.ensures)
+returns-in-Err g c = nothing-done _ _ _ _ _ _ _ _ _ c.in-Err.ensures.err c.answer.ensures
