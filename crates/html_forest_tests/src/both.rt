@@ -101,6 +101,14 @@ const WORDS: [&str; 4] = ["", "a", "b", "é"];
 
 const NAMES: [&str; 4] = ["p", "template", "b", "annotation-xml"];
 
+// Attributes that are given at once, of which an element may have some, and which may have one name.
+const PAIRS: [&[(&str, &str)]; 4] = [
+    &[("p", "a"), ("b", "é")],
+    &[("b", ""), ("b", "a")],
+    &[("template", "b"), ("p", "")],
+    &[("annotation-xml", "a"), ("template", "b")],
+];
+
 // The next number of a sequence with no pattern to speak of.
 fn next(seed: u32) -> u32 {
     seed.wrapping_mul(1664525).wrapping_add(1013904223)
@@ -124,7 +132,13 @@ fn step(seed: u32, count: usize) -> Step<'static> {
         9 => Step::BeforeText(a, word),
         10 => Step::Near(a, b, c),
         11 => Step::NearText(a, b, word),
-        12 => Step::Attribute(a, name, word),
+        12 => {
+            if b % 2 == 0 {
+                Step::Attribute(a, name, word)
+            } else {
+                Step::Attributes(a, PAIRS[c % 4])
+            }
+        }
         13 => Step::Remove(a),
         14 => Step::Reparent(a, b),
         _ => {

@@ -179,6 +179,13 @@ impl Plain {
         Ok(())
     }
 
+    fn add_attributes(&mut self, at: usize, all: &[(&str, &str)]) -> Result<(), ParseFault> {
+        for (local, value) in all {
+            self.add_attribute(at, local, value)?;
+        }
+        Ok(())
+    }
+
     fn remove(&mut self, node: usize) -> Result<(), ParseFault> {
         if let Some(parent) = self.parent(node)
             && let Some(parent) = self.nodes.get_mut(parent)
@@ -246,6 +253,7 @@ impl Plain {
                 None => self.put_text(previous, None, words),
             },
             Step::Attribute(at, local, value) => self.add_attribute(at, local, value),
+            Step::Attributes(at, all) => self.add_attributes(at, all),
             Step::Remove(node) => self.remove(node),
             Step::Reparent(from, to) => self.reparent(from, to),
             _ => Ok(()),

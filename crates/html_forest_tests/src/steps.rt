@@ -22,6 +22,7 @@ pub enum Step<'a> {
     Near(usize, usize, usize),
     NearText(usize, usize, &'a str),
     Attribute(usize, &'a str, &'a str),
+    Attributes(usize, &'a [(&'a str, &'a str)]),
     Remove(usize),
     Reparent(usize, usize),
     Quirks(QuirksMode),
@@ -156,17 +157,16 @@ fn near_text(
     Ok(true)
 }
 
-fn add_attribute(
+fn add_attributes(
     alloc: Global,
     forest: &mut Forest,
     target: NodeId,
-    local: &str,
-    value: &str,
+    all: &[(&str, &str)],
 ) -> Result<bool, ParseFault> {
     if !is_node(forest, target) {
         return Ok(false);
     }
-    forest.add_attrs_if_missing(&target, attributes(alloc, &[(local, value)])?)?;
+    forest.add_attrs_if_missing(&target, attributes(alloc, all)?)?;
     Ok(true)
 }
 
@@ -256,8 +256,9 @@ fn take_put(alloc: Global, forest: &mut Forest, step: Step) -> Result<bool, Pars
             characters,
         ),
         Step::Attribute(target, local, value) => {
-            add_attribute(alloc, forest, NodeId::new(target), local, value)
+            add_attributes(alloc, forest, NodeId::new(target), &[(local, value)])
         }
+        Step::Attributes(target, all) => add_attributes(alloc, forest, NodeId::new(target), all),
         Step::Remove(target) => Ok(remove(forest, NodeId::new(target))),
         Step::Reparent(from, to) => reparent(forest, NodeId::new(from), NodeId::new(to)),
         _ => Ok(false),

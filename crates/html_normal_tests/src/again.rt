@@ -403,3 +403,40 @@ fn plain_documents(rt: HostRuntime) {
     }
     assert!(rt; longest > 1_000_000, "{longest}");
 }
+
+/// A page of so many paragraphs; `written` says whether no tag is left out, as where it is written.
+fn paragraphs(alloc: Global, count: u64, written: bool) -> Result<String, AllocError> {
+    let mut page = String::from_str(alloc, "<!DOCTYPE html>")?;
+    page.push_str(if written {
+        "<html><head></head><body>"
+    } else {
+        ""
+    })?;
+    for _ in 0..count {
+        page.push_str("<p>one <a href=\"/two\">two</a> &amp; <b>three</b>")?;
+        page.push_str(if written { "</p>" } else { "" })?;
+    }
+    page.push_str(if written { "</body></html>" } else { "" })?;
+    Ok(page)
+}
+
+/// Whether a page of so many paragraphs is written in full, and then as it is.
+fn are_paragraphs_kept(alloc: Global, count: u64) -> Result<bool, AllocError> {
+    let page = paragraphs(alloc, count, false)?;
+    let written = paragraphs(alloc, count, true)?;
+    let on = Devices {
+        room: written.len(),
+        ..WHOLE
+    };
+    let bytes = written.as_bytes();
+    let exact = Exact::default();
+    Ok(
+        is_normal(alloc, page.as_bytes(), &on, exact, plain(0), bytes)?
+            && is_normal(alloc, bytes, &on, exact, plain(0), bytes)?,
+    )
+}
+
+#[test]
+fn a_thousand_paragraphs(rt: HostRuntime) {
+    assert!(rt; matches!(are_paragraphs_kept(rt.alloc(), 1_000), Ok(true)));
+}

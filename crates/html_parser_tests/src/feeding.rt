@@ -34,7 +34,7 @@ fn feed_text<Sink: TokenSink>(
 }
 
 /// What a tokenizer's sink is after these pieces and the end.
-fn fed<Sink: TokenSink + Drop>(
+pub(crate) fn fed<Sink: TokenSink + Drop>(
     tokenizer: Tokenizer<Sink>,
     pieces: Vec<String>,
 ) -> Result<Sink, ParseFault>
