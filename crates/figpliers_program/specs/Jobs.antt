@@ -66,7 +66,7 @@ ArePagesDone files P [] left left' out out' errors errors' verdict =
 ArePagesDone files P (name ∷ names) left left' out out' errors errors' verdict =
     AreDone files P (name ∷ names) Nothing left left' out out' errors errors' verdict
 
--- an error of reading selectors, of a command: the text of those of `select` is none, or memory ran out
+-- why a command has no selectors: the text of those of `select` is none, or memory ran out
 abbrev pub AreNoSelectors : Job → SelectorError → Type 0
 AreNoSelectors (OfDocument (Select selector show)) error = Fails error (parsed (chars (string_bytes selector)))
 AreNoSelectors job error = ⊥
@@ -89,13 +89,14 @@ IsRun files asked left left' out out' errors errors' verdict =
     ⊎ ((table : List Row) × (rows_of STANDARD_ROWS.now ≡ Ok table) × ArePagesDone files (IsMadeOf table asked)
     (map string_bytes asked.files.items) left left' out out' errors errors' verdict)
 
--- What becomes of words that are rejected by an error of a kind: help, or the version, is written to standard output, or a beginning of it;
--- of what is written to standard error for any other nothing is said.
+-- help, or the version, is written to standard output, or a beginning of it where a write fails
 abbrev pub IsHelped : (out out' : WriterView) (errors errors' : Stream) → Verdict → Type 0
 IsHelped out out' errors errors' Fine = (errors' ≡ errors) × ((text : List ℕ) × (out' ≡ with_bytes out text))
 IsHelped out out' errors errors' Unwritten = (errors' ≡ errors) × ((text : List ℕ) × Broke out text out')
 IsHelped out out' errors errors' verdict = ⊥
 
+-- What is answered to words that are rejected, by the kind of the error. Of what an error other than a request for help writes to standard
+-- error nothing is said.
 abbrev pub IsAnswered : ErrorKind → (out out' : WriterView) (errors errors' : Stream) → Verdict → Type 0
 IsAnswered kind out out' errors errors' verdict =
     MatchBool (is_help kind) (IsHelped out out' errors errors' verdict) ((verdict ≡ Fault) × (out' ≡ out))

@@ -11,7 +11,8 @@ use Rattle.figpliers_program.proofs.command.read_words.Goals as goal
 pub returns-in_err-matches-clause-err : goal.returns-in_err-matches-clause-err
 returns-in_err-matches-clause-err c =
     let p = err_from_is_err_and c.from_residual-in_err-matches.result c.from_residual-in_err-matches.ensures.1 in
-    rw (p.1, p.2) (by-clap (map string_bytes c.args.words.now) _ c.in_err-matches.field-0.0 c.in_ok-command.ensures c.in_err-matches.ensures.kinds)
+    rw (p.1, p.2) (by-clap (map string_bytes c.args.words.now) _ c.in_err-matches.field-0.0 c.in_ok-command.ensures
+    c.in_err-matches.ensures.kinds)
 
 pub returns-in-None-clause-err : goal.returns-in-None-clause-err
 returns-in-None-clause-err c =
