@@ -48,12 +48,12 @@ module _ (Makes : List ℕ → Type 0) (None : Type 0) (Why : Answer → Type 0)
 -- of a page's text
 module _ (Is : (file page text : List ℕ) → Report → Type 0) (Why : ℕ → Answer → Type 0) (file page old new : List ℕ)
     (report : FigReport) (answer : Answer) where
-  pub text-put : (text lent : List ℕ) (count : ℕ) (told : Report) → Is file page text told → lent ≡ text
-      → count ≡ length lent → report ≡ report_of count told → IsPut lent old new answer
+  pub text-put : (text lent : List ℕ) (count : ℕ) (of_page : Report) → Is file page text of_page → lent ≡ text
+      → count ≡ length lent → report ≡ report_of count of_page → IsPut lent old new answer
       → Means (IsReported Is file page report) (report ≡ nothing_at report.at) (Why report.at) old new answer
-  text-put text lent count told is same counted report_is put =
+  text-put text lent count of_page is same counted report_is put =
       put-means (IsReported Is file page report) (report ≡ nothing_at report.at) (Why report.at) old new text answer
-      (record { told = told; is = is; report_is = report_is ∙ ap (λ n. report_of n told) (counted ∙ ap length same) })
+      (record { of_page = of_page; is = is; report_is = report_is ∙ ap (λ n. report_of n of_page) (counted ∙ ap length same) })
       (subst (λ (t : List ℕ). IsPut t old new answer) same put)
 
   pub text-none : ((n : ℕ) → Why n Done → ⊥) → ((n : ℕ) → Why n TooShort → ⊥) → (at : ℕ) → Why at answer → report ≡ nothing_at at
@@ -65,12 +65,12 @@ module _ (Is : (file page text : List ℕ) → Report → Type 0) (Why : ℕ →
 
 -- of what was kept of a page
 module _ (Is : (file page text : List ℕ) → Cleaned → Type 0) (file page old new : List ℕ) (report : FigCleaned) (answer : Answer) where
-  pub cleaned-put : (text lent : List ℕ) (count : ℕ) (told : Cleaned) → Is file page text told → lent ≡ text
-      → count ≡ length lent → report ≡ cleaned_of count told → IsPut lent old new answer → MeansCleaned Is file page old new report answer
-  cleaned-put text lent count told is same counted report_is put =
+  pub cleaned-put : (text lent : List ℕ) (count : ℕ) (counts : Cleaned) → Is file page text counts → lent ≡ text
+      → count ≡ length lent → report ≡ cleaned_of count counts → IsPut lent old new answer → MeansCleaned Is file page old new report answer
+  cleaned-put text lent count counts is same counted report_is put =
       put-means (IsReportedClean Is file page report) (report ≡ nothing_cleaned_at report.at) (λ a. Fails file page a report.at)
       old new text answer
-      (record { counts = told; is = is; report_is = report_is ∙ ap (λ n. cleaned_of n told) (counted ∙ ap length same) })
+      (record { counts = counts; is = is; report_is = report_is ∙ ap (λ n. cleaned_of n counts) (counted ∙ ap length same) })
       (subst (λ (t : List ℕ). IsPut t old new answer) same put)
 
   pub cleaned-none : (at : ℕ) → Fails file page answer at → report ≡ nothing_cleaned_at at → new ≡ old

@@ -14,18 +14,17 @@ use Rattle.html_input.specs.declared.table.TableFileFault.{TableFileFault}
 use Rattle.html_input.specs.declared.table.TableFileFault.TheVariants as file
 use Rattle.html_tokens.specs.declared.table.TableFault.TheVariants as table
 use Rattle.html_tokens.specs.Table.{Row}
-use Rattle.html_normal.proofs.SameTrees.{plain-same}
 use Rattle.html_normal.specs.Document.{CountsErrors, document_bytes}
 use Rattle.html_normal.specs.Normal.{IsNormalised, IsRead}
 use Rattle.html_normal.specs.declared.fault.NormalFault.{NormalFault}
 use Rattle.html_normal.specs.declared.fault.NormalFault.TheVariants as normal
 use Rattle.html_normal.specs.declared.report.Report.{Report}
 use Rattle.html_tree_image.proofs.Same.{too-large-same}
-use Rattle.html_tree_image.specs.Image.{image_of, is_too_large}
+use Rattle.html_tree_image.specs.Image.{is_too_large}
 use Rattle.html_tree_image.specs.declared.image.ImageFault.{ImageFault}
 use Rattle.html_tree_image.specs.declared.image.ImageFault.TheVariants as image
 use Rattle.html_ffi.specs.Answers.{Fails, FailsOver, IsTooLarge, failure_of, image_failure_of, table_failure_of}
-use Rattle.html_ffi.specs.Calls.{IsNormalText, IsToldOf, IsTreeImage}
+use Rattle.html_ffi.specs.Calls.{IsMadeOf, IsNormalText, IsReportOf}
 use Rattle.html_ffi.specs.declared.answer.Failure.{Failure}
 
 table-fails : (bytes page left : List ℕ) (fault : TableFileFault) → IsTableFault (Some bytes) (Some left) fault
@@ -39,14 +38,14 @@ table-fails bytes page left (file.Table (table.BadValue row)) is = is.1 bytes re
 table-fails bytes page left (file.Table table.Memory) is = refl
 table-fails bytes page left file.Memory is = refl
 
--- what is told of a table whose bytes were read
-pub table-failed : (bytes page told left : List ℕ) (fault : TableFileFault) (made : Failure) → told ≡ bytes
-    → made ≡ table_failure_of fault → IsTableFault (Some told) (Some left) fault → Fails bytes page made.answer made.at
-table-failed bytes page told left fault made same is given =
+-- what is wrong with a table whose bytes were read
+pub table-failed : (bytes page read left : List ℕ) (fault : TableFileFault) (made : Failure) → read ≡ bytes
+    → made ≡ table_failure_of fault → IsTableFault (Some read) (Some left) fault → Fails bytes page made.answer made.at
+table-failed bytes page read left fault made same is given =
     subst (λ (f : Failure). Fails bytes page f.answer f.at) (sym is)
     (table-fails bytes page left fault (subst (λ (bs : List ℕ). IsTableFault (Some bs) (Some left) fault) same given))
 
--- what is told of a page of which no text was made, by what a fault of reading and writing says
+-- what is wrong with a page of which no text was made, by what a fault of reading and writing says
 pub page-failed : (bytes page : List ℕ) (Given : NormalFault → Type 0) (fault : NormalFault) (made : Failure)
     → ((at : ℕ) → Given (normal.NotUtf8 at) → IsValidUpTo page at) → made ≡ failure_of fault → Given fault
     → Fails bytes page made.answer made.at
@@ -59,9 +58,9 @@ page-failed bytes page Given normal.Refused made valid is given = subst (λ (f :
 
 -- a page that was normalised to a writer with nothing in it
 pub normal-made : (file page : List ℕ) (rows : List Row) (left : Option (List ℕ)) (old written : List ℕ)
-    (told : Report) → IsTableFile file (Some []) rows → old ≡ [] → IsNormalised rows false page left (Some old)
-    (Some written) told → IsNormalText file page written told
-normal-made file page rows left old written told table none n = record {
+    (report : Report) → IsTableFile file (Some []) rows → old ≡ [] → IsNormalised rows false page left (Some old)
+    (Some written) report → IsNormalText file page written report
+normal-made file page rows left old written report table none n = record {
   rows = rows;
   table = table;
   normal = record {
@@ -88,20 +87,21 @@ pub read-made : (rows : List Row) (page : List ℕ) (left : Option (List ℕ)) (
     → IsRead rows false page left document errors → IsRead rows false page (Some []) document errors
 read-made rows page left document errors read = record { input = read.input; taken = refl; counts = read.counts }
 
--- the image of a page that was read to its end
-pub image-made : (file page : List ℕ) (rows : List Row) (f : Forest) (bytes : List ℕ) (told : Report)
-    → IsTableFile file (Some []) rows → IsRead rows false page (Some []) (with_errors 0 f) f.errors
-    → IsToldOf f bytes told → IsTreeImage file page bytes told
-image-made file page rows f bytes told table read is = record {
-  rows = rows;
-  table = table;
-  document = with_errors 0 f;
-  input = read.input;
-  image = is.image ∙ ap (λ n. image_of (with_errors n f)) (sym is.errors);
-  plain = is.plain ∙ sym (plain-same 0 f);
-  quirks = is.quirks;
-  errors = subst (λ (n : ℕ). CountsErrors rows false (chars page) n) (sym is.errors) read.counts;
-}
+-- what was made of a page that was read to its end
+pub page-made : (Is : Forest → List ℕ → Type 0) (file page : List ℕ) (rows : List Row) (f : Forest) (bytes : List ℕ) (report : Report)
+    → IsTableFile file (Some []) rows → IsRead rows false page (Some []) (with_errors 0 f) f.errors → Is f bytes → IsReportOf f report
+    → IsMadeOf Is file page bytes report
+page-made Is file page rows f bytes report table read made is =
+    let same : with_errors report.errors (with_errors 0 f) ≡ f = ap (λ n. with_errors n f) is.errors in
+    record {
+      rows = rows;
+      table = table;
+      document = with_errors 0 f;
+      input = read.input;
+      bytes_are = subst (λ (g : Forest). Is g bytes) (sym same) made;
+      report_is = subst (λ (g : Forest). IsReportOf g report) (sym same) is;
+      errors = subst (λ (n : ℕ). CountsErrors rows false (chars page) n) (sym is.errors) read.counts;
+    }
 
 -- the image of a page that was read to its end is too large
 pub large-made : (file page : List ℕ) (rows : List Row) (f : Forest) → IsTableFile file (Some []) rows

@@ -26,7 +26,7 @@ use Rattle.html_ffi.specs.declared.answer.Failure.{Failure}
 
 -- ANSWERS
 
--- the number that C is told
+-- the number that C gets
 abbrev pub number_of : Answer → ℕ
 number_of Done = 0
 number_of NotUtf8 = 1
@@ -167,8 +167,8 @@ module _ (Makes : List ℕ → Type 0) (None : Type 0) (Why : Answer → Type 0)
   Means SelectorNotUtf8 = HasNone SelectorNotUtf8
   Means Selector = HasNone Selector
 
--- The number that C is told is that of an answer, which says this.
-pub record Tells (Says : Answer → Type 0) (number : ℕ) : Type 0 where
+-- The number that C gets is that of an answer, which says this.
+pub record IsAnswer (Says : Answer → Type 0) (number : ℕ) : Type 0 where
   pub answer : Answer
   pub is : number ≡ number_of answer
   pub says : Says answer

@@ -21,29 +21,35 @@ use Rattle.html_ffi.specs.declared.answer.Answer.{Answer}
 use Rattle.html_ffi.specs.declared.report.FigCleaned.{FigCleaned}
 use Rattle.html_ffi.specs.declared.report.FigReport.{FigReport}
 
--- A text is the normal text of a page, and this is told of the page.
-pub record IsNormalText (file page text : List ℕ) (told : Report) : Type 0 where
+-- A text is the normal text of a page, with the report of the page.
+pub record IsNormalText (file page text : List ℕ) (report : Report) : Type 0 where
   pub rows : List Row
   pub table : IsTableFile file (Some []) rows
-  pub normal : IsNormalised rows false page (Some []) (Some []) (Some text) told
+  pub normal : IsNormalised rows false page (Some []) (Some []) (Some text) report
 
--- Bytes are the image of a forest, with the report of it.
-pub record IsToldOf (f : Forest) (bytes : List ℕ) (told : Report) : Type 0 where
-  pub image : bytes ≡ image_of f
-  pub plain : told.plain ≡ is_plain_forest f
-  pub quirks : told.quirks ≡ f.quirks
-  pub errors : told.errors ≡ f.errors
+-- A report is that of a forest.
+pub record IsReportOf (f : Forest) (report : Report) : Type 0 where
+  pub plain : report.plain ≡ is_plain_forest f
+  pub quirks : report.quirks ≡ f.quirks
+  pub errors : report.errors ≡ f.errors
 
--- Bytes are the image of a page's document, with the report of the page.
-pub record IsTreeImage (file page bytes : List ℕ) (told : Report) : Type 0 where
+-- Bytes are as `Is` says of a page's document, and the report is that of the page.
+pub record IsMadeOf (Is : Forest → List ℕ → Type 0) (file page bytes : List ℕ) (report : Report) : Type 0 where
   pub rows : List Row
   pub table : IsTableFile file (Some []) rows
   pub document : Forest
   pub input : IsDocument rows page document
-  pub image : bytes ≡ image_of (with_errors told.errors document)
-  pub plain : told.plain ≡ is_plain_forest document
-  pub quirks : told.quirks ≡ document.quirks
-  pub errors : CountsErrors rows false (chars page) told.errors
+  pub bytes_are : Is (with_errors report.errors document) bytes
+  pub report_is : IsReportOf (with_errors report.errors document) report
+  pub errors : CountsErrors rows false (chars page) report.errors
+
+-- Bytes are the image of a forest.
+abbrev pub IsImageOf : Forest → List ℕ → Type 0
+IsImageOf f bytes = bytes ≡ image_of f
+
+-- Bytes are the image of a page's document, with the report of the page.
+abbrev pub IsTreeImage : (file page bytes : List ℕ) → Report → Type 0
+IsTreeImage file page bytes report = IsMadeOf IsImageOf file page bytes report
 
 -- Bytes are the numbers of the nodes that selectors select in a forest, in tree order.
 pub record IsSelected (selector : List ℕ) (f : Forest) (bytes : List ℕ) : Type 0 where
@@ -51,24 +57,10 @@ pub record IsSelected (selector : List ℕ) (f : Forest) (bytes : List ℕ) : Ty
   pub is_found : IsFound (chars selector) f 0 found
   pub numbers : bytes ≡ words found
 
--- Bytes are the numbers of what selectors select in a forest, with the report of it.
-pub record IsSelectionOf (selector : List ℕ) (f : Forest) (bytes : List ℕ) (told : Report) : Type 0 where
-  pub selected : IsSelected selector f bytes
-  pub plain : told.plain ≡ is_plain_forest f
-  pub quirks : told.quirks ≡ f.quirks
-  pub errors : told.errors ≡ f.errors
-
 -- Bytes are the numbers of what selectors select in a page's document, with the report of the page.
-pub record IsSelection (selector file page bytes : List ℕ) (told : Report) : Type 0 where
-  pub rows : List Row
-  pub table : IsTableFile file (Some []) rows
-  pub document : Forest
-  pub input : IsDocument rows page document
+pub record IsSelection (selector file page bytes : List ℕ) (report : Report) : Type 0 where
   pub utf8 : IsUtf8 selector
-  pub selected : IsSelected selector (with_errors told.errors document) bytes
-  pub plain : told.plain ≡ is_plain_forest document
-  pub quirks : told.quirks ≡ document.quirks
-  pub errors : CountsErrors rows false (chars page) told.errors
+  pub selected : IsMadeOf (IsSelected selector) file page bytes report
 
 -- A text is what the ready policy keeps of a page as a document, and so much was taken away.
 pub record IsCleanDocument (file page text : List ℕ) (counts : Cleaned) : Type 0 where
@@ -86,12 +78,12 @@ pub record IsCleanFragment (file page text : List ℕ) (counts : Cleaned) : Type
   pub ready : IsTextAndLinks policy
   pub cleaned : IsCleaned (IsFragmentOf rows div_name) policy page (Some []) (Some []) (Some text) counts
 
--- A text is as `Is` says, by what is told of the page, and this is the report of it.
+-- A text is as `Is` says, with a report of the page, and C gets this form of the report.
 pub record IsReported (Is : (file page text : List ℕ) → Report → Type 0) (file page : List ℕ) (report : FigReport)
     (text : List ℕ) : Type 0 where
-  pub told : Report
-  pub is : Is file page text told
-  pub report_is : report ≡ report_of (length text) told
+  pub of_page : Report
+  pub is : Is file page text of_page
+  pub report_is : report ≡ report_of (length text) of_page
 
 pub record IsReportedClean (Is : (file page text : List ℕ) → Cleaned → Type 0) (file page : List ℕ)
     (report : FigCleaned) (text : List ℕ) : Type 0 where

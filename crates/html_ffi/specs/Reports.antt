@@ -1,4 +1,4 @@
--- What C is told beside an answer.
+-- What C gets beside an answer.
 use Rattle.std.specs.Prelude.{ℕ, Bool, if◌then◌else◌}
 use Rattle.markup.specs.declared.quirks.QuirksMode.{QuirksMode}
 use Rattle.markup.specs.declared.quirks.QuirksMode.TheVariants.{Quirks, LimitedQuirks, NoQuirks}
@@ -17,15 +17,15 @@ quirks_number Quirks = 2
 
 -- the report of a page of which a text was made that has so many bytes
 abbrev pub report_of : ℕ → Report → FigReport
-report_of count told = record {
+report_of count report = record {
   length = count;
-  errors = told.errors;
+  errors = report.errors;
   at = 0;
-  quirks = quirks_number told.quirks;
-  plain = flag_of told.plain;
+  quirks = quirks_number report.quirks;
+  plain = flag_of report.plain;
 }
 
--- the report of a page of which no text was made, with the place that is told
+-- the report of a page of which no text was made, with the place of the fault
 abbrev pub nothing_at : ℕ → FigReport
 nothing_at at = record { length = 0; errors = 0; at = at; quirks = 0; plain = 0 }
 

@@ -39,7 +39,7 @@ pub enum Answer {
 }
 
 impl Answer {
-    /// The number that C is told.
+    /// The number that C gets.
     pub fn number(self) -> u32
         ensures { result ≡ number_of self }
     {

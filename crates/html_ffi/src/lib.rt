@@ -2,7 +2,7 @@
 #![tactic(auto)]
 
 ghost use Rattle.std.specs.Prelude.{◌≡◌, length};
-ghost use Rattle.html_ffi.specs.Answers.{Tells};
+ghost use Rattle.html_ffi.specs.Answers.{IsAnswer};
 ghost use Rattle.html_ffi.specs.Calls.{IsCleanDocument, IsCleanFragment, IsNormalText, IsTreeImage};
 ghost use Rattle.html_ffi.specs.Calls.{MeansCleaned, MeansSelection, MeansText};
 
@@ -34,7 +34,7 @@ pub extern "C" fn fig_normalise(
     output: &mut [u8],
     report: &mut FigReport,
 ) -> u32
-    ensures answer { Tells (MeansText IsNormalText STANDARD_ROWS.now page.now output.old output.new report.new) result }
+    ensures answer { IsAnswer (MeansText IsNormalText STANDARD_ROWS.now page.now output.old output.new report.new) result }
     ensures same_room { length output.new ≡ length output.old }
 {
     normalise_by(alloc, STANDARD_ROWS.as_bytes(), page, output, report).number()
@@ -49,7 +49,7 @@ pub extern "C" fn fig_normalise_with(
     output: &mut [u8],
     report: &mut FigReport,
 ) -> u32
-    ensures answer { Tells (MeansText IsNormalText table.now page.now output.old output.new report.new) result }
+    ensures answer { IsAnswer (MeansText IsNormalText table.now page.now output.old output.new report.new) result }
     ensures same_room { length output.new ≡ length output.old }
 {
     normalise_by(alloc, table, page, output, report).number()
@@ -63,7 +63,7 @@ pub extern "C" fn fig_tree(
     output: &mut [u8],
     report: &mut FigReport,
 ) -> u32
-    ensures answer { Tells (MeansText IsTreeImage STANDARD_ROWS.now page.now output.old output.new report.new) result }
+    ensures answer { IsAnswer (MeansText IsTreeImage STANDARD_ROWS.now page.now output.old output.new report.new) result }
     ensures same_room { length output.new ≡ length output.old }
 {
     tree_by(alloc, STANDARD_ROWS.as_bytes(), page, output, report).number()
@@ -78,7 +78,7 @@ pub extern "C" fn fig_tree_with(
     output: &mut [u8],
     report: &mut FigReport,
 ) -> u32
-    ensures answer { Tells (MeansText IsTreeImage table.now page.now output.old output.new report.new) result }
+    ensures answer { IsAnswer (MeansText IsTreeImage table.now page.now output.old output.new report.new) result }
     ensures same_room { length output.new ≡ length output.old }
 {
     tree_by(alloc, table, page, output, report).number()
@@ -94,7 +94,7 @@ pub extern "C" fn fig_select(
     output: &mut [u8],
     report: &mut FigReport,
 ) -> u32
-    ensures answer { Tells (MeansSelection STANDARD_ROWS.now selector.now page.now output.old output.new report.new) result }
+    ensures answer { IsAnswer (MeansSelection STANDARD_ROWS.now selector.now page.now output.old output.new report.new) result }
     ensures same_room { length output.new ≡ length output.old }
 {
     select_by(
@@ -116,7 +116,7 @@ pub extern "C" fn fig_clean(
     output: &mut [u8],
     report: &mut FigCleaned,
 ) -> u32
-    ensures answer { Tells (MeansCleaned IsCleanFragment STANDARD_ROWS.now page.now output.old output.new report.new) result }
+    ensures answer { IsAnswer (MeansCleaned IsCleanFragment STANDARD_ROWS.now page.now output.old output.new report.new) result }
     ensures same_room { length output.new ≡ length output.old }
 {
     clean_fragment_by(alloc, STANDARD_ROWS.as_bytes(), page, output, report).number()
@@ -130,7 +130,7 @@ pub extern "C" fn fig_clean_document(
     output: &mut [u8],
     report: &mut FigCleaned,
 ) -> u32
-    ensures answer { Tells (MeansCleaned IsCleanDocument STANDARD_ROWS.now page.now output.old output.new report.new) result }
+    ensures answer { IsAnswer (MeansCleaned IsCleanDocument STANDARD_ROWS.now page.now output.old output.new report.new) result }
     ensures same_room { length output.new ≡ length output.old }
 {
     clean_document_by(alloc, STANDARD_ROWS.as_bytes(), page, output, report).number()

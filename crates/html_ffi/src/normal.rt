@@ -12,7 +12,7 @@ use devices::VecWriter;
 use html_normal::{Report, normalise};
 use std::alloc::Global;
 
-/// A page's normal text, and what is told of the page.
+/// A page's normal text, with the report of the page.
 fn normal_text(alloc: Global, file: &[u8], page: &[u8]) -> Result<(VecWriter, Report), Failure>
     ensures ok { IfOk result (λ made. IsNormalText file.now page.now made.0.written made.1) }
     ensures err { IfErr result (λ failure. Fails file.now page.now failure.answer failure.at) }
@@ -20,7 +20,7 @@ fn normal_text(alloc: Global, file: &[u8], page: &[u8]) -> Result<(VecWriter, Re
     let table = table_of(alloc, file)?;
     let mut writer = VecWriter::new(alloc);
     match normalise(alloc, &mut Page::new(page), &mut writer, table, COUNTED) {
-        Ok(told) => Ok((writer, told)),
+        Ok(report) => Ok((writer, report)),
         Err(fault) => Err(Failure::from(fault)),
     }
 }

@@ -1,4 +1,4 @@
-//! What C is told beside an answer.
+//! What C gets beside an answer.
 ghost use Rattle.std.specs.Prelude.{◌≡◌};
 ghost use Rattle.html_ffi.specs.Reports.{cleaned_of, flag_of, nothing_at, nothing_cleaned_at, quirks_number, report_of};
 
@@ -6,7 +6,7 @@ use html_clean::Cleaned;
 use html_normal::Report;
 use markup::QuirksMode;
 
-/// What is told of a page.
+/// The report of a page.
 #[repr(C)]
 #[derive(Clone, Copy)]
 pub struct FigReport {
@@ -22,7 +22,7 @@ pub struct FigReport {
     pub plain: u8,
 }
 
-/// What is told of a page that was cleaned.
+/// The report of a page that was cleaned.
 #[repr(C)]
 #[derive(Clone, Copy)]
 pub struct FigCleaned {
@@ -60,19 +60,19 @@ fn quirks_number(mode: QuirksMode) -> u8
 
 impl FigReport {
     /// The report of a page of which a text was made that has so many bytes.
-    pub(crate) fn new(length: usize, told: Report) -> FigReport
-        ensures { result ≡ report_of length told }
+    pub(crate) fn new(length: usize, report: Report) -> FigReport
+        ensures { result ≡ report_of length report }
     {
         FigReport {
             length,
-            errors: told.errors,
+            errors: report.errors,
             at: 0,
-            quirks: quirks_number(told.quirks),
-            plain: flag(told.plain),
+            quirks: quirks_number(report.quirks),
+            plain: flag(report.plain),
         }
     }
 
-    /// The report of a page of which no text was made, with the place that is told.
+    /// The report of a page of which no text was made, with the place of the fault.
     pub(crate) fn nothing(at: u64) -> FigReport
         ensures { result ≡ nothing_at at }
     {
@@ -101,7 +101,7 @@ impl FigCleaned {
         }
     }
 
-    /// The report of a page of which no text was made, with the place that is told.
+    /// The report of a page of which no text was made, with the place of the fault.
     pub(crate) fn nothing(at: u64) -> FigCleaned
         ensures { result ≡ nothing_cleaned_at at }
     {

@@ -2,13 +2,13 @@
 ghost use Rattle.std.specs.Prelude.{◌≡◌, ℕ, List, IfErr, IfOk, length};
 ghost use Rattle.std.specs.Str.{IsUtf8};
 ghost use Rattle.html_ffi.specs.Answers.{FailsToSelect};
-ghost use Rattle.html_ffi.specs.Calls.{IsSelected, IsSelection, IsSelectionOf, MeansSelection};
+ghost use Rattle.html_ffi.specs.Calls.{IsReportOf, IsSelected, IsSelection, MeansSelection};
 
 use crate::answer::{Answer, Failure, no_memory};
 use crate::report::FigReport;
 use crate::room::put_front;
 use crate::table::table_of;
-use crate::tree::document_of;
+use crate::tree::{document_of, report_of};
 use html_forest::Forest;
 use html_normal::Report;
 use html_select::select;
@@ -44,20 +44,20 @@ fn selected(alloc: Global, forest: &Forest, text: &str) -> Result<Vec<u8>, Failu
 }
 
 /// The same, with the report of the forest.
-fn told_selection(alloc: Global, forest: &Forest, text: &str) -> Result<(Vec<u8>, Report), Failure>
-    ensures ok { IfOk result (λ made. IsSelectionOf text.now forest.now made.0.items made.1) }
+fn selected_and_report(
+    alloc: Global,
+    forest: &Forest,
+    text: &str,
+) -> Result<(Vec<u8>, Report), Failure>
+    ensures selected { IfOk result (λ made. IsSelected text.now forest.now made.0.items) }
+    ensures report { IfOk result (λ made. IsReportOf forest.now made.1) }
     ensures err { IfErr result (λ failure. (file page : List ℕ) → FailsToSelect file text.now page failure.answer failure.at) }
 {
     let bytes = selected(alloc, forest, text)?;
-    let Ok(plain) = forest.is_plain() else {
+    let Ok(report) = report_of(forest) else {
         return Err(no_memory());
     };
-    let told = Report {
-        plain,
-        quirks: forest.quirks(),
-        errors: forest.error_count(),
-    };
-    Ok((bytes, told))
+    Ok((bytes, report))
 }
 
 /// The numbers of what selectors select in a page's document, with the report of the page.
@@ -73,7 +73,7 @@ fn page_selection(
     let text = text_of(selector)?;
     let table = table_of(alloc, file)?;
     let forest = document_of(alloc, table, page)?;
-    let made = told_selection(alloc, &forest, text)?;
+    let made = selected_and_report(alloc, &forest, text)?;
     Ok(made)
 }
 

@@ -2,10 +2,9 @@
 ghost use Rattle.std.specs.Prelude.{◌≡◌, ℕ, List, [], Some, false, IfErr, IfOk, length};
 ghost use Rattle.markup.specs.TreeLaws.{with_errors};
 ghost use Rattle.html_normal.specs.Normal.{IsRead};
-ghost use Rattle.html_plain.specs.Grammar.{is_plain_forest};
 ghost use Rattle.html_tree_image.specs.Image.{image_of};
 ghost use Rattle.html_ffi.specs.Answers.{Fails, FailsOver};
-ghost use Rattle.html_ffi.specs.Calls.{IsToldOf, IsTreeImage, MeansText};
+ghost use Rattle.html_ffi.specs.Calls.{IsImageOf, IsReportOf, IsTreeImage, MeansText};
 
 use crate::answer::{Answer, Failure, no_memory};
 use crate::page::{COUNTED, Page};
@@ -15,6 +14,7 @@ use crate::table::table_of;
 use html_forest::Forest;
 use html_normal::{References, Report, read_document};
 use html_tree_image::tree_image;
+use markup::ParseFault;
 use std::alloc::Global;
 
 /// The image of a forest.
@@ -28,30 +28,28 @@ fn image_bytes(alloc: Global, forest: &Forest) -> Result<Vec<u8>, Failure>
     }
 }
 
-/// Whether a forest's document is plain.
-fn is_plain(forest: &Forest) -> Result<bool, Failure>
-    ensures ok { IfOk result (λ plain. plain ≡ is_plain_forest forest.now) }
-    ensures err { IfErr result (λ failure. FailsOver forest.now failure.answer failure.at) }
+/// The report of a forest.
+pub(crate) fn report_of(forest: &Forest) -> Result<Report, ParseFault>
+    ensures { IfOk result (IsReportOf forest.now) }
 {
-    match forest.is_plain() {
-        Ok(plain) => Ok(plain),
-        Err(_) => Err(no_memory()),
-    }
+    Ok(Report {
+        plain: forest.is_plain()?,
+        quirks: forest.quirks(),
+        errors: forest.error_count(),
+    })
 }
 
 /// The image of a forest, with the report of it.
-fn told_image(alloc: Global, forest: &Forest) -> Result<(Vec<u8>, Report), Failure>
-    ensures ok { IfOk result (λ made. IsToldOf forest.now made.0.items made.1) }
+fn image_and_report(alloc: Global, forest: &Forest) -> Result<(Vec<u8>, Report), Failure>
+    ensures image { IfOk result (λ made. IsImageOf forest.now made.0.items) }
+    ensures report { IfOk result (λ made. IsReportOf forest.now made.1) }
     ensures err { IfErr result (λ failure. FailsOver forest.now failure.answer failure.at) }
 {
     let bytes = image_bytes(alloc, forest)?;
-    let plain = is_plain(forest)?;
-    let told = Report {
-        plain,
-        quirks: forest.quirks(),
-        errors: forest.error_count(),
+    let Ok(report) = report_of(forest) else {
+        return Err(no_memory());
     };
-    Ok((bytes, told))
+    Ok((bytes, report))
 }
 
 /// The document of a page.
@@ -72,7 +70,7 @@ fn page_image(alloc: Global, file: &[u8], page: &[u8]) -> Result<(Vec<u8>, Repor
 {
     let table = table_of(alloc, file)?;
     let forest = document_of(alloc, table, page)?;
-    let made = told_image(alloc, &forest)?;
+    let made = image_and_report(alloc, &forest)?;
     Ok(made)
 }
 

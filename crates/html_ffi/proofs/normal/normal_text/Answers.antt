@@ -6,7 +6,7 @@ use Rattle.html_ffi.proofs.normal.normal_text.Goals as goal
 
 pub returns-in-Ok-clause-ok : goal.returns-in-Ok-clause-ok
 returns-in-Ok-clause-ok c =
-    normal-made c.args.file.now c.args.page.now c.in_ok-table.table _ c.new-writer.result.written _ c.in-Ok.told c.in_ok-table.ensures.ok
+    normal-made c.args.file.now c.args.page.now c.in_ok-table.table _ c.new-writer.result.written _ c.in-Ok.report c.in_ok-table.ensures.ok
     (ap (λ (w : Growing). w.written) c.new-writer.ensures) (c.in-Ok.ensures.ok c.args.page.now (ap Some c.new.ensures))
 
 pub returns-in-Err-clause-err : goal.returns-in-Err-clause-err

@@ -15,4 +15,4 @@ returns-in_err-forest-clause-err c =
 pub returns-clause-ok : goal.returns-clause-ok
 returns-clause-ok c = selection-made c.args.file.now c.args.selector.now c.args.page.now c.in_ok-text.text.now c.in_ok-table.table
     c.in_ok-forest.forest _ _ c.in_ok-text.ensures.ok c.in_ok-text.ensures.utf8 c.in_ok-table.ensures.ok c.in_ok-forest.ensures.ok
-    c.in_ok-made.ensures.ok
+    c.in_ok-made.ensures.selected c.in_ok-made.ensures.report
