@@ -8,14 +8,10 @@ use Rattle.markup.specs.Names.{html_namespace}
 use Rattle.markup.specs.declared.attributes.Attribute.{Attribute}
 use Rattle.html_plain.specs.Elements.{html_name, is_link, spelled}
 use Rattle.html_plain.specs.Grammar.{are_plain_attributes}
-use Rattle.html_plain.specs.declared.elements.CellKind.TheVariants.{Data, Header}
-use Rattle.html_plain.specs.declared.elements.Format.TheVariants.{Bold, Italic, Emphasis, Code}
-use Rattle.html_plain.specs.declared.elements.Level.TheVariants.{One, Two, Three, Four, Five, Six}
-use Rattle.html_plain.specs.declared.elements.ListKind.TheVariants.{Unordered, Ordered}
+use Rattle.html_plain.proofs.Names.{each-element}
 use Rattle.html_plain.specs.declared.elements.PlainElement.{PlainElement}
-use Rattle.html_plain.specs.declared.elements.PlainElement.TheVariants.{Html, Head, Title, Body, Paragraph, Heading, Division}
-use Rattle.html_plain.specs.declared.elements.PlainElement.TheVariants.{List as ListElement, Item, Table, TableBody, Row, Cell}
-use Rattle.html_plain.specs.declared.elements.PlainElement.TheVariants.{Break, Formatted, Link}
+use Rattle.html_plain.specs.declared.elements.PlainElement.TheVariants.{Html, Body}
+use Rattle.html_plain.specs.declared.elements.PlainElement.TheVariants.{Break, Link}
 use Rattle.html_rules.specs.Names as names
 use Rattle.html_rules.specs.Sets.{names_of}
 use Rattle.html_rules.specs.State.{Open}
@@ -48,32 +44,7 @@ fits_name k = is_tag_name (spelled k) && bytes_eq (lowered (spelled k)) (spelled
 
 pub name-fits : (k : PlainElement) → fits_name k ≡ true
 unfolding html_namespace
-name-fits Html = refl
-name-fits Head = refl
-name-fits Title = refl
-name-fits Body = refl
-name-fits Paragraph = refl
-name-fits (Heading One) = refl
-name-fits (Heading Two) = refl
-name-fits (Heading Three) = refl
-name-fits (Heading Four) = refl
-name-fits (Heading Five) = refl
-name-fits (Heading Six) = refl
-name-fits Division = refl
-name-fits (ListElement Unordered) = refl
-name-fits (ListElement Ordered) = refl
-name-fits Item = refl
-name-fits Table = refl
-name-fits TableBody = refl
-name-fits Row = refl
-name-fits (Cell Data) = refl
-name-fits (Cell Header) = refl
-name-fits Break = refl
-name-fits (Formatted Bold) = refl
-name-fits (Formatted Italic) = refl
-name-fits (Formatted Emphasis) = refl
-name-fits (Formatted Code) = refl
-name-fits Link = refl
+name-fits k = each-element fits_name refl k
 
 -- which elements are void, and that text is escaped in all of them, where scripts run or do not
 abbrev suits : Bool → PlainElement → Bool
@@ -83,58 +54,8 @@ suits scripting k = is_written_so scripting (html_name (spelled k)) None
 
 pub name-suits : (scripting : Bool) (k : PlainElement) → suits scripting k ≡ true
 unfolding html_namespace
-name-suits true Html = refl
-name-suits false Html = refl
-name-suits true Head = refl
-name-suits false Head = refl
-name-suits true Title = refl
-name-suits false Title = refl
-name-suits true Body = refl
-name-suits false Body = refl
-name-suits true Paragraph = refl
-name-suits false Paragraph = refl
-name-suits true (Heading One) = refl
-name-suits false (Heading One) = refl
-name-suits true (Heading Two) = refl
-name-suits false (Heading Two) = refl
-name-suits true (Heading Three) = refl
-name-suits false (Heading Three) = refl
-name-suits true (Heading Four) = refl
-name-suits false (Heading Four) = refl
-name-suits true (Heading Five) = refl
-name-suits false (Heading Five) = refl
-name-suits true (Heading Six) = refl
-name-suits false (Heading Six) = refl
-name-suits true Division = refl
-name-suits false Division = refl
-name-suits true (ListElement Unordered) = refl
-name-suits false (ListElement Unordered) = refl
-name-suits true (ListElement Ordered) = refl
-name-suits false (ListElement Ordered) = refl
-name-suits true Item = refl
-name-suits false Item = refl
-name-suits true Table = refl
-name-suits false Table = refl
-name-suits true TableBody = refl
-name-suits false TableBody = refl
-name-suits true Row = refl
-name-suits false Row = refl
-name-suits true (Cell Data) = refl
-name-suits false (Cell Data) = refl
-name-suits true (Cell Header) = refl
-name-suits false (Cell Header) = refl
-name-suits true Break = refl
-name-suits false Break = refl
-name-suits true (Formatted Bold) = refl
-name-suits false (Formatted Bold) = refl
-name-suits true (Formatted Italic) = refl
-name-suits false (Formatted Italic) = refl
-name-suits true (Formatted Emphasis) = refl
-name-suits false (Formatted Emphasis) = refl
-name-suits true (Formatted Code) = refl
-name-suits false (Formatted Code) = refl
-name-suits true Link = refl
-name-suits false Link = refl
+name-suits true k = each-element (suits true) refl k
+name-suits false k = each-element (suits false) refl k
 
 -- the list and the pointer are kept those of the path
 abbrev opens_well : PlainElement → List Open → Bool
@@ -143,63 +64,18 @@ opens_well k ys = opens_so (spelled k) (opened k ys ∷ ys) (change_of k) FormKe
 abbrev closes_well : PlainElement → List Open → Bool
 closes_well k ys = closes_so (opened k ys ∷ ys) (change_back k) FormKept
 
+unlinked-opens : (k : PlainElement) (ys : List Open) → (is_link k || opens_well k ys) ≡ true
+unfolding names_of
+unlinked-opens k ys = each-element (λ k. is_link k || opens_well k ys) refl k
+
 opens-well : (k : PlainElement) (ys : List Open) → (is_link k ≡ true → link_open ys ≡ false) → opens_well k ys ≡ true
 unfolding names_of
-opens-well Html ys h = refl
-opens-well Head ys h = refl
-opens-well Title ys h = refl
-opens-well Body ys h = refl
-opens-well Paragraph ys h = refl
-opens-well (Heading One) ys h = refl
-opens-well (Heading Two) ys h = refl
-opens-well (Heading Three) ys h = refl
-opens-well (Heading Four) ys h = refl
-opens-well (Heading Five) ys h = refl
-opens-well (Heading Six) ys h = refl
-opens-well Division ys h = refl
-opens-well (ListElement Unordered) ys h = refl
-opens-well (ListElement Ordered) ys h = refl
-opens-well Item ys h = refl
-opens-well Table ys h = refl
-opens-well TableBody ys h = refl
-opens-well Row ys h = refl
-opens-well (Cell Data) ys h = refl
-opens-well (Cell Header) ys h = refl
-opens-well Break ys h = refl
-opens-well (Formatted Bold) ys h = refl
-opens-well (Formatted Italic) ys h = refl
-opens-well (Formatted Emphasis) ys h = refl
-opens-well (Formatted Code) ys h = refl
 opens-well Link ys h = rw (h refl) refl
+opens-well k ys h = unlinked-opens k ys
 
 closes-well : (k : PlainElement) (ys : List Open) → closes_well k ys ≡ true
 unfolding names_of
-closes-well Html ys = refl
-closes-well Head ys = refl
-closes-well Title ys = refl
-closes-well Body ys = refl
-closes-well Paragraph ys = refl
-closes-well (Heading One) ys = refl
-closes-well (Heading Two) ys = refl
-closes-well (Heading Three) ys = refl
-closes-well (Heading Four) ys = refl
-closes-well (Heading Five) ys = refl
-closes-well (Heading Six) ys = refl
-closes-well Division ys = refl
-closes-well (ListElement Unordered) ys = refl
-closes-well (ListElement Ordered) ys = refl
-closes-well Item ys = refl
-closes-well Table ys = refl
-closes-well TableBody ys = refl
-closes-well Row ys = refl
-closes-well (Cell Data) ys = refl
-closes-well (Cell Header) ys = refl
-closes-well Break ys = refl
-closes-well (Formatted Bold) ys = refl
-closes-well (Formatted Italic) ys = refl
-closes-well (Formatted Emphasis) ys = refl
-closes-well (Formatted Code) ys = refl
-closes-well Link ys = refl
+closes-well k ys = each-element (λ k. closes_well k ys) refl k
 
 -- START TAGS
 

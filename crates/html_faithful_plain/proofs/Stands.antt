@@ -1,5 +1,5 @@
 -- Where plain nodes stand: what rows ask of the elements that are open there.
-use Rattle.std.proofs.Common.{◌≡◌, Bool, true, false, List, ◌∷◌, None, refl, sym, true≢false}
+use Rattle.std.proofs.Common.{◌≡◌, ◌∙◌, Bool, true, false, List, ◌∷◌, None, refl, sym, true≢false}
 use Rattle.std.specs.Prelude.{codes, is_some}
 use Rattle.html_plain.specs.Elements.{holds, inside, is_in_link, spelled}
 use Rattle.html_plain.specs.declared.elements.CellKind.TheVariants.{Data, Header}
@@ -112,6 +112,12 @@ pub record Stands (p : Spot) (place : PlainPlace) (cell : Bool) (ys : List Open)
 no : {A : Type 0} → false ≡ true → A
 no h = absurd (true≢false (sym h))
 
+part-alone : (place : PlainPlace) → is_part place ≡ true → (is_flow place ≡ false) × (is_list place ≡ false)
+part-alone InTable h = (refl, refl)
+part-alone InTableBody h = (refl, refl)
+part-alone InRow h = (refl, refl)
+part-alone place h = no h
+
 -- ONE ELEMENT MORE
 
 module _ (p : Spot) (cell : Bool) (k : PlainElement) (ys : List Open) where
@@ -173,6 +179,21 @@ module _ (p : Spot) (cell : Bool) (k : PlainElement) (ys : List Open) where
     foster = no;
   }
 
+  -- what a table holds, and its parts
+  part-inside : (place : PlainPlace) → is_part place ≡ true → Again place → Outside → Unlisted → Unlinked
+      → current_is (is_in (context_of place)) zs ≡ true → current_is (is_in set.FosterTarget) zs ≡ true → Stands p place cell zs
+  part-inside place part again paragraph unlisted unlinked context foster = record {
+    own = refl;
+    again = again;
+    paragraph = λ e. paragraph;
+    heading = λ e. no (sym (part-alone place part).0 ∙ e);
+    unlisted = λ e. unlisted;
+    unlinked = λ e. unlinked;
+    item = λ e. no (sym (part-alone place part).1 ∙ e);
+    context = λ e. context;
+    foster = λ e. foster;
+  }
+
 module _ (p : Spot) (cell : Bool) (ys : List Open) where
   abbrev Inside : PlainPlace → PlainElement → Type 0
   Inside place k = Stands p (inside place k) (in_cell k cell) (opened k ys ∷ ys)
@@ -191,17 +212,8 @@ module _ (p : Spot) (cell : Bool) (ys : List Open) where
       list-inside p cell (ListElement Unordered) ys h.again (h.paragraph refl) (h.unlisted refl) (h.unlinked refl) refl
   in-flow (ListElement Ordered) e v h =
       list-inside p cell (ListElement Ordered) ys h.again (h.paragraph refl) (h.unlisted refl) (h.unlinked refl) refl
-  in-flow Table e v h = record {
-    own = refl;
-    again = λ s t. refl;
-    paragraph = λ e. refl;
-    heading = no;
-    unlisted = h.unlisted;
-    unlinked = h.unlinked;
-    item = no;
-    context = λ e. refl;
-    foster = λ e. refl;
-  }
+  in-flow Table e v h = 
+      part-inside p cell Table ys InTable refl (λ s t. refl) refl (h.unlisted refl) (h.unlinked refl) refl refl
   in-flow (Formatted Bold) e v h = line-inside p cell (Formatted Bold) ys false h.again h.unlisted h.unlinked
   in-flow (Formatted Italic) e v h = line-inside p cell (Formatted Italic) ys false h.again h.unlisted h.unlinked
   in-flow (Formatted Emphasis) e v h = line-inside p cell (Formatted Emphasis) ys false h.again h.unlisted h.unlinked
@@ -228,32 +240,14 @@ module _ (p : Spot) (cell : Bool) (ys : List Open) where
 
   pub in-table : (k : PlainElement) → holds InTable k ≡ true → Stands p InTable cell ys → Inside InTable k
   unfolding names_of
-  in-table TableBody e h = record {
-    own = refl;
-    again = λ s t. refl;
-    paragraph = h.paragraph;
-    heading = no;
-    unlisted = h.unlisted;
-    unlinked = h.unlinked;
-    item = no;
-    context = λ e. refl;
-    foster = λ e. refl;
-  }
+  in-table TableBody e h = 
+      part-inside p cell TableBody ys InTableBody refl (λ s t. refl) (h.paragraph refl) (h.unlisted refl) (h.unlinked refl) refl refl
   in-table k e h = no e
 
   pub in-bodies : (k : PlainElement) → holds InTableBody k ≡ true → Stands p InTableBody cell ys → Inside InTableBody k
   unfolding names_of
-  in-bodies Row e h = record {
-    own = refl;
-    again = λ s t. refl;
-    paragraph = h.paragraph;
-    heading = no;
-    unlisted = h.unlisted;
-    unlinked = h.unlinked;
-    item = no;
-    context = λ e. refl;
-    foster = λ e. refl;
-  }
+  in-bodies Row e h = 
+      part-inside p cell Row ys InRow refl (λ s t. refl) (h.paragraph refl) (h.unlisted refl) (h.unlinked refl) refl refl
   in-bodies k e h = no e
 
   pub in-row : (k : PlainElement) → holds InRow k ≡ true → Stands p InRow cell ys → Inside InRow k
