@@ -37,6 +37,25 @@ TAGS_FILE = """//! How known names are written, by their places: written by `too
 use crate::names::Manner;
 use crate::names::Manner::{Raw, RawWithScripts, Usual, Void};
 """
+KINDS_FILE = """//! The kinds of known names, by their places: written by `tools/names.py`.
+use crate::kinds::Kind;
+use crate::kinds::Kind::{{
+    Block, Description, Formatting, Heading, Item, Link, Phrase, Preformatted, Raw, RawWithScripts,
+    Svg, Usual, Void, VoidPhrase,
+}};
+
+/// The kind of the HTML element, or `Svg` for an element of SVG.
+#[rattlefmt::skip]
+pub(crate) const KINDS: [Kind; {count}] = [
+{kinds}
+];
+
+/// Whether an attribute of SVG keeps the name.
+#[rattlefmt::skip]
+pub(crate) const KEEPING: [bool; {count}] = [
+{keeping}
+];
+"""
 FIRST_ROWS_FILE = """//! Which row of a mode is the first that is for a tag, by the family of its name: written by `tools/names.py`.
 
 /// The family of each known name: names that are in the same sets are of one. The first family is that of the names that are in none.
@@ -58,6 +77,19 @@ family_sets =
 %s    []
 """
 KINDS = {"void": "Void", "raw": "Raw", "raw-with-scripts": "RawWithScripts"}
+# The kinds of elements whose tags the walk of faithful documents knows, by a set that they are in.
+COMMON = {
+    "Block": "Block",
+    "HeadingTag": "Heading",
+    "PreListing": "Preformatted",
+    "Li": "Item",
+    "DdDt": "Description",
+    "FormattingTag": "Formatting",
+    "A": "Link",
+    "VoidTag": "VoidPhrase",
+}
+# And by the definition that lists them.
+LISTED = {"phrase_names": "Phrase", "svg_names": "Svg"}
 # Where the number of known names stands by itself: a file, and what is around it.
 COUNTS = [
     ("markup/src/known_names.rt", "pub const NAMES: [&str; ", "]"),
@@ -191,6 +223,21 @@ def tags_file():
         + table("The end tag of an element.", "END_TAGS", "&str", [f'"</{name}>"' for name in NAMES])
         + table("What stands before the value of an attribute.", "ATTRIBUTES", "&str", [f'" {name}=\\""' for name in NAMES])
     )
+
+
+# KINDS OF ELEMENTS
+
+
+def kinds_file():
+    spec = read("html_faithful_walk/specs/Kinds.antt")
+    listed = {kind: re.findall(r'codes "([^"]+)"', between(spec, f"\n{of} = ", "\n\n")) for of, kind in LISTED.items()}
+    kinds = {name: next((KINDS[word] for word in words if word in KINDS), "Usual") for name, words in NAMES.items()}
+    kinds |= {name: kind for kind, names in listed.items() for name in names}
+    sets = sets_of("names_of")
+    for place, name in enumerate(NAMES):
+        kinds[name] = next((kind for of, kind in COMMON.items() if sets[place] >> SETS[of] & 1), kinds[name])
+    keeping = [str(not any(word.startswith(("svg-attribute=", "foreign=")) for word in words)).lower() for words in NAMES.values()]
+    return KINDS_FILE.format(count=COUNT, kinds=filled(kinds.values(), 120), keeping=filled(keeping, 120))
 
 
 # SETS OF NAMES
@@ -328,6 +375,7 @@ def tables():
         "markup/src/known_names.rt": re.sub(r"const LONGEST: usize = \d+;", f"const LONGEST: usize = {LONGEST};", names),
         "markup/src/known_slots.rt": slots_file(),
         "html_serialize/src/known_tags.rt": tags_file(),
+        "html_faithful_walk/src/known_kinds.rt": kinds_file(),
         "html_names/src/set_rows.rt": set_rows_file(),
         "html_names/specs/SetRows.antt": set_rows_spec(),
         "html_names/src/renames.rt": renames_file(),

@@ -1,5 +1,6 @@
 -- What open elements are asked together is what the definitions ask one by one.
-use Rattle.std.proofs.Common.{◌≡◌, ◌∙◌, ◌++◌, ◌<◌, ◌-◌, ℕ, suc, Bool, true, false, List, [], ◌∷◌, refl, sym, ap, ap₂, is_some, codes, length, take, get_or, arith, length-append}
+use Rattle.std.proofs.Common.{◌≡◌, ◌∙◌, ◌++◌, ◌<◌, ◌-◌, ℕ, suc, Bool, true, false, List, [], ◌∷◌, refl, sym, ap, ap₂, is_some, codes}
+use Rattle.std.proofs.Common.{length, take, get_or, arith, length-append}
 use Rattle.std.proofs.Math.ListN.{get_or-append}
 use Rattle.std.proofs.Math.Seq.{get_or-append_seam, take-append_seam}
 use Rattle.std.proofs.lemmas.Grind.{reverse_onto}
@@ -32,7 +33,8 @@ template-context (x ∷ xs) = ap (λ b. is_in set.Template x || b) (template-con
 
 pub form-context : (xs : List Open) → (context_of xs).form ≡ form_of xs
 form-context [] = refl
-form-context (x ∷ xs) = ap₂ (λ t o. choose (is_in set.Form x && not t) (λ _. Some x.number) (λ _. o)) (template-context xs) (form-context xs)
+form-context (x ∷ xs) = ap₂ (λ t o. choose (is_in set.Form x && not t) (λ _. Some x.number)
+    (λ _. o)) (template-context xs) (form-context xs)
 
 lists-by : (m f a old : Bool) (n : ℕ) (name : List ℕ) (es : List Entry) → old ≡ is_some (last_named (codes "a") es)
     → bytes_eq name (codes "a") ≡ a → choose m (λ _. false) (λ _. choose (f && a) (λ _. true) (λ _. old)) ≡ is_some (last_named (codes "a")
@@ -45,7 +47,8 @@ lists-by false false a old n name es h e = h
 pub lists-context : (xs : List Open) → (context_of xs).lists_a ≡ is_some (last_named (codes "a") (entries_of xs))
 lists-context [] = refl
 lists-context (x ∷ xs) =
-    lists-by (is_marked x) (is_in set.FormattingEnd x) (bytes_eq x.name (codes "a")) _ x.number x.name (entries_of xs) (lists-context xs) refl
+    lists-by (is_marked x) (is_in set.FormattingEnd x) (bytes_eq x.name (codes "a")) _ x.number x.name (entries_of xs)
+    (lists-context xs) refl
 
 pub link-context : (xs : List Open) → (context_of xs).link_open ≡ link_open xs
 link-context [] = refl
@@ -85,10 +88,12 @@ pub last-kept : (xs : List Open) (k : ℕ) (d : Context) → length xs ≡ suc k
 last-kept [] k d e = absurd cc
 last-kept (x ∷ xs) k d e =
     let at : length (contexts_of xs) ≡ k = omega (arith, count-kept xs, e) in
-    ap (λ n. get_or (contexts_of xs ++ context_of (x ∷ xs) ∷ []) n d) (sym at) ∙ get_or-append_seam (contexts_of xs) (context_of (x ∷ xs)) [] d
+    ap (λ n. get_or (contexts_of xs ++ context_of (x ∷ xs) ∷ []) n d) (sym at)
+    ∙ get_or-append_seam (contexts_of xs) (context_of (x ∷ xs)) [] d
 
 -- the last but one is of those below the current node
-pub below-kept : (xs : List Open) (k : ℕ) (d : Context) → length xs ≡ suc (suc k) → get_or (contexts_of xs) k d ≡ context_of (without_current xs)
+pub below-kept : (xs : List Open) (k : ℕ) (d : Context) → length xs ≡ suc (suc k)
+    → get_or (contexts_of xs) k d ≡ context_of (without_current xs)
 below-kept [] k d e = absurd cc
 below-kept (x ∷ xs) k d e =
     get_or-append (contexts_of xs) (context_of (x ∷ xs) ∷ []) d k (omega (arith, count-kept xs, e))
@@ -137,12 +142,14 @@ pub none-read : (xs : List Open) (cs : List Context) (o : Option Context) → cs
 none-read xs cs o e h k = last-none xs (ap (λ cs. slice_get cs (length cs - 1)) (sym e) ∙ (sym h ∙ k))
 
 -- the current node, read so
-pub top-read : {H : Type 0} (node : H → ℕ) (es : List (OpenElement H)) (e : OpenElement H) (o : Option (OpenElement H)) (x : Open) (xs : List Open)
+pub top-read : {H : Type 0} (node : H → ℕ) (es : List (OpenElement H)) (e : OpenElement H) (o : Option (OpenElement H)) (x : Open)
+    (xs : List Open)
     → o ≡ slice_get es (length es - 1) → o ≡ Some e → opens_of node es ≡ x ∷ xs → open_of node e ≡ x
 top-read node es e o x xs h k all =
     let read : slice_get es (length es - 1) ≡ Some e = sym h ∙ k in
     let within = slice_get_within es (length es - 1) e read in
     let here : e ≡ get_or es (length es - 1) e = sym (get_or_from_slice_get es (length es - 1) e e read) in
     let whole : opens_of node es ≡ open_of node e ∷ reverse (map (open_of node) (take (length es - 1) es)) =
-    ap (λ es. opens_of node es) (sym (take-length es)) ∙ at (open_of node) es (length es) (length es - 1) e (omega (arith, within)) within here in
+    ap (λ es. opens_of node es) (sym (take-length es))
+    ∙ at (open_of node) es (length es) (length es - 1) e (omega (arith, within)) within here in
     cc

@@ -1,5 +1,5 @@
 -- What actions do, by what they are.
-use Rattle.std.proofs.Common.{◌≡◌, ◌∙◌, ◌∷◌, Bool, true, false, ap, sym, refl, is_some, true≢false}
+use Rattle.std.proofs.Common.{◌≡◌, ◌∙◌, ◌∷◌, Bool, true, false, ap, sym, is_some, true≢false}
 use Rattle.std.specs.Prelude.{Option, Some, None, is_none, not}
 use Rattle.html_tokens.specs.declared.token.Token.{Token}
 use Rattle.html_modes.specs.Tables.{action_of}

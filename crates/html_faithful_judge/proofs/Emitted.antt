@@ -57,7 +57,8 @@ kept-more front a =
 -- one more may join them
 pub kept-joined : (front : List Attribute) (a : Attribute) (b : Bool) → are_told front ≡ true
     → b ≡ (is_kept_attribute a && not (has_local_name a.name.local front)) → b ≡ true → are_told (front ++ a ∷ []) ≡ true
-kept-joined front a b h e may = kept-more front a ∙ (ap (λ t. t && (is_kept_attribute a && not (has_local_name a.name.local front))) h ∙ (sym e ∙ may))
+kept-joined front a b h e may = kept-more front a
+    ∙ (ap (λ t. t && (is_kept_attribute a && not (has_local_name a.name.local front))) h ∙ (sym e ∙ may))
 
 unkept-by : (a b : Bool) → ((a && (false && b)) && true) ≡ false
 unkept-by true b = refl

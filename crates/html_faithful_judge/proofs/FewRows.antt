@@ -1,5 +1,5 @@
 -- No table has many rows.
-use Rattle.std.proofs.Common.{◌≡◌, ◌≤◌, true, length, leb, refl}
+use Rattle.std.proofs.Common.{◌≤◌, length, refl}
 use Rattle.std.proofs.lemmas.Bool.{leb-true}
 use Rattle.html_modes.proofs.WalkedRows.{few-rows}
 use Rattle.html_rules.specs.Modes.Foreign.{in_foreign_content}

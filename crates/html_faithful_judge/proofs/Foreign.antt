@@ -15,7 +15,8 @@ foreign-by : (p : Spot) (t : Token) (xs : List Open) → is_foreign_at (hollow p
 foreign-by p t [] = refl
 foreign-by p t (x ∷ xs) = refl
 
-pub foreign-is : (p : Spot) (content : Content) → is_foreign (hollow p) (token_of content) ≡ current_is (is_foreign_in (token_of content)) p.path
+pub foreign-is : (p : Spot) (content : Content)
+    → is_foreign (hollow p) (token_of content) ≡ current_is (is_foreign_in (token_of content)) p.path
 unfolding is_foreign
 foreign-is p (Tag tag) = foreign-by p (TagToken tag.now) p.path
 foreign-is p (Character c) = foreign-by p (CharacterTokens (c ∷ [])) p.path

@@ -28,7 +28,8 @@ using-by again m false mode = refl
 pub using-as : (again : List Row → Made → Option Made) (m : Made) (b may : Bool) (mode : InsertionMode) (next : Next) → b ≡ may
     → next ≡ again_if b mode → choose may (λ _. again (rows mode) m) (λ _. None) ≡ next_by again next m
 using-as again m b may mode next e is =
-    ap (λ may. choose may (λ _. again (rows mode) m) (λ _. None)) (sym e) ∙ (using-by again m b mode ∙ ap (λ next. next_by again next m) (sym is))
+    ap (λ may. choose may (λ _. again (rows mode) m) (λ _. None)) (sym e)
+    ∙ (using-by again m b mode ∙ ap (λ next. next_by again next m) (sym is))
 
 -- no table is left
 pub rows-none : (count : ℕ) (table : List Row) (t : Token) (m : Made) → count ≡ 0 → by_rows count table t m ≡ None

@@ -1,5 +1,6 @@
 -- Texts that are looked at character by character, with what stands after them.
-use Rattle.std.proofs.Common.{◌≡◌, ◌∙◌, ℕ, zero, suc, ◌+◌, ◌<◌, ◌≤◌, Bool, true, false, List, [], ◌∷◌, ◌++◌, length, refl, sym, ap, arith, drop}
+use Rattle.std.proofs.Common.{◌≡◌, ◌∙◌, ℕ, zero, suc, ◌+◌, ◌<◌, ◌≤◌, Bool, true, false, List, [], ◌∷◌, ◌++◌, length, refl, sym, ap, arith}
+use Rattle.std.proofs.Common.{drop}
 use Rattle.std.proofs.Common.{codes, get_or, nat_eq, take, ◌-◌, add-one}
 use Rattle.std.proofs.lemmas.List.{length-append, length-drop, take_all}
 use Rattle.std.specs.Prelude.{◌&&◌, is_none, not}
@@ -95,7 +96,8 @@ raw-odd whole name text start kind count i c e k l letters h at b is odd =
     let there : ends_at kind name (get_or (text ++ end_tag name) i 0) (drop (suc i) (text ++ end_tag name)) ≡ true =
     ap (λ ws. ends_at kind name (get_or ws i 0) (drop (suc i) ws)) (sym e) ∙ now in
     sym (h ∙ (raw-turn kind name text i within letters
-    ∙ ap (λ b. not b && goes_on_raw (next_kind kind (get_or (text ++ end_tag name) i 0) (drop (suc i) (text ++ end_tag name))) name (drop (suc i) text)) there))
+    ∙ ap (λ b. not b && goes_on_raw (next_kind kind (get_or (text ++ end_tag name) i 0) (drop (suc i) (text ++ end_tag name))) name
+    (drop (suc i) text)) there))
 
 -- and that does not
 pub raw-even : (whole name text : List ℕ) (start kind next : RawKind) (count i c : ℕ) → whole ≡ text ++ end_tag name → length text ≡ count
@@ -115,8 +117,10 @@ raw-even whole name text start kind next count i c e k l letters h at b is even 
     ∙ (ap (λ j. next_kind kind (get_or whole i 0) (drop j whole)) (add-one i)
     ∙ ap (λ ws. next_kind kind (get_or ws i 0) (drop (suc i) ws)) e))) in
     h ∙ (raw-turn kind name text i within letters
-    ∙ (ap (λ b. not b && goes_on_raw (next_kind kind (get_or (text ++ end_tag name) i 0) (drop (suc i) (text ++ end_tag name))) name (drop (suc i) text)) there
-    ∙ (ap (λ next. goes_on_raw next name (drop (suc i) text)) (sym then) ∙ ap (λ j. goes_on_raw next name (drop j text)) (sym (add-one i)))))
+    ∙ (ap (λ b. not b && goes_on_raw (next_kind kind (get_or (text ++ end_tag name) i 0) (drop (suc i) (text ++ end_tag name))) name
+    (drop (suc i) text)) there
+    ∙ (ap (λ next. goes_on_raw next name (drop (suc i) text)) (sym then)
+    ∙ ap (λ j. goes_on_raw next name (drop j text)) (sym (add-one i)))))
 
 pub raw-all : (name text : List ℕ) (start kind : RawKind) (count i : ℕ) (b : Bool) → length text ≡ count → count ≤ i
     → goes_on_raw start name text ≡ goes_on_raw kind name (drop i text) → b ≡ ends_at_tag kind → b ≡ goes_on_raw start name text

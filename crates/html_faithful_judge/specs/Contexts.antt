@@ -1,5 +1,5 @@
 -- What open elements are asked together.
-use Rattle.std.specs.Prelude.{ℕ, Bool, true, false, ◌||◌, ◌&&◌, not, List, [], ◌∷◌, ◌++◌, Option, Some, None, codes}
+use Rattle.std.specs.Prelude.{ℕ, Bool, true, false, ◌||◌, ◌&&◌, not, List, [], ◌∷◌, ◌++◌, Some, None, codes}
 use Rattle.std.specs.Str.{bytes_eq}
 use Rattle.html_rules.specs.Choice.{choose}
 use Rattle.html_rules.specs.State.{Open, is_in}

@@ -1,13 +1,13 @@
 -- The spots of the code.
-use Rattle.std.specs.Prelude.{ℕ, Bool, true, false, ◌||◌, ◌&&◌, not, List, [], ◌∷◌, Option, Some, None, codes}
-use Rattle.std.specs.Str.{bytes_eq}
+use Rattle.std.specs.Prelude.{ℕ, Bool, true, false, ◌||◌, ◌&&◌, not, List, ◌∷◌}
 use Rattle.html_tokens.specs.declared.token.Token.{Token}
-use Rattle.html_rules.specs.Choice.{choose}
 use Rattle.html_rules.specs.ForeignContent.{is_html_element, is_svg_start, is_text_or_start}
+use Rattle.html_rules.specs.Names.{Namespace}
 use Rattle.html_rules.specs.Sets.{is_among, names_of}
+use Rattle.html_rules.specs.Stack.{without_current}
 use Rattle.html_rules.specs.State.{Open, is_in}
 use Rattle.html_rules.specs.declared.tag_set.TagSet.TheVariants as set
-use Rattle.html_faithful.specs.Spots.{Spot, is_marked}
+use Rattle.html_faithful.specs.Spots.{Spot, opened_at}
 use Rattle.html_faithful_judge.specs.declared.spot.Spot as declared
 
 -- the spot of the definitions
@@ -33,3 +33,11 @@ is_html_at x t =
 -- whether the rules of foreign content take a token in an element
 abbrev pub is_foreign_in : Token → Open → Bool
 is_foreign_in t x = not (is_html_element x) && not (is_html_at x t)
+
+-- an element is opened there
+abbrev pub opened_in : Namespace → List ℕ → Spot → Spot
+opened_in namespace name p = record p { path = opened_at namespace name p.path ∷ p.path }
+
+-- the current node is closed
+abbrev pub closed_in : Spot → Spot
+closed_in p = record p { path = without_current p.path }

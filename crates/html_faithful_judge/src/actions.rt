@@ -186,7 +186,8 @@ impl Made {
 
     /// A template insertion mode is pushed.
     pub(crate) fn push_template_mode(&mut self, mode: InsertionMode) -> Result<bool, ParseFault>
-        ensures ok { IfOk result (λ goes_on. (t : Token) → does (table.PushTemplateMode mode) t (made_as self.old) ≡ provided goes_on (made_as self.new)) }
+        ensures ok { IfOk result (λ goes_on. (t : Token) → does (table.PushTemplateMode mode) t (made_as self.old)
+            ≡ provided goes_on (made_as self.new)) }
         ensures fault { IfErr result (λ fault. fault ≡ Memory) }
     {
         self.spot.stack.push_template_mode(mode)?;
@@ -202,7 +203,8 @@ impl Made {
 
     /// The current template insertion mode is changed.
     pub(crate) fn set_template_mode(&mut self, mode: InsertionMode) -> Result<bool, ParseFault>
-        ensures ok { IfOk result (λ goes_on. (t : Token) → does (table.SetTemplateMode mode) t (made_as self.old) ≡ provided goes_on (made_as self.new)) }
+        ensures ok { IfOk result (λ goes_on. (t : Token) → does (table.SetTemplateMode mode) t (made_as self.old)
+            ≡ provided goes_on (made_as self.new)) }
         ensures fault { IfErr result (λ fault. fault ≡ Memory) }
     {
         self.pop_template_mode();

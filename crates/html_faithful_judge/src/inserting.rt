@@ -50,7 +50,7 @@ fn foreign_namespace(namespace: Foreign) -> Namespace
 
 /// The namespace of HTML.
 #[tactic(auto, unfolding(markup::specs::Names::html_namespace, markup::specs::Namespaces::name_of, html_rules::specs::Names::mathml_namespace, html_rules::specs::Names::svg_namespace))]
-fn html_namespace() -> Namespace
+pub(crate) fn html_namespace() -> Namespace
     ensures { named.namespace_of result ≡ Html }
 {
     Namespace::from_known(KnownNamespace::Html)
@@ -103,7 +103,8 @@ impl Made {
         alloc: Global,
         token: &NamedToken<'_>,
     ) -> Result<bool, ParseFault>
-        ensures ok { IfOk result (λ goes_on. does table.CreateRoot (token_of token.now.content) (made_as self.old) ≡ provided goes_on (made_as self.new)) }
+        ensures ok { IfOk result (λ goes_on. does table.CreateRoot (token_of token.now.content) (made_as self.old)
+            ≡ provided goes_on (made_as self.new)) }
         ensures fault { IfErr result (λ fault. fault ≡ Memory) }
     {
         match token.start_tag() {
@@ -114,7 +115,8 @@ impl Made {
 
     /// An HTML element is put for a tag, and opened.
     fn opens_html(&mut self, alloc: Global, tag: &Tag) -> Result<bool, ParseFault>
-        ensures ok { IfOk result (λ goes_on. opens Html tag.now.name tag.now.attrs (made_as self.old) ≡ provided goes_on (made_as self.new)) }
+        ensures ok { IfOk result (λ goes_on. opens Html tag.now.name tag.now.attrs (made_as self.old)
+            ≡ provided goes_on (made_as self.new)) }
         ensures fault { IfErr result (λ fault. fault ≡ Memory) }
     {
         let name = tag.name.copy(alloc)?;
@@ -128,7 +130,8 @@ impl Made {
         alloc: Global,
         token: &NamedToken<'_>,
     ) -> Result<bool, ParseFault>
-        ensures ok { IfOk result (λ goes_on. does table.InsertElement (token_of token.now.content) (made_as self.old) ≡ provided goes_on (made_as self.new)) }
+        ensures ok { IfOk result (λ goes_on. does table.InsertElement (token_of token.now.content) (made_as self.old)
+            ≡ provided goes_on (made_as self.new)) }
         ensures fault { IfErr result (λ fault. fault ≡ Memory) }
     {
         match token.start_tag() {
@@ -143,7 +146,8 @@ impl Made {
         alloc: Global,
         token: &NamedToken<'_>,
     ) -> Result<bool, ParseFault>
-        ensures ok { IfOk result (λ goes_on. does table.InsertFormatting (token_of token.now.content) (made_as self.old) ≡ provided goes_on (made_as self.new)) }
+        ensures ok { IfOk result (λ goes_on. does table.InsertFormatting (token_of token.now.content) (made_as self.old)
+            ≡ provided goes_on (made_as self.new)) }
         ensures fault { IfErr result (λ fault. fault ≡ Memory) }
     {
         match token.start_tag() {
@@ -158,7 +162,8 @@ impl Made {
         alloc: Global,
         token: &NamedToken<'_>,
     ) -> Result<bool, ParseFault>
-        ensures ok { IfOk result (λ goes_on. does table.InsertTemplate (token_of token.now.content) (made_as self.old) ≡ provided goes_on (made_as self.new)) }
+        ensures ok { IfOk result (λ goes_on. does table.InsertTemplate (token_of token.now.content) (made_as self.old)
+            ≡ provided goes_on (made_as self.new)) }
         ensures fault { IfErr result (λ fault. fault ≡ Memory) }
     {
         match token.start_tag() {
@@ -178,7 +183,8 @@ impl Made {
         alloc: Global,
         token: &NamedToken<'_>,
     ) -> Result<bool, ParseFault>
-        ensures ok { IfOk result (λ goes_on. does table.InsertVoid (token_of token.now.content) (made_as self.old) ≡ provided goes_on (made_as self.new)) }
+        ensures ok { IfOk result (λ goes_on. does table.InsertVoid (token_of token.now.content) (made_as self.old)
+            ≡ provided goes_on (made_as self.new)) }
         ensures fault { IfErr result (λ fault. fault ≡ Memory) }
     {
         match token.start_tag() {
@@ -203,7 +209,8 @@ impl Made {
         namespace: Foreign,
         token: &NamedToken<'_>,
     ) -> Result<bool, ParseFault>
-        ensures ok { IfOk result (λ goes_on. does (table.EnterForeign (namespace_of namespace)) (token_of token.now.content) (made_as self.old) ≡ provided goes_on (made_as self.new)) }
+        ensures ok { IfOk result (λ goes_on. does (table.EnterForeign (namespace_of namespace)) (token_of token.now.content)
+            (made_as self.old) ≡ provided goes_on (made_as self.new)) }
         ensures fault { IfErr result (λ fault. fault ≡ Memory) }
     {
         match token.start_tag() {
@@ -223,7 +230,8 @@ impl Made {
         name: LocalName,
         tag: &Tag,
     ) -> Result<bool, ParseFault>
-        ensures ok { IfOk result (λ goes_on. opens (named.namespace_of namespace) name (adjust_attributes (named.namespace_of namespace) tag.now.attrs)
+        ensures ok { IfOk result (λ goes_on. opens (named.namespace_of namespace) name
+            (adjust_attributes (named.namespace_of namespace) tag.now.attrs)
             (made_as self.old) ≡ provided goes_on (made_as self.new)) }
         ensures fault { IfErr result (λ fault. fault ≡ Memory) }
     {
@@ -238,7 +246,8 @@ impl Made {
         alloc: Global,
         token: &NamedToken<'_>,
     ) -> Result<bool, ParseFault>
-        ensures ok { IfOk result (λ goes_on. does table.InsertForeign (token_of token.now.content) (made_as self.old) ≡ provided goes_on (made_as self.new)) }
+        ensures ok { IfOk result (λ goes_on. does table.InsertForeign (token_of token.now.content) (made_as self.old)
+            ≡ provided goes_on (made_as self.new)) }
         ensures fault { IfErr result (λ fault. fault ≡ Memory) }
     {
         match (token.start_tag(), self.spot.as_stack().open_elems().last()) {

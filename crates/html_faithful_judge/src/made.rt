@@ -9,9 +9,7 @@ ghost use Rattle.html_faithful_judge.specs.Tokens.{token_of};
 
 use crate::spot::Spot;
 use crate::tokens::{Content, NamedToken};
-use html_forest::NodeId;
-use html_names::ElementName;
-use html_stack::OpenElement;
+use html_names::ElementClass;
 use html_tokens::TagKind;
 use html_tokens::states::RawKind;
 use markup::{Attributes, LocalName, Namespace, ParseFault};
@@ -133,12 +131,8 @@ impl Made {
         ensures ok { OnOk result (made_as self.new ≡ pushed (namespace_of namespace.now) name.now (made_as self.old)) }
         ensures fault { IfErr result (λ fault. fault ≡ Memory) }
     {
-        let element = ElementName::new(alloc, namespace, name)?;
-        let number = self.spot.as_stack().open_elems().len();
-        self.spot.stack.push(OpenElement {
-            handle: NodeId::new(number),
-            name: element,
-        })
+        let class = ElementClass::named(namespace, name);
+        self.spot.open(alloc, class, namespace, name)
     }
 
     /// An element is put, and opened, if nothing was put or closed yet.
@@ -149,7 +143,8 @@ impl Made {
         name: LocalName,
         attributes: Attributes,
     ) -> Result<bool, ParseFault>
-        ensures ok { IfOk result (λ goes_on. opens (namespace_of namespace) name attributes (made_as self.old) ≡ provided goes_on (made_as self.new)) }
+        ensures ok { IfOk result (λ goes_on. opens (namespace_of namespace) name attributes (made_as self.old)
+            ≡ provided goes_on (made_as self.new)) }
         ensures fault { IfErr result (λ fault. fault ≡ Memory) }
     {
         if !self.is_fresh() {
@@ -181,7 +176,7 @@ impl Made {
     fn pop(&mut self)
         ensures { made_as self.new ≡ popped (made_as self.old) }
     {
-        self.spot.stack.pop();
+        self.spot.close_current();
     }
 
     /// The current node, which passes a test or does not, is closed by its own end tag, if nothing was put or closed yet.

@@ -63,7 +63,7 @@ impl Made {
     }
 
     /// Nothing came yet of the token that is next.
-    fn restart(&mut self)
+    pub fn restart(&mut self)
         ensures { made_as self.new ≡ nothing_yet (made_as self.old).spot }
     {
         self.put = None;
@@ -98,7 +98,8 @@ impl Made {
     fn conclude(&mut self, ends: &Conclusion, token: &NamedToken<'_>) -> Next
         requires { IsNamed token.now }
         ensures { (again : List Row → HarmlessMade → Option HarmlessMade)
-            → concludes again (token_of token.now.content) (conclusion_of ends.now) (made_as self.old) ≡ next_by again result (made_as self.new) }
+            → concludes again (token_of token.now.content) (conclusion_of ends.now) (made_as self.old)
+            ≡ next_by again result (made_as self.new) }
     {
         match ends {
             Conclusion::Done => Next::Done(None),
@@ -166,7 +167,8 @@ impl Made {
     /// The next token is taken where the last one led; answers whether the rules do no harm, as this has it then.
     pub fn take(&mut self, alloc: Global, token: &NamedToken<'_>) -> Result<bool, ParseFault>
         requires { IsNamed token.now }
-        ensures ok { IfOk result (λ goes_on. made_of (token_of token.now.content) (made_as self.old).spot ≡ provided goes_on (made_as self.new)) }
+        ensures ok { IfOk result (λ goes_on. made_of (token_of token.now.content) (made_as self.old).spot
+            ≡ provided goes_on (made_as self.new)) }
         ensures fault { IfErr result (λ fault. fault ≡ Memory) }
     {
         self.restart();

@@ -50,7 +50,7 @@ fn has_attribute_characters(name: &str) -> bool
 }
 
 /// Whether a text has a character.
-pub(crate) fn is_nonempty(text: &str) -> bool
+pub fn is_nonempty(text: &str) -> bool
     ensures { result ≡ is_nonempty (chars text.now) }
 {
     text.chars().next().is_some()

@@ -14,8 +14,8 @@ use markup::ParseFault;
 use std::alloc::Global;
 use std::marker::Model;
 
-/// The open elements and the template insertion modes. What the open elements up to each are asked together is kept beside it, so that a token
-/// which asks for that does not walk over all of them. A contract sees the stack.
+/// The open elements and the template insertion modes. What the open elements up to each are asked together is kept beside it, so that a
+/// token which asks for that does not walk over all of them. A contract sees the stack.
 #[derive(Drop)]
 pub struct OpenElements {
     stack: Stack<Forest>,

@@ -1,12 +1,12 @@
 //! Where the next node stands, and what rows ask of it (HTML Standard, section 13.2.6).
-ghost use Rattle.std.specs.Prelude.{◌≡◌, ℕ, [], is_some, codes, not};
+ghost use Rattle.std.specs.Prelude.{◌≡◌, ℕ, [], IfErr, OnOk, is_some, codes, not};
 ghost use Rattle.std.specs.List.{list_all};
 ghost use Rattle.std.specs.Str.{bytes_eq, chars};
 ghost use Rattle.html_rules.specs.Adoption.{is_number};
 ghost use Rattle.html_rules.specs.Conditions.{form_in_scope, form_is_current, holds, is_alone, is_nonempty};
 ghost use Rattle.html_rules.specs.ForeignContent.{foreign_end, is_as_in_mode, is_foreign, is_foreign_end_error, is_named_any_case};
 ghost use Rattle.html_rules.specs.Formatting.{last_named};
-ghost use Rattle.html_rules.specs.Names.{Html};
+ghost use Rattle.html_rules.specs.Names.{Html, namespace_of};
 ghost use Rattle.html_rules.specs.Stack.{has_open, in_scope, item_name, without_current};
 ghost use Rattle.html_rules.specs.State.{current_is, is_in, is_named};
 ghost use Rattle.html_rules.specs.declared.tag_set.TagSet.TheVariants.{BodyEnd, DdDt, DefaultScope, Li, Template};
@@ -16,10 +16,12 @@ ghost use Rattle.html_stack.specs.Stacks.{opens_of, open_of};
 ghost use Rattle.html_faithful.specs.Listing.{link_open};
 ghost use Rattle.html_faithful.specs.Spots.{entries_of, form_of, hollow, is_marked};
 ghost use Rattle.html_faithful_judge.specs.Contexts.{context_of, number_of};
-ghost use Rattle.html_faithful_judge.specs.Spots.{is_foreign_in, is_html_at, spot_of};
+ghost use Rattle.html_faithful_judge.specs.Spots.{closed_in, is_foreign_in, is_html_at, opened_in, spot_of};
+ghost use Rattle.markup.specs.declared.fault.ParseFault.TheVariants.{Memory};
 ghost use Rattle.html_faithful_judge.specs.Tokens.{IsNamed, token_of};
 
 use crate::context::{Context, bars_items};
+use crate::inserting::html_namespace;
 use crate::open::OpenElements;
 use crate::tokens::{Content, NamedToken};
 use html_forest::{Forest, NodeId};
@@ -28,7 +30,8 @@ use html_names::{ElementClass, ElementName};
 use html_rules::{InsertionMode, TagSet};
 use html_stack::{OpenElement, Stack};
 use html_tokens::TagKind;
-use markup::{LocalName, QuirksMode};
+use markup::{LocalName, Namespace, ParseFault, QuirksMode};
+use std::alloc::Global;
 
 /// Where the next node stands.
 #[derive(Drop)]
@@ -187,7 +190,7 @@ fn is_foreign_at(elements: &[OpenElement<NodeId>], token: &NamedToken<'_>) -> bo
 
 impl Spot {
     /// The open elements, the root first.
-    fn open(&self) -> &[OpenElement<NodeId>]
+    fn elements(&self) -> &[OpenElement<NodeId>]
         ensures { opens_of number_of result.now ≡ self.now.stack.open_elems }
     {
         self.as_stack().open_elems()
@@ -221,21 +224,70 @@ impl Spot {
     }
 
     /// Whether an item of a set would be closed.
-    pub(crate) fn has_item(&self, items: TagSet) -> bool
+    pub fn has_item(&self, items: TagSet) -> bool
         ensures { result ≡ is_some (item_name items self.now.stack.open_elems) }
     {
         match items {
             TagSet::Li => self.context().closes_li,
             TagSet::DdDt => self.context().closes_dd,
-            _ => has_item(self.open(), items),
+            _ => has_item(self.elements(), items),
         }
+    }
+
+    /// Whether an `a` is listed since the last marker.
+    pub fn lists_a(&self) -> bool
+        ensures { result ≡ is_some (last_named (codes "a") (entries_of self.now.stack.open_elems)) }
+    {
+        self.context().lists_a
+    }
+
+    /// Whether an `a` is open since the last marked element.
+    pub fn link_open(&self) -> bool
+        ensures { result ≡ link_open self.now.stack.open_elems }
+    {
+        self.context().link_open
+    }
+
+    /// Opens an element, whose class is handed in.
+    pub fn open(
+        &mut self,
+        alloc: Global,
+        class: ElementClass,
+        namespace: &Namespace,
+        name: &LocalName,
+    ) -> Result<(), ParseFault>
+        requires { IsClassOf (namespace_of namespace.now) name.now class }
+        ensures ok { OnOk result (spot_of self.new ≡ opened_in (namespace_of namespace.now) name.now (spot_of self.old)) }
+        ensures fault { IfErr result (λ fault. fault ≡ Memory) }
+    {
+        let element = ElementName::with_class(alloc, class, namespace, name)?;
+        let number = self.elements().len();
+        self.stack.push(OpenElement {
+            handle: NodeId::new(number),
+            name: element,
+        })
+    }
+
+    /// Opens an HTML element.
+    pub fn open_html(&mut self, alloc: Global, name: &LocalName) -> Result<(), ParseFault>
+        ensures ok { OnOk result (spot_of self.new ≡ opened_in Html name.now (spot_of self.old)) }
+        ensures fault { IfErr result (λ fault. fault ≡ Memory) }
+    {
+        self.open(alloc, ElementClass::html(name), &html_namespace(), name)
+    }
+
+    /// Closes the current node, if an element is open.
+    pub fn close_current(&mut self)
+        ensures { spot_of self.new ≡ closed_in (spot_of self.old) }
+    {
+        self.stack.pop();
     }
 
     /// Whether the current node is in a set.
     pub fn current_is(&self, set: TagSet) -> bool
         ensures { result ≡ current_is (is_in set) self.now.stack.open_elems }
     {
-        last_is_in(self.open(), set)
+        last_is_in(self.elements(), set)
     }
 
     /// Whether the current node is the HTML element of a name, which comes with its class.
@@ -243,35 +295,35 @@ impl Spot {
         requires { IsClassOf Html name.now class }
         ensures { result ≡ current_is (is_named name.now) self.now.stack.open_elems }
     {
-        last_is_named(self.open(), class, name)
+        last_is_named(self.elements(), class, name)
     }
 
     /// Whether an element is open.
     pub fn is_any_open(&self) -> bool
         ensures { result ≡ is_nonempty self.now.stack.open_elems }
     {
-        !self.open().is_empty()
+        !self.elements().is_empty()
     }
 
     /// Whether there is a current node that is not in a set.
     pub(crate) fn current_is_not(&self, set: TagSet) -> bool
         ensures { result ≡ current_is (λ x. not (is_in set x)) self.now.stack.open_elems }
     {
-        last_is_not_in(self.open(), set)
+        last_is_not_in(self.elements(), set)
     }
 
     /// Whether the current node has a name in any case.
     pub(crate) fn current_is_any_case(&self, name: &LocalName) -> bool
         ensures { result ≡ current_is (is_named_any_case name.now) self.now.stack.open_elems }
     {
-        last_is_any_case(self.open(), name)
+        last_is_any_case(self.elements(), name)
     }
 
     /// Whether the root is the only open element.
     pub fn is_root_alone(&self) -> bool
         ensures { result ≡ is_alone self.now.stack.open_elems }
     {
-        is_one(self.open())
+        is_one(self.elements())
     }
 
     /// Whether the form element pointer names an element in scope.
@@ -279,7 +331,7 @@ impl Spot {
         ensures { result ≡ form_in_scope (form_of self.now.stack.open_elems) self.now.stack.open_elems }
     {
         match self.context().form {
-            Some(form) => is_number_in_scope(self.open(), form),
+            Some(form) => is_number_in_scope(self.elements(), form),
             None => false,
         }
     }
@@ -289,7 +341,7 @@ impl Spot {
         ensures { result ≡ form_is_current (form_of self.now.stack.open_elems) self.now.stack.open_elems }
     {
         match self.context().form {
-            Some(form) => last_is_number(self.open(), form),
+            Some(form) => last_is_number(self.elements(), form),
             None => false,
         }
     }
@@ -306,7 +358,7 @@ impl Spot {
         requires { IsNamed token.now }
         ensures { result ≡ is_foreign (hollow (spot_of self.now)) (token_of token.now.content) }
     {
-        is_foreign_at(self.open(), token)
+        is_foreign_at(self.elements(), token)
     }
 
     /// Whether a condition holds for a token.

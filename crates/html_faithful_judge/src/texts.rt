@@ -1,7 +1,8 @@
 //! Which texts and comments are read as they are written (HTML Standard, sections 13.1 and 13.2.5).
 ghost use Rattle.std.specs.Char.{is_ascii_alphabetic, to_ascii_lowercase};
 ghost use Rattle.std.specs.List.{list_all};
-ghost use Rattle.std.specs.Prelude.{◌≡◌, ◌++◌, map, nat_eq, true, ◌+◌, ◌<◌, ◌≤◌, ◌&&◌, ◌||◌, ℕ, List, not, length, drop, codes, IfErr, IfOk, is_none};
+ghost use Rattle.std.specs.Prelude.{◌≡◌, ◌++◌, map, nat_eq, true, ◌+◌, ◌<◌, ◌≤◌, ◌&&◌, ◌||◌, ℕ, List, not, length, drop, codes, IfErr};
+ghost use Rattle.std.specs.Prelude.{IfOk, is_none};
 ghost use Rattle.std.specs.Str.{bytes_eq, chars};
 ghost use Rattle.markup.specs.Escape.{end_tag};
 ghost use Rattle.markup.specs.declared.fault.ParseFault.TheVariants.{Memory};
@@ -14,13 +15,14 @@ use crate::characters::{begins, begins_name};
 use crate::names::is_nonempty;
 use html_tokens::states::{RawKind, ScriptEscapeKind};
 use markup::{ParseFault, Text};
+use memchr::memchr2;
 use std::alloc::Global;
 
 /// Whether a text has neither U+0000 nor U+000D.
 pub fn is_kept(text: &str) -> bool
     ensures { result ≡ is_kept (chars text.now) }
 {
-    text.chars().all(|c| c != '\0' && c != '\r')
+    memchr2(0, b'\r', text.as_bytes()).is_none()
 }
 
 /// Whether four characters or more begin with what ends a comment.

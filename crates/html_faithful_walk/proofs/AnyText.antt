@@ -1,5 +1,6 @@
 -- Where every text is put in the current node, and changes nothing else.
 use Rattle.std.proofs.Common.{◌≡◌, ◌∙◌, ℕ, Bool, true, false, List, [], ◌∷◌, Some, None, refl, sym, true≢false}
+use Rattle.std.specs.Prelude.{◌&&◌, not}
 use Rattle.std.proofs.lemmas.Bool.{and_parts}
 use Rattle.html_tokens.specs.declared.token.Token.TheVariants.{CharacterTokens}
 use Rattle.html_rules.specs.Choice.{choose}
@@ -14,6 +15,9 @@ use Rattle.html_faithful.specs.Spots.{Spot, hollow}
 use Rattle.html_faithful.specs.Walk.{text_walked}
 use Rattle.html_faithful.proofs.Waiting.{at-html}
 use Rattle.html_faithful_walk.specs.Steps.{is_character_walked, takes_any_text, takes_text}
+use Rattle.html_faithful_walk.specs.Svg.{takes_svg}
+use Rattle.html_faithful_walk.proofs.CommonTags.{is-not}
+use Rattle.html_faithful_walk.proofs.SvgTags.{svg-text}
 
 own-by : (p : Spot) (c : ℕ) (xs : List Open) → current_is is_html_element xs ≡ true
     → is_foreign_at (hollow p) (adjusted_by None xs) (CharacterTokens (c ∷ [])) ≡ false
@@ -44,10 +48,16 @@ character-put : (p : Spot) (c : ℕ) → takes_text p.mode p.frameset_ok ≡ tru
 unfolding made_of
 character-put p c h k = character-by p.mode p.frameset_ok p c (is_foreign (hollow p) (CharacterTokens (c ∷ []))) h (own-text p c k)
 
+character-at : (p : Spot) (c : ℕ) (own : Bool) → current_is is_html_element p.path ≡ own
+    → choose own (λ _. takes_text p.mode p.frameset_ok) (λ _. not p.frameset_ok && takes_svg p.path) ≡ true
+    → made_of (CharacterTokens (c ∷ [])) p ≡ Some (record (nothing_yet p) { put = Some TextHere })
+character-at p c true e h = character-put p c h e
+character-at p c false e h =
+    let parts = and_parts (not p.frameset_ok) (takes_svg p.path) h in
+    svg-text p c parts.1 (is-not p.frameset_ok parts.0)
+
 pub character-stays : (p : Spot) (c : ℕ) → takes_any_text p ≡ true → is_character_walked c p p true
-character-stays p c h cs =
-    let k = and_parts (takes_text p.mode p.frameset_ok) (current_is is_html_element p.path) h in
-    rw (character-put p c k.0 k.1) refl
+character-stays p c h cs = rw (character-at p c (current_is is_html_element p.path) refl h) refl
 
 pub text-stays : (p : Spot) (text : List ℕ) → takes_any_text p ≡ true → text_walked text p ≡ Some p
 text-stays p [] h = refl

@@ -96,16 +96,19 @@ pub kept-opened : (name : List ℕ) (p : Spot) (made : Made) (b o : Bool) → o 
     → b ≡ opens_so name made.spot.path made.change made.form → made.closed ≡ false → b ≡ is_kept_so name p made
 kept-opened name p made b o e opened is apart =
     is ∙ sym (ap₂ (λ c o. cond c (closes_so p.path made.change made.form)
-    (cond o (opens_so name made.spot.path made.change made.form) (is_unchanged made.change && is_form_kept made.form))) apart (sym e ∙ opened))
+    (cond o (opens_so name made.spot.path made.change made.form) (is_unchanged made.change && is_form_kept made.form))) apart (sym e
+    ∙ opened))
 
 pub kept-alone : (name : List ℕ) (p : Spot) (made : Made) (b o : Bool) → o ≡ is_opened made.put → o ≡ false
     → b ≡ (is_unchanged made.change && is_form_kept made.form) → made.closed ≡ false → b ≡ is_kept_so name p made
 kept-alone name p made b o e opened is apart =
     is ∙ sym (ap₂ (λ c o. cond c (closes_so p.path made.change made.form)
-    (cond o (opens_so name made.spot.path made.change made.form) (is_unchanged made.change && is_form_kept made.form))) apart (sym e ∙ opened))
+    (cond o (opens_so name made.spot.path made.change made.form) (is_unchanged made.change && is_form_kept made.form))) apart (sym e
+    ∙ opened))
 
 pub kept-closed : (name : List ℕ) (p : Spot) (made : Made) (b : Bool) → b ≡ closes_so p.path made.change made.form
     → made.closed ≡ true → b ≡ is_kept_so name p made
 kept-closed name p made b is closed =
     is ∙ sym (ap (λ c. cond c (closes_so p.path made.change made.form)
-    (cond (is_opened made.put) (opens_so name made.spot.path made.change made.form) (is_unchanged made.change && is_form_kept made.form))) closed)
+    (cond (is_opened made.put) (opens_so name made.spot.path made.change made.form)
+    (is_unchanged made.change && is_form_kept made.form))) closed)

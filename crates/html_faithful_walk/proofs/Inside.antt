@@ -37,7 +37,8 @@ module _ (scripting : Bool) (parent : Parent) (rest : Spot → Option Spot) wher
   void-kids kids true raw p inside h = absurd cc
   void-kids kids false (Some kind) p inside h = absurd cc
   void-kids kids false None p inside h =
-      done-kids kids p ∙ ap (λ inside. and_then (walk_by inside scripting parent false false kids p) (λ p. and_then (Some p) rest)) (the Done inside h)
+      done-kids kids p ∙ ap (λ inside. and_then (walk_by inside scripting parent false false kids p)
+      (λ p. and_then (Some p) rest)) (the Done inside h)
 
   void-none : (kids : Trees) (drops : Bool) (raw : Option RawKind) (p : Spot)
       → choose (not drops && is_none raw) (λ _. Some Done) (λ _. None) ≡ None
@@ -61,7 +62,8 @@ module _ (scripting : Bool) (parent : Parent) (rest : Spot → Option Spot) wher
   named-kids kids kind name made inside true h =
       choose-then (is_raw_inside kind name.now.local kids) (walk scripting parent false made.drops_line_feed kids made.spot)
       (λ p. finished name.now p) rest
-      ∙ ap (λ inside. and_then (walk_by inside scripting parent false made.drops_line_feed kids made.spot) (λ p. and_then (finished name.now p) rest))
+      ∙ ap (λ inside. and_then (walk_by inside scripting parent false made.drops_line_feed kids made.spot)
+      (λ p. and_then (finished name.now p) rest))
       (the (Raw kind name) inside h)
 
   full-kids : (kids : Trees) (name : Bor QualName) (made : Made) (inside : Inside) (raw : Option RawKind) → inside_by raw name ≡ Some inside
@@ -69,7 +71,8 @@ module _ (scripting : Bool) (parent : Parent) (rest : Spot → Option Spot) wher
       ≡ and_then (walk_by inside scripting parent false made.drops_line_feed kids made.spot) (λ p. and_then (finished name.now p) rest)
   full-kids kids name made inside None h =
       then-assoc (walk scripting parent false made.drops_line_feed kids made.spot) (λ p. finished name.now p) rest
-      ∙ ap (λ inside. and_then (walk_by inside scripting parent false made.drops_line_feed kids made.spot) (λ p. and_then (finished name.now p) rest))
+      ∙ ap (λ inside. and_then (walk_by inside scripting parent false made.drops_line_feed kids made.spot)
+      (λ p. and_then (finished name.now p) rest))
       (the Any inside h)
   full-kids kids name made inside (Some kind) h =
       named-kids kids kind name made inside (bytes_eq (lowered name.now.local) name.now.local) h
@@ -91,14 +94,17 @@ module _ (scripting : Bool) (parent : Parent) (rest : Spot → Option Spot) wher
       (λ _. walked name kids made made.raw)
 
   all-kids : (kids : Trees) (name : Bor QualName) (made : Made) (inside : Inside) (void : Bool)
-      → choose void (λ _. choose (not made.drops_line_feed && is_none made.raw) (λ _. Some Done) (λ _. None)) (λ _. inside_by made.raw name) ≡ Some inside
+      → choose void (λ _. choose (not made.drops_line_feed && is_none made.raw) (λ _. Some Done) (λ _. None))
+      (λ _. inside_by made.raw name) ≡ Some inside
       → and_then (kids_by void name.now kids made) rest
-      ≡ and_then (walk_by inside scripting parent false made.drops_line_feed kids made.spot) (λ p. and_then (finish_by (cond void None (Some name)) p) rest)
+      ≡ and_then (walk_by inside scripting parent false made.drops_line_feed kids made.spot)
+      (λ p. and_then (finish_by (cond void None (Some name)) p) rest)
   all-kids kids name made inside true h = void-kids kids made.drops_line_feed made.raw made.spot inside h
   all-kids kids name made inside false h = full-kids kids name made inside made.raw h
 
   none-kids : (kids : Trees) (name : Bor QualName) (made : Made) (void : Bool)
-      → choose void (λ _. choose (not made.drops_line_feed && is_none made.raw) (λ _. Some Done) (λ _. None)) (λ _. inside_by made.raw name) ≡ None
+      → choose void (λ _. choose (not made.drops_line_feed && is_none made.raw) (λ _. Some Done) (λ _. None))
+      (λ _. inside_by made.raw name) ≡ None
       → and_then (kids_by void name.now kids made) rest ≡ None
   none-kids kids name made true h = void-none kids made.drops_line_feed made.raw made.spot h
   none-kids kids name made false h = none-full kids name made made.raw h
@@ -112,7 +118,8 @@ no-inside scripting name made old new e h kids rest =
     ∙ none-kids scripting (below (parent_of old.parent)) (λ p. walk scripting (parent_of old.parent) false false rest p) kids name made
     (is_void name.now) h
 
-pub enters : (scripting : Bool) (name : Bor QualName) (made : Made) (old new : Stand) (inside : Inside) (down : declared.Parent) (after : After)
+pub enters : (scripting : Bool) (name : Bor QualName) (made : Made) (old new : Stand) (inside : Inside) (down : declared.Parent)
+    (after : After)
     → is_written_so scripting name.now made.raw ≡ true → inside_of name made ≡ Some inside → parent_of down ≡ below (parent_of old.parent)
     → new ≡ record { parent = down; after_text = false; drops = made.drops_line_feed; inside = inside }
     → after ≡ after_of name old.parent → Enters scripting name made old new (Some after)
@@ -120,12 +127,15 @@ enters scripting name made old new inside down after e h k is l kids rest =
     ap (λ b. choose b (λ _. and_then (choose (is_void name.now) (λ _. choose (ends_there kids made) (λ _. Some made.spot) (λ _. None))
     (λ _. kids_walked name.now kids (λ drops p. walk scripting (below (parent_of old.parent)) false drops kids p) made))
     (λ p. walk scripting (parent_of old.parent) false false rest p)) (λ _. None)) e
-    ∙ (all-kids scripting (below (parent_of old.parent)) (λ p. walk scripting (parent_of old.parent) false false rest p) kids name made inside
+    ∙ (all-kids scripting (below (parent_of old.parent))
+    (λ p. walk scripting (parent_of old.parent) false false rest p) kids name made inside
     (is_void name.now) h
     ∙ (ap (λ parent. and_then (walk_by inside scripting parent false made.drops_line_feed kids made.spot)
-    (λ p. and_then (finish_by (cond (is_void name.now) None (Some name)) p) (λ p. walk scripting (parent_of old.parent) false false rest p))) (sym k)
+    (λ p. and_then (finish_by (cond (is_void name.now) None (Some name)) p)
+    (λ p. walk scripting (parent_of old.parent) false false rest p))) (sym k)
     ∙ (ap (λ (new : Stand). and_then (walk_at scripting new kids made.spot)
-    (λ p. and_then (finish_by (cond (is_void name.now) None (Some name)) p) (λ p. walk scripting (parent_of old.parent) false false rest p))) (sym is)
+    (λ p. and_then (finish_by (cond (is_void name.now) None (Some name)) p)
+    (λ p. walk scripting (parent_of old.parent) false false rest p))) (sym is)
     ∙ ap (λ (after : After). around scripting new made.spot after kids rest) (sym l))))
 
 -- THE END
@@ -142,15 +152,18 @@ end-at scripting Any parent after drops p = refl
 end-at scripting (Raw kind name) parent after drops p = end-raw (is_raw_text kind name.now.local []) p
 end-at scripting Done parent after drops p = refl
 
-pub ends-by : (scripting : Bool) (stand : Stand) (p : Spot) (b : Bool) → b ≡ may_end stand.inside → walk_at scripting stand Nothing p ≡ spot_if b p
-ends-by scripting stand p b e = end-at scripting stand.inside (parent_of stand.parent) stand.after_text stand.drops p ∙ ap (λ b. spot_if b p) (sym e)
+pub ends-by : (scripting : Bool) (stand : Stand) (p : Spot) (b : Bool) → b ≡ may_end stand.inside
+    → walk_at scripting stand Nothing p ≡ spot_if b p
+ends-by scripting stand p b e = end-at scripting stand.inside (parent_of stand.parent) stand.after_text stand.drops p
+    ∙ ap (λ b. spot_if b p) (sym e)
 
 pub leave-odd : (scripting : Bool) (stand : Stand) (p q : Spot) (b : Bool) (finishes : Option (Bor QualName)) → b ≡ may_end stand.inside
     → b ≡ false → and_then (walk_at scripting stand Nothing p) (λ p. finish_by finishes p) ≡ spot_if false q
 leave-odd scripting stand p q b finishes e odd =
     ap (λ o. and_then o (λ p. finish_by finishes p)) (ends-by scripting stand p b e ∙ ap (λ b. spot_if b p) odd)
 
-pub leave-by : (scripting : Bool) (stand : Stand) (p q : Spot) (b goes_on : Bool) (finishes : Option (Bor QualName)) → b ≡ may_end stand.inside
+pub leave-by : (scripting : Bool) (stand : Stand) (p q : Spot) (b goes_on : Bool) (finishes : Option (Bor QualName))
+    → b ≡ may_end stand.inside
     → b ≡ true → finish_by finishes p ≡ spot_if goes_on q
     → and_then (walk_at scripting stand Nothing p) (λ p. finish_by finishes p) ≡ spot_if goes_on q
 leave-by scripting stand p q b goes_on finishes e even h =

@@ -1,5 +1,6 @@
 -- What is left to walk of a forest, after a node and after an element.
-use Rattle.std.proofs.Common.{◌≡◌, ◌∙◌, ◌+◌, ◌<◌, ℕ, suc, arith, Bool, true, false, List, [], ◌∷◌, ◌++◌, Option, Some, None, refl, sym, ap, ap₂}
+use Rattle.std.proofs.Common.{◌≡◌, ◌∙◌, ◌+◌, ◌<◌, ℕ, suc, arith, Bool, true, false, List, [], ◌∷◌, ◌++◌, Option, Some, None, refl, sym}
+use Rattle.std.proofs.Common.{ap, ap₂}
 use Rattle.std.proofs.Common.{length}
 use Rattle.std.specs.Prelude.{◌&&◌, cond, reverse}
 use Rattle.std.proofs.lemmas.List.{reverse-append}
@@ -158,7 +159,8 @@ module _ (scripting : Bool) (f : Forest) (tree : IsTree f) where
         ∙ (ap (λ o. and_then o (λ p. above old p)) (h.1.0 (trees_before f (inner_of f n) Nothing) (longer old))
         ∙ (around-then new.stand new.spot h.0 (trees_before f (inner_of f n) Nothing) (longer old) (λ p. above old p)
         ∙ (ap (λ ns. and_then (walk_at scripting new.stand (trees_before f ns Nothing) new.spot)
-        (λ p. and_then (finish_by h.0.finishes p) (λ p. and_then (walk_at scripting (after_stand h.0.parent) (longer old) p) (λ p. above old p)))) i
+        (λ p. and_then (finish_by h.0.finishes p)
+        (λ p. and_then (walk_at scripting (after_stand h.0.parent) (longer old) p) (λ p. above old p)))) i
         ∙ sym (down old new n inner (Some h.0) h.1.1))));
     less = λ on. deeper old new n inner (Some h.0) i h.1.1;
   }
@@ -201,8 +203,10 @@ module _ (scripting : Bool) (f : Forest) (tree : IsTree f) where
       (λ p. levels_left scripting f ls p)) e (ap reverse k ∙ reverse-last init level)
       ∙ (ap (λ t. and_then (walk_at scripting w.stand t w.spot) (λ p. levels_left scripting f (level ∷ reverse init) p))
       (trees-none f (trees_after f (level ∷ reverse init)))
-      ∙ (ap₂ (λ (stand : Stand) (spot : Spot). and_then (walk_at scripting stand (trees_by f level.behind level.rest (trees_after f (reverse init))) spot)
-      (λ p. ended_by scripting f level.behind level.rest (trees_after f (reverse init)) (λ p. levels_left scripting f (reverse init) p) p)) (sym a) (sym b)
+      ∙ (ap₂ (λ (stand : Stand) (spot : Spot). and_then
+      (walk_at scripting stand (trees_by f level.behind level.rest (trees_after f (reverse init))) spot)
+      (λ p. ended_by scripting f level.behind level.rest (trees_after f (reverse init))
+      (λ p. levels_left scripting f (reverse init) p) p)) (sym a) (sym b)
       ∙ (ascent-by level.behind level.rest (trees_after f (reverse init)) (λ p. levels_left scripting f (reverse init) p) old new goes_on h
       ∙ ap₂ (λ ns ls. choose goes_on (λ _. and_then (walk_at scripting new.stand (trees_before f ns (trees_after f (reverse ls))) new.spot)
       (λ p. levels_left scripting f (reverse ls) p)) (λ _. None)) (sym r) (sym i))))
@@ -247,7 +251,8 @@ begins scripting (ProcessingInstruction target text rest) = refl
 begins scripting (Doctype name public_id system_id rest) = begins-by _ _ _ refl
 begins scripting (Element name attributes template kids rest) = refl
 
-pub first : (scripting : Bool) (f : Forest) (spot : Spot) (nodes : List ℕ) (levels : List Level) → spot ≡ first_spot scripting BeforeHtml Quirks
+pub first : (scripting : Bool) (f : Forest) (spot : Spot) (nodes : List ℕ) (levels : List Level)
+    → spot ≡ first_spot scripting BeforeHtml Quirks
     → nodes ≡ children_of f 0 → levels ≡ [] → is_at_end (left scripting f (record {
       stand = record { parent = Document; after_text = false; drops = false; inside = Start };
       spot = spot;
@@ -258,5 +263,6 @@ first scripting f spot nodes levels e k l =
     ap is_at_end (ap₂ (λ ns ls. and_then (begun scripting OfDocument false false (trees_before f ns (trees_after f (reverse ls))) spot)
     (λ p. levels_left scripting f (reverse ls) p)) k l
     ∙ (ap (λ p. and_then (begun scripting OfDocument false false (trees_before f (children_of f 0) Nothing) p) (λ p. Some p)) e
-    ∙ then-some (begun scripting OfDocument false false (trees_before f (children_of f 0) Nothing) (first_spot scripting BeforeHtml Quirks))))
+    ∙ then-some (begun scripting OfDocument false false (trees_before f (children_of f 0) Nothing)
+    (first_spot scripting BeforeHtml Quirks))))
     ∙ sym (begins scripting (trees_before f (children_of f 0) Nothing))

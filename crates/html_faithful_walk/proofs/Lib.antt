@@ -7,3 +7,8 @@ mod Stands
 mod Taken
 mod Firsts
 mod Points
+mod CommonTags
+mod KindRows
+mod NameRows
+mod ReadSo
+mod SvgTags

@@ -52,7 +52,8 @@ text-at scripting text Any parent after drops rest p = refl
 text-at scripting text (Raw kind name) parent after drops rest p = text-raw scripting text kind name parent after drops rest p _ refl
 text-at scripting text Done parent after drops rest p = refl
 
-pub text-refused : (text : List ℕ) (old new : Stand) (p q : Spot) → after_text_of old.inside text ≡ None → Passes (Text text) old p new q false
+pub text-refused : (text : List ℕ) (old new : Stand) (p q : Spot) → after_text_of old.inside text ≡ None
+    → Passes (Text text) old p new q false
 text-refused text old new p q e scripting rest =
     text-at scripting text old.inside (parent_of old.parent) old.after_text old.drops rest p
     ∙ ap (λ o. and_then o (λ inside. text_by scripting text inside (parent_of old.parent) old.after_text old.drops rest p)) e
@@ -78,7 +79,8 @@ text-odd text inside old new p q e scripting rest =
 pub text-elsewhere : (text : List ℕ) (inside : Inside) (old new : Stand) (p q : Spot) → is_current (parent_of old.parent) p ≡ false
     → TakesText text inside old p new q false
 text-elsewhere text inside old new p q e scripting rest =
-    ap (λ b. choose b (λ _. and_then (text_put text p) (λ p. walk_by inside scripting (parent_of old.parent) true false rest p)) (λ _. None))
+    ap (λ b. choose b (λ _. and_then (text_put text p) (λ p. walk_by inside scripting (parent_of old.parent) true false rest p))
+    (λ _. None))
     (ap (λ c. is_text old.after_text old.drops text && c) e ∙ and-false (is_text old.after_text old.drops text))
 
 spot-then : {A : Type 0} (b : Bool) (p : Spot) (f : Spot → Option A) → and_then (spot_if b p) f ≡ choose b (λ _. f p) (λ _. None)
@@ -174,16 +176,19 @@ pub doctype-odd : (name public_id system_id : List ℕ) (old new : Stand) (p q :
     → bytes_eq name (codes "html") ≡ false → Passes (Doctype name public_id system_id) old p new q false
 doctype-odd name public_id system_id old new p q is e scripting rest =
     doctype-in scripting name public_id system_id old Start rest p is
-    ∙ ap (λ b. choose b (λ _. walk scripting (parent_of old.parent) old.after_text old.drops rest (record p { quirks_mode = NoQuirks })) (λ _. None)) e
+    ∙ ap (λ b. choose b (λ _. walk scripting (parent_of old.parent) old.after_text old.drops rest (record p { quirks_mode = NoQuirks }))
+    (λ _. None)) e
 
 pub doctype-begins : (scripting : Bool) (name public_id system_id : List ℕ) (old : Stand) (p : Spot) → old.inside ≡ Start
     → bytes_eq name (codes "html") ≡ true → (rest : Trees) → walk_at scripting old (Doctype name public_id system_id rest) p
     ≡ walk scripting (parent_of old.parent) old.after_text old.drops rest (record p { quirks_mode = NoQuirks })
 doctype-begins scripting name public_id system_id old p is e rest =
     doctype-in scripting name public_id system_id old Start rest p is
-    ∙ ap (λ b. choose b (λ _. walk scripting (parent_of old.parent) old.after_text old.drops rest (record p { quirks_mode = NoQuirks })) (λ _. None)) e
+    ∙ ap (λ b. choose b (λ _. walk scripting (parent_of old.parent) old.after_text old.drops rest (record p { quirks_mode = NoQuirks }))
+    (λ _. None)) e
 
-instruction-at : (scripting : Bool) (target text : List ℕ) (inside : Inside) (parent : Parent) (after drops : Bool) (rest : Trees) (p : Spot)
+instruction-at : (scripting : Bool) (target text : List ℕ) (inside : Inside) (parent : Parent) (after drops : Bool) (rest : Trees)
+    (p : Spot)
     → walk_by inside scripting parent after drops (ProcessingInstruction target text rest) p ≡ None
 unfolding walk begun
 instruction-at scripting target text Start parent after drops rest p = refl

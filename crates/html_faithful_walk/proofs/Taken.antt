@@ -13,7 +13,8 @@ use Rattle.html_faithful.specs.Forms.{lowered}
 use Rattle.html_faithful.specs.Harmless.{Made, and_then, made_of, provided}
 use Rattle.html_faithful.specs.Spots.{Spot}
 use Rattle.html_faithful.specs.Walk.{Parent, comment_put, finished, is_plain, is_written_tag, started, text_walked}
-use Rattle.html_faithful_walk.specs.Steps.{ends_as, is_character_walked, is_comment_made, is_started, is_text_made, spot_if, start_of, started_by}
+use Rattle.html_faithful_walk.specs.Steps.{ends_as, is_character_walked, is_comment_made, is_started, is_text_made, spot_if, start_of}
+use Rattle.html_faithful_walk.specs.Steps.{started_by}
 use Rattle.html_faithful_walk.specs.Steps.{written_of}
 
 pub refused : (b : Bool) (m : Made) → b ≡ false → provided b m ≡ None

@@ -1,7 +1,10 @@
 pub mod Checks
+pub mod Common
+pub mod Kinds
 pub mod Left
 pub mod Reasons
 pub mod Steps
+pub mod Svg
 pub mod Walking
 pub mod First
 pub mod Firsts

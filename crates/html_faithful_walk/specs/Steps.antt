@@ -17,6 +17,7 @@ use Rattle.html_faithful.specs.Harmless.{Made, and_then, made_of}
 use Rattle.html_faithful.specs.Spots.{Spot}
 use Rattle.html_faithful.specs.Walk.{Parent, OfDocument, OfRoot, OfCurrent, is_made, is_plain, is_text_put, is_void, is_written_tag}
 use Rattle.html_faithful.specs.Walk.{stands, stays_open, text_walked}
+use Rattle.html_faithful_walk.specs.Svg.{takes_svg}
 use Rattle.html_faithful_walk.specs.declared.parents.Parent as declared
 use Rattle.html_faithful_walk.specs.declared.parents.Parent.TheVariants as parent
 
@@ -55,9 +56,10 @@ takes_text mode.InCell frameset_ok = not frameset_ok
 takes_text mode.InCaption frameset_ok = not frameset_ok
 takes_text m frameset_ok = false
 
--- and at a spot
+-- and at a spot; so it is in SVG
 abbrev pub takes_any_text : Spot → Bool
-takes_any_text p = takes_text p.mode p.frameset_ok && current_is is_html_element p.path
+takes_any_text p = choose (current_is is_html_element p.path) (λ _. takes_text p.mode p.frameset_ok)
+    (λ _. not p.frameset_ok && takes_svg p.path)
 
 -- the start tag of an element, as it is read
 abbrev pub start_of : QualName → List Attribute → Tag

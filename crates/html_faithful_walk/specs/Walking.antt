@@ -11,7 +11,8 @@ use Rattle.html_tokens.specs.declared.states.RawKind.{RawKind}
 use Rattle.html_faithful.specs.Forms.{is_comment_text, is_raw_text, lowered}
 use Rattle.html_faithful.specs.Harmless.{Made, and_then}
 use Rattle.html_faithful.specs.Spots.{Spot}
-use Rattle.html_faithful.specs.Walk.{Parent, are_none, below, ends_there, finished, kids_walked, is_current, is_raw_inside, is_text, is_void, is_written_so, may_stay}
+use Rattle.html_faithful.specs.Walk.{Parent, are_none, below, ends_there, finished, kids_walked, is_current, is_raw_inside, is_text}
+use Rattle.html_faithful.specs.Walk.{is_void, is_written_so, may_stay}
 use Rattle.html_faithful.specs.Walk.{text_put, walk}
 use Rattle.html_faithful_walk.specs.Steps.{parent_of}
 use Rattle.html_faithful_walk.specs.declared.parents.Parent as declared

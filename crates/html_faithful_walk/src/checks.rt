@@ -6,7 +6,8 @@ ghost use Rattle.html_rules.specs.State.{Open, current_is};
 ghost use Rattle.html_faithful.specs.Checks.{closes_so, is_kept_so, opens_so};
 ghost use Rattle.html_faithful.specs.Spots.{Spot as HarmlessSpot};
 ghost use Rattle.html_faithful_judge.specs.Mades.{change_of, form_change_of, made_as};
-ghost use Rattle.html_faithful_walk.specs.Checks.{closing_of, current_marked, current_pointed, form_below, lists_by, lists_opened_at, points_by, points_opened_at};
+ghost use Rattle.html_faithful_walk.specs.Checks.{closing_of, current_marked, current_pointed, form_below, lists_by, lists_opened_at};
+ghost use Rattle.html_faithful_walk.specs.Checks.{points_by, points_opened_at};
 
 use html_faithful_judge::made::{Change, FormChange, Made};
 use html_faithful_judge::spot::Spot;
@@ -98,7 +99,7 @@ impl Closing {
 }
 
 /// Whether the current node has a name.
-fn is_named(spot: &Spot, name: &LocalName) -> bool
+pub(crate) fn is_named(spot: &Spot, name: &LocalName) -> bool
     ensures { result ≡ current_is (λ x. bytes_eq name.now x.name) spot.now.stack.open_elems }
 {
     match spot.as_stack().open_elems().last() {

@@ -50,7 +50,8 @@ impl<'a> Judge<'a> {
         ensures ok { IfOk result (λ goes_on. TakesText (characters text.entry) inside.entry self.old.stand (spot_of self.old.made.spot)
             self.new.stand (spot_of self.new.made.spot) goes_on) }
         ensures read { IfOk result (λ goes_on. text_in (comes_of inside.entry) (characters text.entry)
-            (point_of self.old.stand (spot_of self.old.made.spot)) ≡ point_if goes_on (point_of self.new.stand (spot_of self.new.made.spot))) }
+            (point_of self.old.stand (spot_of self.old.made.spot))
+            ≡ point_if goes_on (point_of self.new.stand (spot_of self.new.made.spot))) }
         ensures fault { IfErr result (λ fault. fault ≡ Memory) }
     {
         let stand = self.stand;
@@ -85,7 +86,8 @@ impl<'a> Judge<'a> {
 
     /// A comment comes that may come next.
     fn take_comment(&mut self, alloc: Global, text: TextRef<'_>) -> Result<bool, ParseFault>
-        ensures ok { IfOk result (λ goes_on. comment_put (parent_of self.old.stand.parent) (characters text.entry) (spot_of self.old.made.spot)
+        ensures ok { IfOk result (λ goes_on. comment_put (parent_of self.old.stand.parent) (characters text.entry)
+            (spot_of self.old.made.spot)
             ≡ spot_if goes_on (spot_of self.new.made.spot)) }
         ensures stand { self.new.stand ≡ after_stand self.old.stand.parent }
         ensures fault { IfErr result (λ fault. fault ≡ Memory) }
@@ -124,7 +126,8 @@ impl<'a> Judge<'a> {
         ensures ok { Passes (Doctype (characters name.entry) (characters public_id.entry) (characters system_id.entry)) self.old.stand
             (spot_of self.old.made.spot) self.new.stand (spot_of self.new.made.spot) result }
         ensures read { doctype_in (comes_of self.old.stand.inside) (characters name.entry)
-            (point_of self.old.stand (spot_of self.old.made.spot)) ≡ point_if result (point_of self.new.stand (spot_of self.new.made.spot)) }
+            (point_of self.old.stand (spot_of self.old.made.spot))
+            ≡ point_if result (point_of self.new.stand (spot_of self.new.made.spot)) }
     {
         match self.stand.inside {
             Inside::Start => {
@@ -189,7 +192,8 @@ impl<'a> Judge<'a> {
         attrs: AttributesRef<'_>,
         template: bool,
     ) -> Result<Option<After<'a>>, ParseFault>
-        ensures ok { IfOk result (λ after. Opens scripting name.now (attributes attrs.entry) template self.old.stand (spot_of self.old.made.spot)
+        ensures ok { IfOk result (λ after. Opens scripting name.now (attributes attrs.entry) template self.old.stand
+            (spot_of self.old.made.spot)
             self.new.stand (spot_of self.new.made.spot) after) }
         ensures read { IfOk result (λ after. IsEntered scripting name.now (attributes attrs.entry) template
             (point_of self.old.stand (spot_of self.old.made.spot)) (point_of self.new.stand (spot_of self.new.made.spot)) after) }

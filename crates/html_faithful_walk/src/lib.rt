@@ -3,12 +3,16 @@
 #![tactic(auto)]
 
 mod checks;
+mod common;
 mod judge;
+mod kinds;
+mod known_kinds;
 mod names;
 mod parents;
 mod reasons;
 mod stand;
 mod steps;
+mod svg;
 mod tags;
 mod texts;
 mod walker;
@@ -35,8 +39,8 @@ pub fn is_faithful(alloc: Global, forest: &Forest, scripting: bool) -> Result<bo
 }
 
 /// The first node of the document of a forest that is not read as it is written, where scripts run or do not: the first of whose start
-/// something else is read, or, after what is in it, of whose end. It is the document itself where that may not end after its last node. None
-/// where the document is faithful. [`why_unfaithful`] says what can be said of such a node.
+/// something else is read, or, after what is in it, of whose end. It is the document itself where that may not end after its last node.
+/// None where the document is faithful. [`why_unfaithful`] says why such a node is not read as it is written.
 ///
 /// Errors: [`ParseFault::Memory`].
 pub fn first_unfaithful(

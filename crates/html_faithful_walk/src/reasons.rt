@@ -1,17 +1,22 @@
 //! Why a node is not read as it is written, as far as it shows that itself.
-ghost use Rattle.std.specs.Prelude.{◌≡◌, ℕ, Bool, IfErr, IfOk, List, true};
+ghost use Rattle.std.specs.Prelude.{◌≡◌, ◌&&◌, ℕ, Bool, IfErr, IfOk, List, is_none, option_map, true};
 ghost use Rattle.std.specs.Str.{chars};
-ghost use Rattle.markup.specs.Forest.{data_of};
+ghost use Rattle.markup.specs.Forest.{Forest};
+ghost use Rattle.html_faithful.specs.Walk.{begins_with_line_feed};
 ghost use Rattle.markup.specs.Forest.NodeData.{Comment, Doctype, Element, Text};
 ghost use Rattle.markup.specs.declared.fault.ParseFault.TheVariants.{Memory};
 ghost use Rattle.html_forest.specs.Views.{attributes, characters};
-ghost use Rattle.html_faithful_walk.specs.Reasons.{shows};
+ghost use Rattle.html_faithful_walk.specs.Reasons.{before_of, drops_first, ends_elsewhere, holds_of, is_reason, is_text_at};
+ghost use Rattle.html_faithful_walk.specs.Reasons.{name_around, raw_kind};
 
 use crate::judge;
 use crate::names::{is_html, is_raw};
 use crate::texts::begins_with_line_feed;
-use html_faithful_judge::{emitted_attributes, is_comment_text, is_kept, is_tag_name};
+use html_faithful_judge::{
+    emitted_attributes, is_comment_text, is_kept, is_nonempty, is_raw_text, is_tag_name,
+};
 use html_forest::{AttributesRef, Forest, NodeData, NodeId, TextRef};
+use html_tokens::states::RawKind;
 use markup::{LocalName, ParseFault, QualName};
 use std::alloc::Global;
 use std::fmt;
@@ -33,7 +38,7 @@ pub enum Unfaithful {
     EmptyText,
     /// A text has U+0000 or U+000D.
     Characters,
-    /// A line feed comes first in an element that drops it.
+    /// A line feed comes first in an element that drops one.
     LineFeed,
     /// A text follows another, so that both are read as one.
     BesideText,
@@ -66,67 +71,110 @@ fn words(why: Unfaithful) -> &'static str {
 }
 
 /// The name of the element that a node is in.
-fn parent_name(forest: &Forest, id: NodeId) -> Option<&QualName> {
+fn parent_name(forest: &Forest, id: NodeId) -> Option<&QualName>
+    ensures { option_map (λ name. name.now) result ≡ name_around forest.now id }
+{
     match forest.node(forest.parent(id)?) {
         Some(NodeData::Element { name, .. }) => Some(name),
         _ => None,
     }
 }
 
-/// Whether a line feed is dropped that comes first in the element that a node is in (HTML Standard, sections 13.2.6.4.7).
-fn drops_line_feed(forest: &Forest, id: NodeId) -> bool {
-    match parent_name(forest, id) {
+/// Whether a line feed is dropped that comes first in an element of a name (HTML Standard, section 13.2.6.4.7).
+fn drops_first(name: Option<&QualName>) -> bool
+    ensures { result ≡ drops_first (option_map (λ name. name.now) name.entry) }
+{
+    match name {
         Some(name) => {
             is_html(name)
-                && (name.local.is("pre") || name.local.is("listing") || name.local.is("textarea"))
+                && (name.local.is("pre") || (name.local.is("listing") || name.local.is("textarea")))
         }
         None => false,
     }
 }
 
-/// Whether the text of the element that a node is in is not escaped.
-fn is_in_raw(forest: &Forest, scripting: bool, id: NodeId) -> bool {
-    match parent_name(forest, id) {
-        Some(name) => is_html(name) && is_raw(scripting, &name.local),
-        None => false,
+/// The kind of the text of an element whose text is not escaped.
+fn raw_kind(name: &LocalName) -> RawKind
+    ensures { result ≡ raw_kind name.now }
+{
+    if name.is("script") {
+        RawKind::ScriptData
+    } else {
+        RawKind::Rawtext
     }
 }
 
+/// Whether a text that is not escaped ends elsewhere than the element that it is in.
+fn ends_elsewhere(
+    alloc: Global,
+    scripting: bool,
+    text: &str,
+    name: Option<&QualName>,
+) -> Result<bool, ParseFault>
+    ensures ok { IfOk result (λ ends. ends ≡ ends_elsewhere scripting (chars text.now) (option_map (λ name. name.now) name.entry)) }
+    ensures fault { IfErr result (λ fault. fault ≡ Memory) }
+{
+    let Some(name) = name else {
+        return Ok(false);
+    };
+    if !(is_html(name) && is_raw(scripting, &name.local)) {
+        return Ok(false);
+    }
+    Ok(!is_raw_text(alloc, raw_kind(&name.local), name.local.as_str(), text)?)
+}
+
 /// Whether a text stands just before a node.
-fn is_after_text(forest: &Forest, id: NodeId) -> bool {
+fn is_after_text(forest: &Forest, id: NodeId) -> bool
+    ensures { result ≡ is_text_at forest.now (before_of forest.now id) }
+{
     match forest.previous_sibling(id) {
         Some(before) => matches!(forest.node(before), Some(NodeData::Text(_))),
         None => false,
     }
 }
 
-/// Whether a node is the first in its parent.
-fn is_first(forest: &Forest, id: NodeId) -> bool {
-    forest.previous_sibling(id).is_none()
+/// Whether a line feed that comes first in a text is dropped.
+fn is_line_feed_dropped(forest: &Forest, id: NodeId, text: &str) -> bool
+    ensures { result ≡ (begins_with_line_feed (chars text.now)
+        && (is_none (before_of forest.now id) && drops_first (name_around forest.now id))) }
+{
+    begins_with_line_feed(text)
+        && (forest.previous_sibling(id).is_none() && drops_first(parent_name(forest, id)))
 }
 
 /// Why a text is not, by its characters or by what it is in and follows.
-fn why_text(forest: &Forest, scripting: bool, id: NodeId, text: &str) -> Unfaithful
-    ensures { shows result (Text (chars text.now)) ≡ true }
+fn why_text(
+    alloc: Global,
+    forest: &Forest,
+    scripting: bool,
+    id: NodeId,
+    text: &str,
+) -> Result<Unfaithful, ParseFault>
+    ensures ok { IfOk result (λ why. holds_of scripting forest.now id (Text (chars text.now)) why ≡ true) }
+    ensures fault { IfErr result (λ fault. fault ≡ Memory) }
 {
-    if text.chars().next().is_none() {
-        Unfaithful::EmptyText
-    } else if !is_kept(text) {
-        Unfaithful::Characters
-    } else if begins_with_line_feed(text) && is_first(forest, id) && drops_line_feed(forest, id) {
-        Unfaithful::LineFeed
-    } else if is_after_text(forest, id) {
-        Unfaithful::BesideText
-    } else if is_in_raw(forest, scripting, id) {
-        Unfaithful::RawText
-    } else {
-        Unfaithful::Place
+    if !is_nonempty(text) {
+        return Ok(Unfaithful::EmptyText);
     }
+    if !is_kept(text) {
+        return Ok(Unfaithful::Characters);
+    }
+    if is_line_feed_dropped(forest, id, text) {
+        return Ok(Unfaithful::LineFeed);
+    }
+    if is_after_text(forest, id) {
+        return Ok(Unfaithful::BesideText);
+    }
+    if ends_elsewhere(alloc, scripting, text, parent_name(forest, id))? {
+        return Ok(Unfaithful::RawText);
+    }
+    Ok(Unfaithful::Place)
 }
 
 /// Why a comment is not.
 fn why_comment(alloc: Global, text: TextRef<'_>) -> Result<Unfaithful, ParseFault>
-    ensures ok { IfOk result (λ why. shows why (Comment (characters text.entry)) ≡ true) }
+    ensures ok { IfOk result (λ why. (scripting : Bool) (f : Forest) (n : ℕ)
+        → holds_of scripting f n (Comment (characters text.entry)) why ≡ true) }
     ensures fault { IfErr result (λ fault. fault ≡ Memory) }
 {
     if is_comment_text(alloc, text.as_str())? {
@@ -142,8 +190,8 @@ fn why_element(
     name: &QualName,
     attrs: AttributesRef<'_>,
 ) -> Result<Unfaithful, ParseFault>
-    ensures ok { IfOk result (λ why. (template integration_point : Bool)
-        → shows why (Element name.now (attributes attrs.entry) template integration_point) ≡ true) }
+    ensures ok { IfOk result (λ why. (scripting template integration_point : Bool) (f : Forest) (n : ℕ)
+        → holds_of scripting f n (Element name.now (attributes attrs.entry) template integration_point) why ≡ true) }
     ensures fault { IfErr result (λ fault. fault ≡ Memory) }
 {
     let lowered = LocalName::from_str_lowered(alloc, name.local.as_str())?;
@@ -158,7 +206,8 @@ fn why_element(
 
 /// Why a doctype is not.
 fn why_doctype(name: &str) -> Unfaithful
-    ensures { (public_id system_id : List ℕ) → shows result (Doctype (chars name.now) public_id system_id) ≡ true }
+    ensures { (scripting : Bool) (f : Forest) (n : ℕ) (public_id system_id : List ℕ)
+        → holds_of scripting f n (Doctype (chars name.now) public_id system_id) result ≡ true }
 {
     if judge::is_html(name) {
         Unfaithful::Place
@@ -167,8 +216,8 @@ fn why_doctype(name: &str) -> Unfaithful
     }
 }
 
-/// Why a node that is not read as it is written is not, where scripts run or do not: what it shows of that itself, or
-/// [`Unfaithful::Place`]. What is said is true of the node also where it is read as it is written.
+/// Why a node that is not read as it is written is not, where scripts run or do not: what it shows of that itself, by its own name or text,
+/// or by what it stands in and after; [`Unfaithful::Place`] where it shows nothing.
 ///
 /// Errors: [`ParseFault::Memory`].
 pub fn why_unfaithful(
@@ -177,11 +226,11 @@ pub fn why_unfaithful(
     scripting: bool,
     id: NodeId,
 ) -> Result<Unfaithful, ParseFault>
-    ensures ok { IfOk result (λ why. shows why (data_of forest.now id) ≡ true) }
+    ensures ok { IfOk result (λ why. is_reason scripting forest.now id why ≡ true) }
     ensures fault { IfErr result (λ fault. fault ≡ Memory) }
 {
     match forest.node(id) {
-        Some(NodeData::Text(text)) => Ok(why_text(forest, scripting, id, text.as_str())),
+        Some(NodeData::Text(text)) => why_text(alloc, forest, scripting, id, text.as_str()),
         Some(NodeData::Comment(text)) => why_comment(alloc, text),
         Some(NodeData::Doctype { name, .. }) => Ok(why_doctype(name.as_str())),
         Some(NodeData::Element { name, attrs, .. }) => why_element(alloc, name, attrs),

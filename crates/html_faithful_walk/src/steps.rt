@@ -1,5 +1,5 @@
 //! The start and the end of an element, as the rules take its tags.
-ghost use Rattle.std.specs.Prelude.{◌≡◌, ◌&&◌, IfErr, IfOk};
+ghost use Rattle.std.specs.Prelude.{◌≡◌, ◌&&◌, IfErr, IfOk, option_map};
 ghost use Rattle.markup.specs.declared.fault.ParseFault.TheVariants.{Memory};
 ghost use Rattle.html_faithful.specs.Harmless.{provided};
 ghost use Rattle.html_tokens.specs.declared.token.Token.TheVariants.{TagToken};
@@ -9,11 +9,14 @@ ghost use Rattle.html_faithful.specs.Walk.{finished, is_rcdata, is_written_so, s
 ghost use Rattle.html_faithful_judge.specs.Mades.{made_as};
 ghost use Rattle.html_faithful_judge.specs.Spots.{spot_of};
 ghost use Rattle.html_faithful_walk.specs.Checks.{closing_of};
+ghost use Rattle.html_faithful_walk.specs.Common.{before_kids};
 ghost use Rattle.html_faithful_judge.specs.Tokens.{IsNamed, token_of};
 ghost use Rattle.html_faithful_walk.specs.Steps.{ends_as, is_started, spot_if, started_by};
 
 use crate::checks::{Closing, is_kept_closed, is_kept_open, what_closes};
+use crate::common::{finish_common, start_common};
 use crate::names::{is_html, is_raw, is_void, stays_open};
+use crate::svg::{finish_svg, start_svg};
 use crate::tags::{end_tag, is_made, written_tag};
 use html_faithful_judge::made::Made;
 use html_faithful_judge::tokens::{Content, NamedToken};
@@ -35,7 +38,8 @@ fn token(tag: &Tag) -> NamedToken<'_>
     }
 }
 
-/// The start tag of an element comes; answers whether it puts just this element, and the list and the pointer stay those of the path.
+/// The start tag of an element comes; answers whether it puts just this element, and the list and the pointer stay those of the path. What
+/// was put is not kept.
 pub(crate) fn start(
     made: &mut Made,
     alloc: Global,
@@ -43,7 +47,32 @@ pub(crate) fn start(
     attributes: &[Attribute],
     template: bool,
 ) -> Result<bool, ParseFault>
-    ensures ok { IfOk result (λ goes_on. started name.now attributes.now template (spot_of made.old.spot) ≡ provided goes_on (made_as made.new)) }
+    ensures ok { IfOk result (λ goes_on. option_map before_kids (started name.now attributes.now template (spot_of made.old.spot))
+        ≡ provided goes_on (before_kids (made_as made.new))) }
+    ensures fault { IfErr result (λ fault. fault ≡ Memory) }
+{
+    if template {
+        return start_by_rows(made, alloc, name, attributes, template);
+    }
+    if start_common(made, alloc, name, attributes)? {
+        return Ok(true);
+    }
+    if start_svg(made, alloc, name, attributes)? {
+        return Ok(true);
+    }
+    start_by_rows(made, alloc, name, attributes, template)
+}
+
+/// The same, by the rows that it takes.
+fn start_by_rows(
+    made: &mut Made,
+    alloc: Global,
+    name: &QualName,
+    attributes: &[Attribute],
+    template: bool,
+) -> Result<bool, ParseFault>
+    ensures ok { IfOk result (λ goes_on. started name.now attributes.now template (spot_of made.old.spot)
+        ≡ provided goes_on (made_as made.new)) }
     ensures fault { IfErr result (λ fault. fault ≡ Memory) }
 {
     match written_tag(alloc, name, attributes, template)? {
@@ -60,7 +89,8 @@ fn start_by(
     attributes: &[Attribute],
     tag: &Tag,
 ) -> Result<bool, ParseFault>
-    ensures ok { IfOk result (λ goes_on. started_by name.now attributes.now tag.now (spot_of made.old.spot) ≡ provided goes_on (made_as made.new)) }
+    ensures ok { IfOk result (λ goes_on. started_by name.now attributes.now tag.now (spot_of made.old.spot)
+        ≡ provided goes_on (made_as made.new)) }
     ensures fault { IfErr result (λ fault. fault ≡ Memory) }
 {
     if !made.take(alloc, &token(tag))? {
@@ -113,6 +143,20 @@ fn is_finished(made: &Made, name: &QualName, closing: Closing, tag: &Tag) -> boo
 
 /// The end tag of an element comes; answers whether it closes just this element, or nothing where that stays open.
 pub(crate) fn finish(made: &mut Made, alloc: Global, name: &QualName) -> Result<bool, ParseFault>
+    ensures ok { IfOk result (λ goes_on. finished name.now (spot_of made.old.spot) ≡ spot_if goes_on (spot_of made.new.spot)) }
+    ensures fault { IfErr result (λ fault. fault ≡ Memory) }
+{
+    if finish_common(made, name) {
+        return Ok(true);
+    }
+    if finish_svg(made, name) {
+        return Ok(true);
+    }
+    finish_by_rows(made, alloc, name)
+}
+
+/// The same, by the rows that it takes.
+fn finish_by_rows(made: &mut Made, alloc: Global, name: &QualName) -> Result<bool, ParseFault>
     ensures ok { IfOk result (λ goes_on. finished name.now (spot_of made.old.spot) ≡ spot_if goes_on (spot_of made.new.spot)) }
     ensures fault { IfErr result (λ fault. fault ≡ Memory) }
 {

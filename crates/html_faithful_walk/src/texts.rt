@@ -3,15 +3,18 @@ ghost use Rattle.std.specs.Prelude.{◌≡◌, [], IfErr, IfOk, option_map};
 ghost use Rattle.std.specs.Str.{chars};
 ghost use Rattle.markup.specs.declared.fault.ParseFault.TheVariants.{Memory};
 ghost use Rattle.html_faithful.specs.Spots.{Spot as HarmlessSpot};
-ghost use Rattle.html_faithful.specs.Walk.{begins_with_line_feed, comment_put, is_current, is_plain, is_text, is_text_put, text_put, text_walked, waits_at};
+ghost use Rattle.html_faithful.specs.Walk.{begins_with_line_feed, comment_put, is_current, is_plain, is_text, is_text_put, text_put};
+ghost use Rattle.html_faithful.specs.Walk.{text_walked, waits_at};
 ghost use Rattle.html_rules.specs.ForeignContent.{is_html_element};
 ghost use Rattle.html_rules.specs.State.{current_is};
 ghost use Rattle.html_faithful_judge.specs.Mades.{made_as, put_as};
 ghost use Rattle.html_faithful_judge.specs.Spots.{spot_of};
-ghost use Rattle.html_faithful_walk.specs.Steps.{is_character_walked, is_comment_made, is_text_made, parent_of, spot_if, takes_any_text, takes_text};
+ghost use Rattle.html_faithful_walk.specs.Steps.{is_character_walked, is_comment_made, is_text_made, parent_of, spot_if, takes_any_text};
+ghost use Rattle.html_faithful_walk.specs.Steps.{takes_text};
 
 use crate::checks::is_kept_open;
 use crate::parents::Parent;
+use crate::svg::takes_svg;
 use html_faithful_judge::is_kept;
 use html_faithful_judge::made::{Made, Put};
 use html_faithful_judge::spot::Spot;
@@ -86,7 +89,7 @@ fn is_character_put(made: &Made, no_name: &LocalName) -> bool
 }
 
 /// Whether the current node is HTML's.
-fn is_in_html(spot: &Spot) -> bool
+pub(crate) fn is_in_html(spot: &Spot) -> bool
     ensures { result ≡ current_is is_html_element spot.now.stack.open_elems }
 {
     match spot.as_stack().open_elems().last() {
@@ -110,7 +113,11 @@ fn takes_text(mode: InsertionMode, frameset_ok: bool) -> bool
 fn takes_any_text(spot: &Spot) -> bool
     ensures { result ≡ takes_any_text (spot_of spot.now) }
 {
-    takes_text(spot.mode, spot.frameset_ok) && is_in_html(spot)
+    if is_in_html(spot) {
+        takes_text(spot.mode, spot.frameset_ok)
+    } else {
+        !spot.frameset_ok && takes_svg(spot)
+    }
 }
 
 /// A character is put in the current node; answers whether it is, and nothing else is done. The name is empty.

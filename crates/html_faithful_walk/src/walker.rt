@@ -108,8 +108,10 @@ fn take<'a>(
     id: NodeId,
 ) -> Result<bool, ParseFault>
     requires tree { IsTree forest.now }
-    ensures ok { IfOk result (λ goes_on. IsTaken scripting forest.now id (walk_of judge.old nodes.old) (walk_of judge.new nodes.new) goes_on) }
-    ensures past { IfOk result (λ goes_on. IsPast scripting forest.now id (walk_of judge.old nodes.old) (walk_of judge.new nodes.new) goes_on) }
+    ensures ok { IfOk result (λ goes_on. IsTaken scripting forest.now id (walk_of judge.old nodes.old)
+        (walk_of judge.new nodes.new) goes_on) }
+    ensures past { IfOk result (λ goes_on. IsPast scripting forest.now id (walk_of judge.old nodes.old)
+        (walk_of judge.new nodes.new) goes_on) }
     ensures fault { IfErr result (λ fault. fault ≡ Memory) }
 {
     match forest.node(id) {

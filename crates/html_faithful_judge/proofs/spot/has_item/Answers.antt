@@ -25,4 +25,5 @@ loop-i-preserved c =
     c.index-elements-i.is (λ node. rw (← c.if-is_in.ensures, ← c.if-bars_items.ensures node) refl)
 
 pub returns : goal.returns
-returns c node = sym (ap is_some (walk-none open_of (item_name c.args.items) c.args.elements.now c.loop-i.i c.loop-i.invariant (omega arith) node))
+returns c node = sym (ap is_some (walk-none open_of (item_name c.args.items) c.args.elements.now c.loop-i.i c.loop-i.invariant
+    (omega arith) node))

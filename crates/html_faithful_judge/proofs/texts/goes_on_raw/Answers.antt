@@ -18,5 +18,6 @@ loop-i-preserved c spelled text letters same k e =
 
 pub returns : goal.returns
 returns c spelled text letters same k e =
-    raw-all spelled text c.args.kind c.loop-i.kind c.args.count c.loop-i.i _ k (omega arith) (c.loop-i.invariant spelled text letters same k e)
+    raw-all spelled text c.args.kind c.loop-i.kind c.args.count c.loop-i.i _ k (omega arith)
+    (c.loop-i.invariant spelled text letters same k e)
     c.ends_at_tag.ensures

@@ -3,7 +3,7 @@ use Rattle.html_faithful.specs.Harmless.{made_of}
 use Rattle.html_faithful_judge.specs.Mades.{made_as}
 use Rattle.html_faithful_judge.specs.Spots.{spot_of}
 use Rattle.html_faithful_walk.proofs.Taken.{end-made}
-use Rattle.html_faithful_walk.proofs.steps.finish.Goals as goal
+use Rattle.html_faithful_walk.proofs.steps.finish_by_rows.Goals as goal
 
 pub returns-clause-ok : goal.returns-clause-ok
 returns-clause-ok c =

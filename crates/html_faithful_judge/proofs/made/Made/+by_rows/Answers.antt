@@ -1,5 +1,4 @@
-use Rattle.std.proofs.Common.{◌≡◌, ◌∙◌, ◌-◌, suc, ap, arith, eqb}
-use Rattle.std.proofs.lemmas.Bool.{eqb-true}
+use Rattle.std.proofs.Common.{◌≡◌, ◌∙◌, ◌-◌, suc, ap, arith}
 use Rattle.std.proofs.lemmas.Result.{IfOk-weaker}
 use Rattle.html_modes.specs.Tables.{row_of}
 use Rattle.html_faithful.specs.Harmless.{by_rows}
@@ -25,26 +24,33 @@ pub returns-in-Done-clause-ok : goal.returns-in-Done-clause-ok
 returns-in-Done-clause-ok t c =
     let more : c.args.count ≡ suc (c.args.count - 1) = grind (arith, c.if-count-eq0.false) in
     rows-next (c.args.count - 1) c.args.count (rows_in c.args.table) (token_of c.args.token.now.content) (made_as c.args.self.now)
-    (made_as c.does.new.self) (made_as c.conclude.new.self) (row_of c.first_row-row.result.now) c.conclude.result more c.first_row-row.ensures
+    (made_as c.does.new.self) (made_as c.conclude.new.self)
+    (row_of c.first_row-row.result.now) c.conclude.result more c.first_row-row.ensures
     (c.in_ok-does.ensures.ok ∙ passed _ _ c.if-not-branch.false) c.conclude.ensures
-    ∙ ap (λ next. next_by (λ table m. by_rows (c.args.count - 1) table (token_of c.args.token.now.content) m) next (made_as c.conclude.new.self))
+    ∙ ap (λ next. next_by (λ table m. by_rows (c.args.count - 1) table (token_of c.args.token.now.content) m) next
+    (made_as c.conclude.new.self))
     c.in-Done.is
 
 pub returns-in-Again-clause-ok : goal.returns-in-Again-clause-ok
 returns-in-Again-clause-ok t c =
     let more : c.args.count ≡ suc (c.args.count - 1) = grind (arith, c.if-count-eq0.false) in
     IfOk-weaker c.by_rows.result _ _
-    (λ goes_on h. rows-next (c.args.count - 1) c.args.count (rows_in c.args.table) (token_of c.args.token.now.content) (made_as c.args.self.now)
-    (made_as c.does.new.self) (made_as c.conclude.new.self) (row_of c.first_row-row.result.now) c.conclude.result more c.first_row-row.ensures
+    (λ goes_on h. rows-next (c.args.count - 1) c.args.count (rows_in c.args.table) (token_of c.args.token.now.content)
+    (made_as c.args.self.now)
+    (made_as c.does.new.self) (made_as c.conclude.new.self)
+    (row_of c.first_row-row.result.now) c.conclude.result more c.first_row-row.ensures
     (c.in_ok-does.ensures.ok ∙ passed _ _ c.if-not-branch.false) c.conclude.ensures
-    ∙ (ap (λ next. next_by (λ table m. by_rows (c.args.count - 1) table (token_of c.args.token.now.content) m) next (made_as c.conclude.new.self))
+    ∙ (ap (λ next. next_by (λ table m. by_rows (c.args.count - 1) table (token_of c.args.token.now.content) m) next
+    (made_as c.conclude.new.self))
     c.in-Again.is ∙ h)) c.by_rows.ensures.ok
 
 pub returns-in-Stop-clause-ok : goal.returns-in-Stop-clause-ok
 returns-in-Stop-clause-ok t c =
     let more : c.args.count ≡ suc (c.args.count - 1) = grind (arith, c.if-count-eq0.false) in
     rows-next (c.args.count - 1) c.args.count (rows_in c.args.table) (token_of c.args.token.now.content) (made_as c.args.self.now)
-    (made_as c.does.new.self) (made_as c.conclude.new.self) (row_of c.first_row-row.result.now) c.conclude.result more c.first_row-row.ensures
+    (made_as c.does.new.self) (made_as c.conclude.new.self)
+    (row_of c.first_row-row.result.now) c.conclude.result more c.first_row-row.ensures
     (c.in_ok-does.ensures.ok ∙ passed _ _ c.if-not-branch.false) c.conclude.ensures
-    ∙ ap (λ next. next_by (λ table m. by_rows (c.args.count - 1) table (token_of c.args.token.now.content) m) next (made_as c.conclude.new.self))
+    ∙ ap (λ next. next_by (λ table m. by_rows (c.args.count - 1) table (token_of c.args.token.now.content) m) next
+    (made_as c.conclude.new.self))
     c.in-Stop.is

@@ -5,7 +5,8 @@ use Rattle.html_faithful_judge.proofs.made.Made.conclude.Goals as goal
 
 pub returns-in-Using : goal.returns-in-Using
 returns-in-Using c again =
-    concludes-as again _ _ _ _ _ c.in-Using.is (using-as again (made_as c.args.self.now) _ _ c.in-Using.mode _ c.is_untouched.ensures c.again_if.ensures)
+    concludes-as again _ _ _ _ _ c.in-Using.is
+    (using-as again (made_as c.args.self.now) _ _ c.in-Using.mode _ c.is_untouched.ensures c.again_if.ensures)
 
 pub returns-in-Reprocess : goal.returns-in-Reprocess
 returns-in-Reprocess c again = concludes-as again _ _ _ _ _ c.in-Reprocess.is (c.reprocess.ensures again)

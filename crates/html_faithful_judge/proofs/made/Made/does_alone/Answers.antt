@@ -174,11 +174,13 @@ returns-in-PopTemplateMode-clause-ok c =
 
 pub returns-in-PushTemplateMode-clause-ok : goal.returns-in-PushTemplateMode-clause-ok
 returns-in-PushTemplateMode-clause-ok c =
-    IfOk-weaker c.push_template_mode.result _ _ (λ goes_on h. does-as _ _ _ _ _ c.in-PushTemplateMode.is (h (token_of c.args.token.now.content))) c.push_template_mode.ensures.ok
+    IfOk-weaker c.push_template_mode.result _ _
+    (λ goes_on h. does-as _ _ _ _ _ c.in-PushTemplateMode.is (h (token_of c.args.token.now.content))) c.push_template_mode.ensures.ok
 
 pub returns-in-SetTemplateMode-clause-ok : goal.returns-in-SetTemplateMode-clause-ok
 returns-in-SetTemplateMode-clause-ok c =
-    IfOk-weaker c.set_template_mode.result _ _ (λ goes_on h. does-as _ _ _ _ _ c.in-SetTemplateMode.is (h (token_of c.args.token.now.content))) c.set_template_mode.ensures.ok
+    IfOk-weaker c.set_template_mode.result _ _
+    (λ goes_on h. does-as _ _ _ _ _ c.in-SetTemplateMode.is (h (token_of c.args.token.now.content))) c.set_template_mode.ensures.ok
 
 pub returns-in-ParseError-clause-ok : goal.returns-in-ParseError-clause-ok
 returns-in-ParseError-clause-ok c =

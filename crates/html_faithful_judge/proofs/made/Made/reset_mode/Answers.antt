@@ -16,5 +16,6 @@ pub returns : goal.returns
 unfolding reset_insertion_mode
 returns c t =
     ap (λ mode. Some (at_mode mode (made_as c.args.self.now)))
-    (sym (c.reset_insertion_mode-self.ensures (hollow (spot_of c.args.self.now.spot)) (ap (λ (s : Stacked). s.open_elems) (sym c.as_stack.ensures))
+    (sym (c.reset_insertion_mode-self.ensures (hollow (spot_of c.args.self.now.spot))
+    (ap (λ (s : Stacked). s.open_elems) (sym c.as_stack.ensures))
     (ap (λ (s : Stacked). s.template_modes) (sym c.as_stack.ensures)) (head-is c.args.self.now.spot.has_head) tt))

@@ -1,5 +1,6 @@
 use Rattle.std.proofs.Common.{◌∙◌, ap}
-use Rattle.html_faithful_judge.proofs.Contexts.{body-context, dd-context, form-context, li-context, link-context, lists-context, template-context}
+use Rattle.html_faithful_judge.proofs.Contexts.{body-context, dd-context, form-context, li-context, link-context, lists-context}
+use Rattle.html_faithful_judge.proofs.Contexts.{template-context}
 use Rattle.html_faithful_judge.proofs.spot.Spot.context.Goals as goal
 
 pub returns : goal.returns

@@ -9,7 +9,12 @@ use Rattle.html_faithful_judge.proofs.FewRows.{few-in}
 use Rattle.html_faithful_judge.proofs.spot.Spot.first_row.Goals as goal
 
 pub overflow_add-place : goal.overflow_add-place
-overflow_add-place c = omega (arith, few-in c.args.table, slice_get_within (rows_in c.args.table) c.loop-row.place _ (sym c.in-Some.ensures))
+overflow_add-place c = omega (
+  arith,
+  few-in c.args.table,
+  slice_get_within (rows_in c.args.table) c.loop-row.place _
+      (sym c.in-Some.ensures),
+)
 
 pub loop-row-smaller : goal.loop-row-smaller
 loop-row-smaller c = omega (arith, slice_get_within (rows_in c.args.table) c.loop-row.place _ (sym c.in-Some.ensures))

@@ -9,5 +9,5 @@ use Rattle.html_faithful_judge.proofs.spot.Spot.is_foreign.Goals as goal
 pub returns : goal.returns
 returns c =
     c.is_foreign_at.ensures number_of
-    ∙ (ap (current_is (is_foreign_in (token_of c.args.token.now.content))) c.open.ensures
+    ∙ (ap (current_is (is_foreign_in (token_of c.args.token.now.content))) c.elements.ensures
     ∙ sym (foreign-is (spot_of c.args.self.now) c.args.token.now.content))

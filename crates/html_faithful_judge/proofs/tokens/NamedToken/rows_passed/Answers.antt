@@ -25,4 +25,5 @@ tag-passed token tag passed table mode s is e m p =
 
 pub returns-in-Tag : goal.returns-in-Tag
 returns-in-Tag c s =
-    tag-passed c.args.self.now c.in-Tag.tag c.rows_before.result c.args.table c.in-Mode.mode s c.requires c.in-Tag.is c.in-Mode.is c.rows_before.ensures
+    tag-passed c.args.self.now c.in-Tag.tag c.rows_before.result c.args.table c.in-Mode.mode s c.requires c.in-Tag.is c.in-Mode.is
+    c.rows_before.ensures

@@ -1,0 +1,268 @@
+-- The rows that the tags of common elements take in a body and in a cell (HTML Standard, sections 13.2.6.4.7 and 13.2.6.4.15).
+use Rattle.std.proofs.Common.{◌≡◌, ℕ, suc, Bool, true, false, List, [], ◌∷◌, refl, sym, subst}
+use Rattle.std.specs.Prelude.{◌&&◌, ◌||◌, not, Some, codes}
+use Rattle.std.specs.List.{list_all}
+use Rattle.std.specs.Str.{bytes_eq}
+use Rattle.std.proofs.lemmas.Bool.{and_parts}
+use Rattle.std.proofs.lemmas.Slice.Eq.{bytes_eq-Decides}
+use Rattle.markup.specs.Trees.{is_among}
+use Rattle.markup.specs.declared.attributes.Attribute.{Attribute}
+use Rattle.html_tokens.specs.Tags.{named}
+use Rattle.html_tokens.specs.declared.tags.TagKind.TheVariants.{EndTag, StartTag}
+use Rattle.html_tokens.specs.declared.token.Token.{Token}
+use Rattle.html_tokens.specs.declared.token.Token.TheVariants.{TagToken}
+use Rattle.html_rules.specs.Names.{Html}
+use Rattle.html_rules.specs.Rules.{first_fit, rows}
+use Rattle.html_rules.specs.Sets.{names_of}
+use Rattle.html_rules.specs.State.{Open, State, is_in}
+use Rattle.html_rules.specs.Table.{AListed, Acknowledged, AnyStartTag, AnythingElse, CloseItem, CloseMisnestedA, CloseP, CurrentIs, Done}
+use Rattle.html_rules.specs.Table.{FramesetNotOk, IgnoreLineFeed, InsertElement, InsertFormatting, InsertVoid, Nothing, ParseError, Pop}
+use Rattle.html_rules.specs.Table.{Reconstruct, Row, StartTags, Using, When, row, ◌▸◌}
+use Rattle.html_rules.specs.declared.insertion_mode.InsertionMode.TheVariants as mode
+use Rattle.html_rules.specs.declared.tag_set.TagSet.TheVariants as set
+use Rattle.html_faithful.specs.Checks.{is_unlisted}
+use Rattle.html_faithful.specs.Forms.{is_tag_name, lowered}
+use Rattle.html_faithful.specs.Harmless.{Change, EntryLeft, Made, Unchanged, by_rows, nothing_yet}
+use Rattle.html_faithful.specs.Spots.{Spot, is_marked}
+use Rattle.html_faithful_walk.specs.Kinds.{has_end, is_common, names_as}
+use Rattle.html_faithful_walk.specs.declared.kinds.Kind.{Kind}
+use Rattle.html_faithful_walk.specs.declared.kinds.Kind.TheVariants as kind
+
+-- OF EACH NAME OF A LIST
+
+infixr 5 ◌&◌
+pub data Each (P : List ℕ → Type 0) : List (List ℕ) → Type 0 where
+  End : Each P []
+  ◌&◌ : {name : List ℕ} {names : List (List ℕ)} → P name → Each P names → Each P (name ∷ names)
+
+each-by : (P : List ℕ → Type 0) (x name : List ℕ) (others b : Bool) → bytes_eq name x ≡ b → P x → (others ≡ true → P name)
+    → (b || others) ≡ true → P name
+each-by P x name others true e is rest h = subst P (sym ((bytes_eq-Decides name x).0 e)) is
+each-by P x name others false e is rest h = rest h
+
+pub each-of : (P : List ℕ → Type 0) (names : List (List ℕ)) (name : List ℕ) → Each P names → is_among name names ≡ true → P name
+each-of P [] name End h = absurd cc
+each-of P (x ∷ xs) name (is & are) h =
+    each-by P x name (is_among name xs) (bytes_eq name x) refl is (λ rest. each-of P xs name are rest) h
+
+pub all-of : (p : List ℕ → Bool) (names : List (List ℕ)) (name : List ℕ) → list_all p names ≡ true → is_among name names ≡ true
+    → p name ≡ true
+all-of p [] name a h = absurd cc
+all-of p (x ∷ xs) name a h =
+    let parts = and_parts (p x) (list_all p xs) a in
+    each-by (λ name. p name ≡ true) x name (is_among name xs) (bytes_eq name x) refl parts.0 (λ rest. all-of p xs name parts.1 rest) h
+
+-- THE ROWS OF START TAGS
+
+abbrev pub start_of : List ℕ → List Attribute → Token
+start_of name attributes = TagToken (record (named StartTag name) { attrs = attributes })
+
+abbrev pub body_row : Kind → Row
+body_row kind.Phrase = row AnyStartTag (Reconstruct ▸ InsertElement) Done
+body_row kind.Formatting = row (StartTags set.FormattingTag) (Reconstruct ▸ InsertFormatting) Done
+body_row kind.Link = row (StartTags set.A) (When AListed CloseMisnestedA ▸ Reconstruct ▸ InsertFormatting) Done
+body_row kind.Block = row (StartTags set.Block) (CloseP ▸ InsertElement) Done
+body_row kind.Heading =
+    row (StartTags set.HeadingTag) (CloseP ▸ When (CurrentIs set.HeadingTag) (ParseError ▸ Pop) ▸ InsertElement) Done
+body_row kind.Preformatted = row (StartTags set.PreListing) (CloseP ▸ InsertElement ▸ IgnoreLineFeed ▸ FramesetNotOk) Done
+body_row kind.Item = row (StartTags set.Li) (FramesetNotOk ▸ CloseItem set.Li ▸ CloseP ▸ InsertElement) Done
+body_row kind.Description = row (StartTags set.DdDt) (FramesetNotOk ▸ CloseItem set.DdDt ▸ CloseP ▸ InsertElement) Done
+body_row kind.VoidPhrase = row (StartTags set.VoidTag) (Reconstruct ▸ InsertVoid ▸ FramesetNotOk) Acknowledged
+body_row k = row AnythingElse Nothing Done
+
+abbrev StartsBy : Kind → List ℕ → Type 0
+StartsBy k name = (attributes : List Attribute) (s : State) → first_fit (rows mode.InBody) (start_of name attributes) s ≡ body_row k
+
+starts : (k : Kind) → is_common k ≡ true → Each (StartsBy k) (names_as k)
+unfolding rows names_of
+starts kind.Phrase h =
+    (λ a s. refl) & (λ a s. refl) & (λ a s. refl) & (λ a s. refl) & (λ a s. refl) & (λ a s. refl) & (λ a s. refl)
+    & (λ a s. refl) & (λ a s. refl) & (λ a s. refl) & (λ a s. refl) & (λ a s. refl) & (λ a s. refl) & (λ a s. refl)
+    & (λ a s. refl) & (λ a s. refl) & (λ a s. refl) & (λ a s. refl) & (λ a s. refl) & End
+starts kind.Formatting h =
+    (λ a s. refl) & (λ a s. refl) & (λ a s. refl) & (λ a s. refl) & (λ a s. refl) & (λ a s. refl) & (λ a s. refl)
+    & (λ a s. refl) & (λ a s. refl) & (λ a s. refl) & (λ a s. refl) & (λ a s. refl) & End
+starts kind.Link h =
+    (λ a s. refl) & End
+starts kind.Block h =
+    (λ a s. refl) & (λ a s. refl) & (λ a s. refl) & (λ a s. refl) & (λ a s. refl) & (λ a s. refl) & (λ a s. refl)
+    & (λ a s. refl) & (λ a s. refl) & (λ a s. refl) & (λ a s. refl) & (λ a s. refl) & (λ a s. refl) & (λ a s. refl)
+    & (λ a s. refl) & (λ a s. refl) & (λ a s. refl) & (λ a s. refl) & (λ a s. refl) & (λ a s. refl) & (λ a s. refl)
+    & (λ a s. refl) & (λ a s. refl) & (λ a s. refl) & (λ a s. refl) & End
+starts kind.Heading h =
+    (λ a s. refl) & (λ a s. refl) & (λ a s. refl) & (λ a s. refl) & (λ a s. refl) & (λ a s. refl) & End
+starts kind.Preformatted h =
+    (λ a s. refl) & (λ a s. refl) & End
+starts kind.Item h =
+    (λ a s. refl) & End
+starts kind.Description h =
+    (λ a s. refl) & (λ a s. refl) & End
+starts kind.VoidPhrase h =
+    (λ a s. refl) & (λ a s. refl) & (λ a s. refl) & (λ a s. refl) & (λ a s. refl) & (λ a s. refl) & End
+starts k h = absurd cc
+
+-- in a cell all is as in the body, but for what ends the cell
+abbrev pub IsPassed : Token → Type 0
+IsPassed t = (s : State) → first_fit (rows mode.InCell) t s ≡ row AnythingElse Nothing (Using mode.InBody)
+
+abbrev StartsInCell : List ℕ → Type 0
+StartsInCell name = (attributes : List Attribute) → IsPassed (start_of name attributes)
+
+cell-starts : (k : Kind) → is_common k ≡ true → Each StartsInCell (names_as k)
+unfolding rows names_of
+cell-starts kind.Phrase h =
+    (λ a s. refl) & (λ a s. refl) & (λ a s. refl) & (λ a s. refl) & (λ a s. refl) & (λ a s. refl) & (λ a s. refl)
+    & (λ a s. refl) & (λ a s. refl) & (λ a s. refl) & (λ a s. refl) & (λ a s. refl) & (λ a s. refl) & (λ a s. refl)
+    & (λ a s. refl) & (λ a s. refl) & (λ a s. refl) & (λ a s. refl) & (λ a s. refl) & End
+cell-starts kind.Formatting h =
+    (λ a s. refl) & (λ a s. refl) & (λ a s. refl) & (λ a s. refl) & (λ a s. refl) & (λ a s. refl) & (λ a s. refl)
+    & (λ a s. refl) & (λ a s. refl) & (λ a s. refl) & (λ a s. refl) & (λ a s. refl) & End
+cell-starts kind.Link h =
+    (λ a s. refl) & End
+cell-starts kind.Block h =
+    (λ a s. refl) & (λ a s. refl) & (λ a s. refl) & (λ a s. refl) & (λ a s. refl) & (λ a s. refl) & (λ a s. refl)
+    & (λ a s. refl) & (λ a s. refl) & (λ a s. refl) & (λ a s. refl) & (λ a s. refl) & (λ a s. refl) & (λ a s. refl)
+    & (λ a s. refl) & (λ a s. refl) & (λ a s. refl) & (λ a s. refl) & (λ a s. refl) & (λ a s. refl) & (λ a s. refl)
+    & (λ a s. refl) & (λ a s. refl) & (λ a s. refl) & (λ a s. refl) & End
+cell-starts kind.Heading h =
+    (λ a s. refl) & (λ a s. refl) & (λ a s. refl) & (λ a s. refl) & (λ a s. refl) & (λ a s. refl) & End
+cell-starts kind.Preformatted h =
+    (λ a s. refl) & (λ a s. refl) & End
+cell-starts kind.Item h =
+    (λ a s. refl) & End
+cell-starts kind.Description h =
+    (λ a s. refl) & (λ a s. refl) & End
+cell-starts kind.VoidPhrase h =
+    (λ a s. refl) & (λ a s. refl) & (λ a s. refl) & (λ a s. refl) & (λ a s. refl) & (λ a s. refl) & End
+cell-starts k h = absurd cc
+
+-- THE ROWS OF END TAGS
+
+abbrev pub end_of : List ℕ → Token
+end_of name = TagToken (named EndTag name)
+
+abbrev pub change_back : Kind → Change
+change_back kind.Formatting = EntryLeft
+change_back kind.Link = EntryLeft
+change_back k = Unchanged
+
+abbrev pub ended : Kind → Spot → List Open → Made
+ended k p xs = record (nothing_yet (record p { path = xs })) { closed = true; change = change_back k }
+
+abbrev pub open_as : List ℕ → ℕ → Open
+open_as name number = record { number = number; namespace = Html; name = name }
+
+abbrev pub inside : List ℕ → ℕ → List Open → Spot → Spot
+inside name number xs p = record p { path = open_as name number ∷ xs }
+
+abbrev EndsBy : Kind → List ℕ → Type 0
+EndsBy k name = (n number : ℕ) (xs : List Open) (p : Spot)
+    → by_rows (suc n) (rows mode.InBody) (end_of name) (nothing_yet (inside name number xs p)) ≡ Some (ended k p xs)
+
+ends : (k : Kind) → has_end k ≡ true → Each (EndsBy k) (names_as k)
+unfolding by_rows rows names_of
+ends kind.Phrase h =
+    (λ n m xs p. refl) & (λ n m xs p. refl) & (λ n m xs p. refl) & (λ n m xs p. refl) & (λ n m xs p. refl)
+    & (λ n m xs p. refl) & (λ n m xs p. refl) & (λ n m xs p. refl) & (λ n m xs p. refl) & (λ n m xs p. refl)
+    & (λ n m xs p. refl) & (λ n m xs p. refl) & (λ n m xs p. refl) & (λ n m xs p. refl) & (λ n m xs p. refl)
+    & (λ n m xs p. refl) & (λ n m xs p. refl) & (λ n m xs p. refl) & (λ n m xs p. refl) & End
+ends kind.Formatting h =
+    (λ n m xs p. refl) & (λ n m xs p. refl) & (λ n m xs p. refl) & (λ n m xs p. refl) & (λ n m xs p. refl)
+    & (λ n m xs p. refl) & (λ n m xs p. refl) & (λ n m xs p. refl) & (λ n m xs p. refl) & (λ n m xs p. refl)
+    & (λ n m xs p. refl) & (λ n m xs p. refl) & End
+ends kind.Link h =
+    (λ n m xs p. refl) & End
+ends kind.Block h =
+    (λ n m xs p. refl) & (λ n m xs p. refl) & (λ n m xs p. refl) & (λ n m xs p. refl) & (λ n m xs p. refl)
+    & (λ n m xs p. refl) & (λ n m xs p. refl) & (λ n m xs p. refl) & (λ n m xs p. refl) & (λ n m xs p. refl)
+    & (λ n m xs p. refl) & (λ n m xs p. refl) & (λ n m xs p. refl) & (λ n m xs p. refl) & (λ n m xs p. refl)
+    & (λ n m xs p. refl) & (λ n m xs p. refl) & (λ n m xs p. refl) & (λ n m xs p. refl) & (λ n m xs p. refl)
+    & (λ n m xs p. refl) & (λ n m xs p. refl) & (λ n m xs p. refl) & (λ n m xs p. refl) & (λ n m xs p. refl) & End
+ends kind.Heading h =
+    (λ n m xs p. refl) & (λ n m xs p. refl) & (λ n m xs p. refl) & (λ n m xs p. refl) & (λ n m xs p. refl)
+    & (λ n m xs p. refl) & End
+ends kind.Preformatted h =
+    (λ n m xs p. refl) & (λ n m xs p. refl) & End
+ends kind.Item h =
+    (λ n m xs p. refl) & End
+ends kind.Description h =
+    (λ n m xs p. refl) & (λ n m xs p. refl) & End
+ends k h = absurd cc
+
+cell-ends : (k : Kind) → has_end k ≡ true → Each (λ name. IsPassed (end_of name)) (names_as k)
+unfolding rows names_of
+cell-ends kind.Phrase h =
+    (λ s. refl) & (λ s. refl) & (λ s. refl) & (λ s. refl) & (λ s. refl) & (λ s. refl) & (λ s. refl) & (λ s. refl)
+    & (λ s. refl) & (λ s. refl) & (λ s. refl) & (λ s. refl) & (λ s. refl) & (λ s. refl) & (λ s. refl) & (λ s. refl)
+    & (λ s. refl) & (λ s. refl) & (λ s. refl) & End
+cell-ends kind.Formatting h =
+    (λ s. refl) & (λ s. refl) & (λ s. refl) & (λ s. refl) & (λ s. refl) & (λ s. refl) & (λ s. refl) & (λ s. refl)
+    & (λ s. refl) & (λ s. refl) & (λ s. refl) & (λ s. refl) & End
+cell-ends kind.Link h =
+    (λ s. refl) & End
+cell-ends kind.Block h =
+    (λ s. refl) & (λ s. refl) & (λ s. refl) & (λ s. refl) & (λ s. refl) & (λ s. refl) & (λ s. refl) & (λ s. refl)
+    & (λ s. refl) & (λ s. refl) & (λ s. refl) & (λ s. refl) & (λ s. refl) & (λ s. refl) & (λ s. refl) & (λ s. refl)
+    & (λ s. refl) & (λ s. refl) & (λ s. refl) & (λ s. refl) & (λ s. refl) & (λ s. refl) & (λ s. refl) & (λ s. refl)
+    & (λ s. refl) & End
+cell-ends kind.Heading h =
+    (λ s. refl) & (λ s. refl) & (λ s. refl) & (λ s. refl) & (λ s. refl) & (λ s. refl) & End
+cell-ends kind.Preformatted h =
+    (λ s. refl) & (λ s. refl) & End
+cell-ends kind.Item h =
+    (λ s. refl) & End
+cell-ends kind.Description h =
+    (λ s. refl) & (λ s. refl) & End
+cell-ends k h = absurd cc
+
+-- WHAT ELSE THE NAMES SAY
+
+-- of the list of active formatting elements
+abbrev pub listing : Kind → Open → Bool
+listing kind.Formatting x = (is_in set.FormattingEnd x && not (is_marked x)) && not (is_in set.A x)
+listing kind.Link x = is_in set.FormattingEnd x && not (is_marked x)
+listing kind.VoidPhrase x = true
+listing k x = is_unlisted x
+
+-- of the form element pointer, of integration points, and of its tags
+abbrev pub is_usual : Open → Bool
+is_usual x = not (is_in set.AnnotationXml x) && not (is_in set.Form x)
+
+abbrev pub is_spelled : List ℕ → Bool
+is_spelled name = (is_tag_name name && bytes_eq (lowered name) name)
+    && (not (bytes_eq name (codes "template")) && not (bytes_eq name (codes "body") || bytes_eq name (codes "html")))
+
+abbrev pub says : Kind → List ℕ → Bool
+says k name = (listing k (open_as name 0) && is_usual (open_as name 0)) && is_spelled name
+
+all-say : (k : Kind) → is_common k ≡ true → list_all (says k) (names_as k) ≡ true
+unfolding names_of
+all-say kind.Phrase h = refl
+all-say kind.Formatting h = refl
+all-say kind.Link h = refl
+all-say kind.Block h = refl
+all-say kind.Heading h = refl
+all-say kind.Preformatted h = refl
+all-say kind.Item h = refl
+all-say kind.Description h = refl
+all-say kind.VoidPhrase h = refl
+all-say k h = absurd cc
+
+-- OF A NAME OF A KIND
+
+module _ (k : Kind) (name : List ℕ) (common : is_common k ≡ true) (among : is_among name (names_as k) ≡ true) where
+  pub row-of-start : StartsBy k name
+  row-of-start = each-of (StartsBy k) (names_as k) name (starts k common) among
+
+  pub row-in-cell : StartsInCell name
+  row-in-cell = each-of StartsInCell (names_as k) name (cell-starts k common) among
+
+  pub said : says k name ≡ true
+  said = all-of (says k) (names_as k) name (all-say k common) among
+
+module _ (k : Kind) (name : List ℕ) (has : has_end k ≡ true) (among : is_among name (names_as k) ≡ true) where
+  pub rows-of-end : EndsBy k name
+  rows-of-end = each-of (EndsBy k) (names_as k) name (ends k has) among
+
+  pub end-in-cell : IsPassed (end_of name)
+  end-in-cell = each-of (λ name. IsPassed (end_of name)) (names_as k) name (cell-ends k has) among

@@ -1,0 +1,23 @@
+use Rattle.std.proofs.Common.{◌≡◌, ◌≤◌, ◌<◌, false, length, arith, sym}
+use Rattle.markup.specs.KnownNames.{IsNameAt, names}
+use Rattle.markup.specs.Trees.{is_among}
+use Rattle.html_faithful_walk.proofs.KindRows.{keeps-other, keeps_row, keeps_there}
+use Rattle.html_faithful_walk.proofs.kinds.keeps_name.Goals as goal
+
+pub returns-in-Some-get : goal.returns-in-Some-get
+returns-in-Some-get c =
+    let at : IsNameAt c.in-Some.known.place c.args.name.now = rw c.in-Some.is at c.known.ensures.found in
+    rw (c.in-Some-get.ensures.lookup.3.1 false, c.keeping.ensures) (keeps_row c.in-Some.known.place c.args.name.now at)
+
+pub returns-in-None-get : goal.returns-in-None-get
+returns-in-None-get c =
+    let at : IsNameAt c.in-Some.known.place c.args.name.now = rw c.in-Some.is at c.known.ensures.found in
+    let past : length c.keeping.result.now ≤ c.in-Some.known.place = grind arith in
+    let there : c.in-Some.known.place < length c.keeping.result.now =
+    rw c.keeping.ensures (keeps_there c.in-Some.known.place c.args.name.now at) in
+    absurd (omega arith)
+
+pub returns-in-None : goal.returns-in-None
+returns-in-None c =
+    let none : is_among c.args.name.now names ≡ false = rw c.in-None.is at c.known.ensures.missing in
+    sym (keeps-other c.args.name.now none)

@@ -1,0 +1,224 @@
+//! The tags of common elements where they stand in a body or in a cell, without a look at the rows (HTML Standard, sections 13.2.6.4.7 and
+//! 13.2.6.4.15).
+ghost use Rattle.std.specs.Prelude.{◌≡◌, ◌&&◌, IfErr, IfOk, IsTrue, OnOk, Some, false, is_none, option_map, true};
+ghost use Rattle.std.specs.List.{list_all};
+ghost use Rattle.markup.specs.Attributes.{are_distinct, has_local_name};
+ghost use Rattle.markup.specs.declared.fault.ParseFault.TheVariants.{Memory};
+ghost use Rattle.markup.specs.Trees.{is_html};
+ghost use Rattle.html_rules.specs.State.{current_is, is_named};
+ghost use Rattle.html_faithful.specs.Walk.{finished, started};
+ghost use Rattle.html_faithful_judge.specs.Mades.{made_as};
+ghost use Rattle.html_faithful_judge.specs.Spots.{spot_of};
+ghost use Rattle.html_faithful_walk.specs.Common.{are_read_so, before_kids, closes_none, drops_line_feed, is_bare, is_closed_by};
+ghost use Rattle.html_faithful_walk.specs.Common.{is_emitted, is_flow, is_outside, is_read_so, keeps_frameset_ok, may_open, opened_as};
+
+use crate::kinds::{Kind, has_end, is_void_kind, kind_of};
+use crate::names::is_html;
+use crate::texts::is_in_html;
+use html_faithful_judge::made::Made;
+use html_faithful_judge::spot::Spot;
+use html_faithful_judge::{is_attribute_name, is_kept};
+use html_rules::{InsertionMode, TagSet};
+use markup::{Attribute, KnownNamespace, LocalName, ParseFault, QualName};
+use std::alloc::Global;
+
+/// As many attributes are compared with one another; where more stand in a tag, the rows are asked.
+const FEW: usize = 8;
+
+/// Whether the name of an attribute is in no namespace.
+#[tactic(auto, unfolding(markup::specs::Namespaces::name_of))]
+fn is_bare(name: &QualName) -> bool
+    ensures { result ≡ is_bare name.now }
+{
+    name.prefix.is_none() && name.ns.is_known(KnownNamespace::NoNamespace)
+}
+
+/// Whether an attribute is emitted with the name and the value that are written.
+fn is_emitted(attribute: &Attribute) -> bool
+    ensures { result ≡ is_emitted attribute.now }
+{
+    is_attribute_name(attribute.name.local.as_str()) && is_kept(attribute.value.as_str())
+}
+
+/// Whether an attribute is in no namespace, and is read with the name and the value that it has.
+fn is_read_so(attribute: &Attribute) -> bool
+    ensures { result ≡ is_read_so attribute.now }
+{
+    is_bare(&attribute.name) && is_emitted(attribute)
+}
+
+/// Whether one of some attributes has a local name.
+fn has_local_name(attributes: &[Attribute], name: &LocalName) -> bool
+    ensures { result ≡ has_local_name name.now attributes.now }
+{
+    attributes.iter().any(|other| *name == other.name.local)
+}
+
+/// Whether each of some attributes is read as it is.
+fn are_all_read_so(attributes: &[Attribute]) -> bool
+    ensures { result ≡ list_all is_read_so attributes.now }
+{
+    attributes.iter().all(|attribute| is_read_so(attribute))
+}
+
+/// Whether no local name comes twice.
+fn are_distinct(attributes: &[Attribute]) -> bool
+    ensures { result ≡ are_distinct attributes.now }
+{
+    match attributes.split_first() {
+        None => true,
+        Some((first, rest)) => !has_local_name(rest, &first.name.local) && are_distinct(rest),
+    }
+}
+
+/// Whether some attributes, of which there are few, are read with the names and the values that they have, and no name comes twice.
+pub(crate) fn are_read_so(attributes: &[Attribute]) -> bool
+    ensures { IsTrue result → are_read_so attributes.now ≡ true }
+{
+    if attributes.len() > FEW {
+        return false;
+    }
+    are_all_read_so(attributes) && are_distinct(attributes)
+}
+
+/// Whether nodes stand as in a body: there, or in a cell.
+fn is_flow(mode: InsertionMode) -> bool
+    ensures { result ≡ is_flow mode }
+{
+    matches!(mode, InsertionMode::InBody | InsertionMode::InCell)
+}
+
+/// Whether no paragraph is open in button scope.
+fn is_outside(spot: &Spot) -> bool
+    ensures { result ≡ is_outside spot.now.stack.open_elems }
+{
+    !spot.as_stack().in_scope(TagSet::ButtonScope, TagSet::P)
+}
+
+/// Whether an element of a kind that is put in the open elements closes none of them.
+fn closes_none(spot: &Spot, kind: Kind) -> bool
+    ensures { result ≡ closes_none kind spot.now.stack.open_elems }
+{
+    match kind {
+        Kind::Usual => false,
+        Kind::Void => false,
+        Kind::Raw => false,
+        Kind::RawWithScripts => false,
+        Kind::Svg => false,
+        Kind::Phrase => true,
+        Kind::Formatting => true,
+        Kind::VoidPhrase => true,
+        Kind::Link => !spot.lists_a() && !spot.link_open(),
+        Kind::Block => is_outside(spot),
+        Kind::Preformatted => is_outside(spot),
+        Kind::Heading => is_outside(spot) && !spot.current_is(TagSet::HeadingTag),
+        Kind::Item => is_outside(spot) && !spot.has_item(TagSet::Li),
+        Kind::Description => is_outside(spot) && !spot.has_item(TagSet::DdDt),
+    }
+}
+
+/// Whether an element of a kind is only put here by its start tag.
+fn may_open(spot: &Spot, kind: Kind) -> bool
+    ensures { result ≡ may_open kind (spot_of spot.now) }
+{
+    is_flow(spot.mode) && (is_in_html(spot) && closes_none(spot, kind))
+}
+
+/// Whether a line feed that comes first in an element of a kind is dropped.
+fn drops_line_feed(kind: Kind) -> bool
+    ensures { result ≡ drops_line_feed kind }
+{
+    matches!(kind, Kind::Preformatted)
+}
+
+/// Whether no flag changes where an element of a kind is put.
+fn keeps_frameset_ok(kind: Kind) -> bool
+    ensures { result ≡ keeps_frameset_ok kind }
+{
+    !matches!(
+        kind,
+        Kind::Preformatted | Kind::Item | Kind::Description | Kind::VoidPhrase
+    )
+}
+
+/// An element of a kind and a name is put, and opened, unless it is void.
+fn open(made: &mut Made, alloc: Global, kind: Kind, name: &LocalName) -> Result<(), ParseFault>
+    ensures ok { OnOk result (before_kids (made_as made.new) ≡ opened_as kind name.now (spot_of made.old.spot)) }
+    ensures fault { IfErr result (λ fault. fault ≡ Memory) }
+{
+    made.restart();
+    made.drops_line_feed = drops_line_feed(kind);
+    if !keeps_frameset_ok(kind) {
+        made.spot.frameset_ok = false;
+    }
+    if is_void_kind(kind) {
+        return Ok(());
+    }
+    made.spot.open_html(alloc, name)
+}
+
+/// Whether an element is HTML's, and its name has no prefix.
+fn is_plain_html(name: &QualName) -> bool
+    ensures { result ≡ (is_html name.now && is_none name.now.prefix) }
+{
+    is_html(name) && name.prefix.is_none()
+}
+
+/// The start tag of an element comes that is no template; answers whether it is common, and its tag only puts it.
+pub(crate) fn start_common(
+    made: &mut Made,
+    alloc: Global,
+    name: &QualName,
+    attributes: &[Attribute],
+) -> Result<bool, ParseFault>
+    ensures ok { IfOk result (λ put. IsTrue put
+        → option_map before_kids (started name.now attributes.now false (spot_of made.old.spot)) ≡ Some (before_kids (made_as made.new))) }
+    ensures other { IfOk result (λ put. put ≡ false → made.new ≡ made.old) }
+    ensures fault { IfErr result (λ fault. fault ≡ Memory) }
+{
+    if !is_plain_html(name) {
+        return Ok(false);
+    }
+    let kind = kind_of(&name.local);
+    if !may_open(&made.spot, kind) {
+        return Ok(false);
+    }
+    if !are_read_so(attributes) {
+        return Ok(false);
+    }
+    open(made, alloc, kind, &name.local)?;
+    Ok(true)
+}
+
+/// Whether the current node is the HTML element of a known name.
+fn is_current(spot: &Spot, name: &LocalName) -> bool
+    ensures { IsTrue result → current_is (is_named name.now) spot.now.stack.open_elems ≡ true }
+{
+    match (spot.as_stack().open_elems().last(), name.known()) {
+        (Some(element), Some(known)) => element.name.is_known(known),
+        _ => false,
+    }
+}
+
+/// Whether an element of a kind and a name is the current node, which its end tag only closes.
+fn is_closed(spot: &Spot, kind: Kind, name: &LocalName) -> bool
+    ensures { IsTrue result → is_closed_by kind name.now (spot_of spot.now) ≡ true }
+{
+    has_end(kind) && (is_flow(spot.mode) && is_current(spot, name))
+}
+
+/// The end tag of an element comes; answers whether it is common, and its tag only closes it.
+pub(crate) fn finish_common(made: &mut Made, name: &QualName) -> bool
+    ensures ok { IsTrue result → finished name.now (spot_of made.old.spot) ≡ Some (spot_of made.new.spot) }
+    ensures other { result ≡ false → made.new ≡ made.old }
+{
+    if !is_plain_html(name) {
+        return false;
+    }
+    let kind = kind_of(&name.local);
+    if !is_closed(&made.spot, kind, &name.local) {
+        return false;
+    }
+    made.spot.close_current();
+    true
+}
