@@ -6,3 +6,5 @@ mod Foreign
 mod MadeByRows
 mod Turns
 mod Words
+mod CalmTexts
+pub mod LoweredNames

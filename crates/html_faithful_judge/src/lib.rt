@@ -15,5 +15,5 @@ pub mod spot;
 mod texts;
 pub mod tokens;
 
-pub use names::{emitted_attributes, is_attribute_name, is_nonempty, is_tag_name};
+pub use names::{emitted_attributes, is_attribute_name, is_nonempty, is_tag_name, lowered};
 pub use texts::{is_comment_text, is_kept, is_raw_text};

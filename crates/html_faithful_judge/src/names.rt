@@ -1,6 +1,7 @@
 //! Which names are read as they are written (HTML Standard, section 13.2.5).
-ghost use Rattle.std.specs.Prelude.{◌≡◌, ◌&&◌, ◌++◌, not, IfErr, IfOk};
-ghost use Rattle.std.specs.Str.{chars};
+ghost use Rattle.std.specs.Prelude.{◌≡◌, ◌&&◌, ◌++◌, [], nat_eq, not, IfErr, IfOk};
+ghost use Rattle.std.specs.Char.{to_ascii_lowercase};
+ghost use Rattle.std.specs.Str.{bytes_eq, chars};
 ghost use Rattle.std.specs.List.{list_all};
 ghost use Rattle.html_rules.specs.Conditions.{is_nonempty};
 ghost use Rattle.markup.specs.Attributes.{has_local_name};
@@ -95,11 +96,42 @@ fn prefix(name: &QualName) -> &'static str
     }
 }
 
+/// Whether a text has no letter in upper case.
+fn is_lowered(text: &str) -> bool
+    ensures { result ≡ list_all (λ c. nat_eq (to_ascii_lowercase c) c) (chars text.now) }
+{
+    text.chars().all(|c| c.to_ascii_lowercase() == c)
+}
+
+/// A name with its ASCII letters lowered.
+pub fn lowered(alloc: Global, name: &LocalName) -> Result<LocalName, ParseFault>
+    ensures ok { IfOk result (λ made. made ≡ lowered name.now) }
+    ensures fault { IfErr result (λ fault. fault ≡ Memory) }
+{
+    if is_lowered(name.as_str()) {
+        return name.copy(alloc);
+    }
+    LocalName::from_str_lowered(alloc, name.as_str())
+}
+
+/// Whether the name of an attribute is in no namespace.
+#[tactic(auto, unfolding(markup::specs::Namespaces::name_of))]
+fn is_in_no_namespace(name: &QualName) -> bool
+    ensures { result ≡ bytes_eq name.now.ns [] }
+{
+    name.ns.is_known(KnownNamespace::NoNamespace)
+}
+
 /// The name of an attribute as it is emitted: that which is written, lowered.
 fn emitted_name(alloc: Global, name: &QualName) -> Result<LocalName, ParseFault>
     ensures ok { IfOk result (λ made. made ≡ lowered (attribute_prefix name.now ++ name.now.local)) }
     ensures fault { IfErr result (λ fault. fault ≡ Memory) }
 {
+    if is_in_no_namespace(name) {
+        if is_attribute_name(name.local.as_str()) {
+            return name.local.copy(alloc);
+        }
+    }
     let mut written = Text::from_str(alloc, prefix(name))?;
     written.push_str(name.local.as_str())?;
     LocalName::from_str_lowered(alloc, written.as_str())

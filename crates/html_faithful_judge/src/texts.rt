@@ -1,7 +1,7 @@
 //! Which texts and comments are read as they are written (HTML Standard, sections 13.1 and 13.2.5).
 ghost use Rattle.std.specs.Char.{is_ascii_alphabetic, to_ascii_lowercase};
 ghost use Rattle.std.specs.List.{list_all};
-ghost use Rattle.std.specs.Prelude.{◌≡◌, ◌++◌, map, nat_eq, true, ◌+◌, ◌<◌, ◌≤◌, ◌&&◌, ◌||◌, ℕ, List, not, length, drop, codes, IfErr};
+ghost use Rattle.std.specs.Prelude.{IsTrue, false, ◌≡◌, ◌++◌, map, nat_eq, true, ◌+◌, ◌<◌, ◌≤◌, ◌&&◌, ◌||◌, ℕ, List, not, length, drop, codes, IfErr};
 ghost use Rattle.std.specs.Prelude.{IfOk, is_none};
 ghost use Rattle.std.specs.Str.{bytes_eq, chars};
 ghost use Rattle.markup.specs.Escape.{end_tag};
@@ -10,6 +10,7 @@ ghost use Rattle.html_tokens.specs.Comments.{comment_end};
 ghost use Rattle.html_tokens.specs.Characters.{begins};
 ghost use Rattle.html_tokens.specs.RawText.{ends_at_tag, is_letters, next_kind, slash_name};
 ghost use Rattle.html_faithful.specs.Forms.{goes_on_raw, has_no_end, is_comment_text, is_kept, is_raw_text};
+ghost use Rattle.html_faithful_judge.specs.Texts.{is_calm};
 
 use crate::characters::{begins, begins_name};
 use crate::names::is_nonempty;
@@ -215,12 +216,47 @@ fn end_tag(alloc: Global, name: &str) -> Result<Vec<char>, ParseFault>
     characters(alloc, end.as_str())
 }
 
+/// Whether a text is still calm after one character more, which follows a `<` or does not.
+fn stays_calm(calm: bool, after: bool, c: char) -> bool
+    ensures { result ≡ (calm && not (after && (nat_eq c 47 || nat_eq 33 c))) }
+{
+    calm && !(after && (c == '/' || '!' == c))
+}
+
+/// Whether neither `/` nor `!` follows a `<` in a text.
+fn is_calm(text: &str) -> bool
+    ensures { result ≡ is_calm false (chars text.now) }
+{
+    let mut calm = true;
+    let mut after = false;
+    for c in text.chars() {
+        calm = stays_calm(calm, after, c);
+        after = c == '<';
+    }
+    calm
+}
+
+/// Whether raw text goes on where it is not escaped and no end tag and no escape begins in it.
+fn is_calm_in(kind: RawKind, text: &str) -> bool
+    ensures { IsTrue result → (name : List ℕ) → goes_on_raw kind name (chars text.now) ≡ true }
+{
+    match kind {
+        RawKind::Rawtext => is_calm(text),
+        RawKind::ScriptData => is_calm(text),
+        RawKind::Rcdata => false,
+        RawKind::ScriptDataEscaped(_) => false,
+    }
+}
+
 /// Whether raw text that is not escaped is read as it is written in an element whose name is of letters.
 fn is_kept_raw(alloc: Global, kind: RawKind, name: &str, text: &str) -> Result<bool, ParseFault>
     requires { is_letters (chars name.now) ≡ true }
     ensures ok { IfOk result (λ kept. kept ≡ goes_on_raw kind (chars name.now) (chars text.now)) }
     ensures fault { IfErr result (λ fault. fault ≡ Memory) }
 {
+    if is_calm_in(kind, text) {
+        return Ok(true);
+    }
     let lowered = lowered(alloc, name)?;
     let end = end_tag(alloc, name)?;
     let whole = joined(alloc, text, end.as_slice())?;

@@ -1,43 +1,18 @@
 -- Attributes that are read with the names and the values that they have.
-use Rattle.std.proofs.Common.{◌≡◌, ◌∙◌, ℕ, Bool, true, false, List, [], ◌∷◌, ◌++◌, map, refl, ap, ap₂, sym}
-use Rattle.std.specs.Prelude.{◌&&◌, ◌||◌, not, nat_eq, Option, Some, None, is_none}
-use Rattle.std.specs.Char.{to_ascii_lowercase}
+use Rattle.std.proofs.Common.{◌≡◌, ◌∙◌, ℕ, true, List, [], ◌∷◌, ◌++◌, map, refl, ap, ap₂, sym}
+use Rattle.std.specs.Prelude.{◌&&◌, Option, Some, None, is_none}
 use Rattle.std.specs.List.{list_all}
 use Rattle.std.specs.Str.{bytes_eq}
-use Rattle.std.proofs.lemmas.Bool.{and_parts, eqb-true}
+use Rattle.std.proofs.lemmas.Bool.{and_parts}
 use Rattle.std.proofs.lemmas.Slice.Eq.{bytes_eq-Decides}
 use Rattle.markup.specs.Attributes.{are_distinct}
 use Rattle.markup.specs.Escape.{attribute_prefix}
 use Rattle.markup.specs.Namespaces.{known_namespace, name_of}
 use Rattle.markup.specs.declared.attributes.Attribute.{Attribute}
 use Rattle.markup.specs.declared.names.QualName.{QualName}
-use Rattle.html_rules.specs.Tokens.{is_white}
-use Rattle.html_faithful.specs.Forms.{are_told, is_attribute_name, is_error_in_name, is_kept, is_odd_in_name, lowered, told_attribute}
+use Rattle.html_faithful.specs.Forms.{are_told, is_attribute_name, is_kept, lowered, told_attribute}
+use Rattle.html_faithful_judge.proofs.LoweredNames.{name-lower}
 use Rattle.html_faithful_walk.specs.Common.{are_read_so, is_read_so}
-
--- the characters of a name that are not odd are not changed
-not-odd : (a b c d e f : Bool) → not (a || b || c || not d || e || f) ≡ true → d ≡ true
-not-odd a b c true e f h = refl
-not-odd false false false false e f h = absurd cc
-not-odd true b c false e f h = absurd cc
-not-odd false true c false e f h = absurd cc
-not-odd false false true false e f h = absurd cc
-
-kept-lower : (c : ℕ) → not (is_odd_in_name c) ≡ true → to_ascii_lowercase c ≡ c
-kept-lower c h =
-    eqb-true (to_ascii_lowercase c) c
-    (not-odd (is_white (c ∷ [])) (nat_eq c 0x2F) (nat_eq c 0x3E) (nat_eq (to_ascii_lowercase c) c) (nat_eq c 0) (nat_eq c 13) h)
-
-all-lower : (cs : List ℕ) → list_all (λ c. not (is_odd_in_name c) && not (is_error_in_name c)) cs ≡ true → lowered cs ≡ cs
-all-lower [] h = refl
-all-lower (c ∷ cs) h =
-    let parts = and_parts (not (is_odd_in_name c)
-    && not (is_error_in_name c)) (list_all (λ c. not (is_odd_in_name c) && not (is_error_in_name c)) cs) h in
-    ap₂ (λ c cs. c ∷ cs) (kept-lower c (and_parts (not (is_odd_in_name c)) (not (is_error_in_name c)) parts.0).0) (all-lower cs parts.1)
-
-pub name-lower : (name : List ℕ) → is_attribute_name name ≡ true → lowered name ≡ name
-name-lower [] h = absurd cc
-name-lower (c ∷ cs) h = all-lower (c ∷ cs) h
 
 no-prefix : (local : List ℕ) → attribute_prefix (record { prefix = None; ns = []; local = local }) ≡ []
 unfolding known_namespace name_of

@@ -9,8 +9,8 @@ ghost use Rattle.html_faithful_walk.specs.Walking.{after_of, after_stand, after_
 
 use crate::names::is_void;
 use crate::parents::Parent;
-use html_faithful_judge::is_raw_text;
 use html_faithful_judge::made::Made;
+use html_faithful_judge::{is_raw_text, lowered};
 use html_forest::TextRef;
 use html_tokens::states::RawKind;
 use markup::{LocalName, ParseFault, QualName};
@@ -104,8 +104,7 @@ fn is_lowered(alloc: Global, name: &LocalName) -> Result<bool, ParseFault>
     ensures ok { IfOk result (λ is. is ≡ bytes_eq (lowered name.now) name.now) }
     ensures fault { IfErr result (λ fault. fault ≡ Memory) }
 {
-    let lowered = LocalName::from_str_lowered(alloc, name.as_str())?;
-    Ok(lowered == *name)
+    Ok(lowered(alloc, name)? == *name)
 }
 
 /// Which nodes may stand in an element of this name that was opened; nothing where none may, and it may not have none.

@@ -14,7 +14,7 @@ ghost use Rattle.html_faithful_walk.specs.Steps.{written_of};
 
 use crate::names::is_template;
 use html_faithful_judge::made::Put;
-use html_faithful_judge::{emitted_attributes, is_tag_name};
+use html_faithful_judge::{emitted_attributes, is_tag_name, lowered};
 use html_names::ElementNamespace;
 use html_tokens::{Tag, TagKind};
 use markup::{Attribute, Attributes, LocalName, Namespace, ParseFault, QualName};
@@ -33,7 +33,7 @@ pub(crate) fn written_tag(
     if template != is_template(name) {
         return Ok(None);
     }
-    let lowered = LocalName::from_str_lowered(alloc, name.local.as_str())?;
+    let lowered = lowered(alloc, &name.local)?;
     if !is_tag_name(lowered.as_str()) {
         return Ok(None);
     }
@@ -56,7 +56,7 @@ pub(crate) fn end_tag(alloc: Global, name: &QualName) -> Result<Tag, ParseFault>
 {
     Ok(Tag {
         kind: TagKind::EndTag,
-        name: LocalName::from_str_lowered(alloc, name.local.as_str())?,
+        name: lowered(alloc, &name.local)?,
         self_closing: false,
         attrs: Attributes::new(alloc),
         had_duplicate_attributes: false,

@@ -16,3 +16,6 @@ returns-clause-ok c =
     let count : length (chars c.args.text.now) ≡ c.len.result - c.len-2.result =
     omega (arith, ap length items, length-append (chars c.args.text.now) c.in_ok-end.end.items, c.len.ensures, c.len-2.ensures) in
     c.goes_on_raw.ensures (chars c.args.name.now) (chars c.args.text.now) c.requires same count whole
+
+pub returns-then-is_calm_in-clause-ok : goal.returns-then-is_calm_in-clause-ok
+returns-then-is_calm_in-clause-ok c = sym (c.is_calm_in.ensures c.if-is_calm_in.true (chars c.args.name.now))

@@ -9,7 +9,8 @@ use Rattle.html_faithful_walk.proofs.common.start_common.Goals as goal
 
 pub returns-clause-ok : goal.returns-clause-ok
 returns-clause-ok c put =
-    let html = and_parts (is_html c.args.name.now) (is_none c.args.name.now.prefix) (sym c.is_plain_html.ensures ∙ c.if-not-is_plain_html.false) in
+    let html = and_parts (is_html c.args.name.now) (is_none c.args.name.now.prefix)
+    (sym c.is_plain_html.ensures ∙ c.if-not-is_plain_html.false) in
     start-put c.kind_of-kind.result c.args.name.now c.args.attributes.now (spot_of c.args.made.now.spot) c.kind_of-kind.ensures record {
       html = html.0;
       prefix = html.1;
