@@ -1,5 +1,5 @@
 -- Raw text in which no end tag and no escape begins goes on.
-use Rattle.std.proofs.Common.{◌≡◌, ◌∙◌, ℕ, Bool, true, false, List, [], ◌∷◌, ◌++◌, refl, ap, append_assoc}
+use Rattle.std.proofs.Common.{◌≡◌, ℕ, Bool, true, false, List, [], ◌∷◌, ◌++◌, refl}
 use Rattle.std.specs.Prelude.{◌&&◌, ◌||◌, not, nat_eq, codes}
 use Rattle.std.proofs.lemmas.Bool.{and_parts}
 use Rattle.markup.specs.Escape.{end_tag}
@@ -51,16 +51,3 @@ calm-after kind after name (c ∷ cs) o h =
 
 pub calm-goes : (kind : RawKind) (name cs : List ℕ) → is_outer kind ≡ true → is_calm false cs ≡ true → goes_on_raw kind name cs ≡ true
 calm-goes kind name cs o h = calm-after kind false name cs o h
-
-and-assoc : (a b c : Bool) → (a && (b && c)) ≡ ((a && b) && c)
-and-assoc true b c = refl
-and-assoc false b c = refl
-
--- one character more
-pub calm-more : (yielded : List ℕ) (c : ℕ) (calm after next : Bool) → ((cs : List ℕ) → is_calm false (yielded ++ cs) ≡ (calm && is_calm after cs))
-    → next ≡ (calm && not (after && (nat_eq c 47 || nat_eq 33 c))) → (later : Bool) → later ≡ nat_eq c 60
-    → (cs : List ℕ) → is_calm false ((yielded ++ c ∷ []) ++ cs) ≡ (next && is_calm later cs)
-calm-more yielded c calm after next h e later f cs =
-    ap (is_calm false) (append_assoc yielded (c ∷ []) cs)
-    ∙ (h (c ∷ cs) ∙ (and-assoc calm (not (after && (nat_eq c 47 || nat_eq 33 c))) (is_calm (nat_eq c 60) cs)
-    ∙ rw (e, f) refl))

@@ -1,8 +1,8 @@
 //! Which texts and comments are read as they are written (HTML Standard, sections 13.1 and 13.2.5).
 ghost use Rattle.std.specs.Char.{is_ascii_alphabetic, to_ascii_lowercase};
 ghost use Rattle.std.specs.List.{list_all};
-ghost use Rattle.std.specs.Prelude.{IsTrue, false, ◌≡◌, ◌++◌, map, nat_eq, true, ◌+◌, ◌<◌, ◌≤◌, ◌&&◌, ◌||◌, ℕ, List, not, length, drop, codes, IfErr};
-ghost use Rattle.std.specs.Prelude.{IfOk, is_none};
+ghost use Rattle.std.specs.Prelude.{IsTrue, false, ◌≡◌, ◌++◌, map, nat_eq, true, ◌+◌, ◌<◌, ◌≤◌, ◌&&◌, ◌||◌, ℕ, List, not, length, drop};
+ghost use Rattle.std.specs.Prelude.{codes, IfErr, IfOk, is_none};
 ghost use Rattle.std.specs.Str.{bytes_eq, chars};
 ghost use Rattle.markup.specs.Escape.{end_tag};
 ghost use Rattle.markup.specs.declared.fault.ParseFault.TheVariants.{Memory};
