@@ -212,7 +212,7 @@ module _ (p : Spot) (cell : Bool) (ys : List Open) where
       list-inside p cell (ListElement Unordered) ys h.again (h.paragraph refl) (h.unlisted refl) (h.unlinked refl) refl
   in-flow (ListElement Ordered) e v h =
       list-inside p cell (ListElement Ordered) ys h.again (h.paragraph refl) (h.unlisted refl) (h.unlinked refl) refl
-  in-flow Table e v h = 
+  in-flow Table e v h =
       part-inside p cell Table ys InTable refl (λ s t. refl) refl (h.unlisted refl) (h.unlinked refl) refl refl
   in-flow (Formatted Bold) e v h = line-inside p cell (Formatted Bold) ys false h.again h.unlisted h.unlinked
   in-flow (Formatted Italic) e v h = line-inside p cell (Formatted Italic) ys false h.again h.unlisted h.unlinked
@@ -240,13 +240,13 @@ module _ (p : Spot) (cell : Bool) (ys : List Open) where
 
   pub in-table : (k : PlainElement) → holds InTable k ≡ true → Stands p InTable cell ys → Inside InTable k
   unfolding names_of
-  in-table TableBody e h = 
+  in-table TableBody e h =
       part-inside p cell TableBody ys InTableBody refl (λ s t. refl) (h.paragraph refl) (h.unlisted refl) (h.unlinked refl) refl refl
   in-table k e h = no e
 
   pub in-bodies : (k : PlainElement) → holds InTableBody k ≡ true → Stands p InTableBody cell ys → Inside InTableBody k
   unfolding names_of
-  in-bodies Row e h = 
+  in-bodies Row e h =
       part-inside p cell Row ys InRow refl (λ s t. refl) (h.paragraph refl) (h.unlisted refl) (h.unlinked refl) refl refl
   in-bodies k e h = no e
 
