@@ -2,7 +2,7 @@
 use Rattle.std.proofs.Common.{◌≡◌, ◌∙◌, ◌+◌, ◌<◌, ◌≤◌, ℕ, suc, Bool, true, false, List, [], ◌∷◌, length, Option, Some, None}
 use Rattle.std.proofs.Common.{inl, inr, refl, ap, arith, sym}
 use Rattle.std.proofs.Math.ListN.{set}
-use Rattle.std.specs.Prelude.{cond, filter, nat_lt}
+use Rattle.std.specs.Prelude.{◌||◌, cond, filter, nat_lt}
 use Rattle.std.specs.List.{list_any}
 use Rattle.std.proofs.lemmas.Bool.{cases_Bool, cases_eq, cases_order, eq-eqb, le-ltb, lt-ltb, ne_eqb}
 use Rattle.std.proofs.lemmas.List.{get_or-set_other, get_or-set_same}
@@ -11,7 +11,7 @@ use Rattle.markup.proofs.Forests.{IsParent-from_child}
 use Rattle.markup.proofs.Parents.{is_among-parent}
 use Rattle.html_selector_matching.specs.Around.{children_under, those_after}
 use Rattle.html_selector_matching.specs.Simples.{nodes_beside, place_of}
-use Rattle.html_selectors.specs.Columns.{place_among, place_at}
+use Rattle.html_selectors.specs.Columns.{any_among, at, place_among, place_at}
 use Rattle.html_selectors.proofs.Lists.{filter-same}
 
 -- how many pass, of a list with one more
@@ -60,36 +60,38 @@ count-few t (n ∷ ns) =
 
 -- PARENT BY PARENT
 
--- a number of a node, once those of the children of the first parents are written down
-abbrev pub entered : (ℕ → ℕ) → ℕ → ℕ → Option ℕ → ℕ
-entered value count n None = 1
-entered value count n (Some p) = cond (nat_lt p count) (value n) 1
+-- what is written down for a node, once the children of the first parents are done; `none` before
+abbrev pub entered : {A : Type 0} → A → (ℕ → A) → ℕ → ℕ → Option ℕ → A
+entered none value count n None = none
+entered none value count n (Some p) = cond (nat_lt p count) (value n) none
 
 -- the place of a node, once those of the children of the first parents are written down
 abbrev pub written : (ℕ → Bool) → Bool → Forest → ℕ → ℕ → Option ℕ → ℕ
-written t from_end f count n o = entered (place_of t from_end f) count n o
+written t from_end f count n o = entered 1 (place_of t from_end f) count n o
 
 beside-none : (t : ℕ → Bool) (from_end : Bool) (f : Forest) (n : ℕ) → parent_of f n ≡ None → place_of t from_end f n ≡ 1
 beside-none t true f n e = rw e refl
 beside-none t false f n e = rw e refl
 
 -- in the end all are
-pub entered-all : (f : Forest) → IsForest f → (value : ℕ → ℕ) (n : ℕ) → (parent_of f n ≡ None → value n ≡ 1)
-    → entered value (node_count f) n (parent_of f n) ≡ value n
-entered-all f is value n alone = by alone (parent_of f n) refl
+pub entered-all : {A : Type 0} (f : Forest) → IsForest f → (none : A) (value : ℕ → A) (n : ℕ) → (parent_of f n ≡ None → value n ≡ none)
+    → entered none value (node_count f) n (parent_of f n) ≡ value n
+entered-all f is none value n alone = by alone (parent_of f n) refl
   where
-    by : (parent_of f n ≡ None → value n ≡ 1) → (o : Option ℕ) → parent_of f n ≡ o → entered value (node_count f) n o ≡ value n
+    by : (parent_of f n ≡ None → value n ≡ none) → (o : Option ℕ) → parent_of f n ≡ o → entered none value (node_count f) n o ≡ value n
     by alone None e = sym (alone e)
     by alone (Some p) e = rw (lt-ltb p (node_count f) (IsParent-from_child f n p is e).there) refl
 
 pub written-all : (f : Forest) → IsForest f → (t : ℕ → Bool) (from_end : Bool) (n : ℕ)
     → written t from_end f (node_count f) n (parent_of f n) ≡ place_of t from_end f n
-written-all f is t from_end n = entered-all f is (place_of t from_end f) n (beside-none t from_end f n)
+written-all f is t from_end n = entered-all f is 1 (place_of t from_end f) n (beside-none t from_end f n)
 
 -- those of one parent more are
-pub entered-more : (f : Forest) → IsForest f → (value : ℕ → ℕ) (count n place : ℕ) → (parent_of f n ≡ Some count → place ≡ value n)
-    → cond (is_among n (children_of f count)) place (entered value count n (parent_of f n)) ≡ entered value (count + 1) n (parent_of f n)
-entered-more f is value count n place told =
+pub entered-more : {A : Type 0} (f : Forest) → IsForest f → (none : A) (value : ℕ → A) (count n : ℕ) (new : A)
+    → (parent_of f n ≡ Some count → new ≡ value n)
+    → cond (is_among n (children_of f count)) new (entered none value count n (parent_of f n))
+    ≡ entered none value (count + 1) n (parent_of f n)
+entered-more f is none value count n new told =
     elim (cases_Bool (is_among n (children_of f count))) [
       | inl among ↦
           let e = is.one_parent count n among in
@@ -98,7 +100,7 @@ entered-more f is value count n place told =
     ]
   where
     by : is_among n (children_of f count) ≡ false → (o : Option ℕ) → parent_of f n ≡ o
-        → entered value count n o ≡ entered value (count + 1) n o
+        → entered none value count n o ≡ entered none value (count + 1) n o
     by other None e = refl
     by other (Some p) e =
         elim (cases_order p count) [
@@ -114,14 +116,14 @@ pub written-more : (f : Forest) → IsForest f → (t : ℕ → Bool) (from_end 
     → (parent_of f n ≡ Some count → place ≡ place_of t from_end f n)
     → cond (is_among n (children_of f count)) place (written t from_end f count n (parent_of f n))
     ≡ written t from_end f (count + 1) n (parent_of f n)
-written-more f is t from_end count n place told = entered-more f is (place_of t from_end f) count n place told
+written-more f is t from_end count n place told = entered-more f is 1 (place_of t from_end f) count n place told
 
-pub entered-none : (value : ℕ → ℕ) (n : ℕ) (o : Option ℕ) → entered value 0 n o ≡ 1
-entered-none value n None = refl
-entered-none value n (Some p) = rw (le-ltb p 0 (omega arith)) refl
+pub entered-none : {A : Type 0} (none : A) (value : ℕ → A) (n : ℕ) (o : Option ℕ) → entered none value 0 n o ≡ none
+entered-none none value n None = refl
+entered-none none value n (Some p) = rw (le-ltb p 0 (omega arith)) refl
 
 pub written-none : (t : ℕ → Bool) (from_end : Bool) (f : Forest) (n : ℕ) (o : Option ℕ) → written t from_end f 0 n o ≡ 1
-written-none t from_end f n o = entered-none (place_of t from_end f) n o
+written-none t from_end f n o = entered-none 1 (place_of t from_end f) n o
 
 -- those nodes whose parents are wanted
 abbrev pub owned : (ℕ → Bool) → Option ℕ → Bool
@@ -138,12 +140,12 @@ beside-more f is t from_end count n old is_old =
     (λ e. sym (ap (λ (o : Option ℕ). place_among t from_end n (children_under f o)) e))
 
 -- or those of a parent that is not wanted
-pub unwanted-more : (f : Forest) (t wanted : ℕ → Bool) (from_end : Bool) (count n : ℕ) → wanted count ≡ false
+pub unwanted-more : {A : Type 0} (f : Forest) (none : A) (value : ℕ → A) (wanted : ℕ → Bool) (count n : ℕ) → wanted count ≡ false
     → owned wanted (parent_of f n) ≡ true
-    → written t from_end f count n (parent_of f n) ≡ written t from_end f (count + 1) n (parent_of f n)
-unwanted-more f t wanted from_end count n unwanted = by (parent_of f n)
+    → entered none value count n (parent_of f n) ≡ entered none value (count + 1) n (parent_of f n)
+unwanted-more f none value wanted count n unwanted = by (parent_of f n)
   where
-    by : (o : Option ℕ) → owned wanted o ≡ true → written t from_end f count n o ≡ written t from_end f (count + 1) n o
+    by : (o : Option ℕ) → owned wanted o ≡ true → entered none value count n o ≡ entered none value (count + 1) n o
     by None own = refl
     by (Some p) own =
         elim (cases_order p count) [
@@ -167,11 +169,63 @@ pub place-same : (t u : ℕ → Bool) → ((n : ℕ) → t n ≡ u n) → (from_
     → place_of t from_end f n ≡ place_of u from_end f n
 place-same t u same from_end f n = ap (λ (l : List ℕ). suc (length l)) (filter-same t u same (nodes_beside from_end f n))
 
--- one of a list passes where the place after it is not the first
-pub any-place : (t : ℕ → Bool) (ns : List ℕ) → list_any t ns ≡ nat_lt 1 (suc (length (filter t ns)))
-any-place t [] = refl
-any-place t (n ∷ ns) =
-    elim (cases_Bool (t n)) [
-      | inl passes ↦ rw passes (sym (lt-ltb 1 _ (omega arith)))
-      | inr fails ↦ rw fails (any-place t ns)
+-- SOME BEFORE, SOME AFTER
+
+or-false : (b : Bool) → b ≡ (b || false)
+or-false true = refl
+or-false false = refl
+
+or-regroup : (a b c : Bool) → ((a || b) || c) ≡ (a || (b || c))
+or-regroup true b c = refl
+or-regroup false b c = refl
+
+-- what is written down in the end, once `seen` says whether one of those that are done passes
+abbrev pub some_before : (ℕ → Bool) → Bool → List ℕ → List Bool → ℕ → Bool
+some_before t seen ns beside n = cond (is_among n ns) (seen || list_any t (those_before n ns)) (at beside n)
+
+pub before-step : (t : ℕ → Bool) (seen : Bool) (m : ℕ) (ns : List ℕ) (beside : List Bool) → IsDistinct (m ∷ ns) → m < length beside
+    → (n : ℕ) → some_before t (seen || t m) ns (set beside m seen) n ≡ some_before t seen (m ∷ ns) beside n
+before-step t seen m ns beside once there n =
+    elim (cases_eq n m) [
+      | inl same ↦ rw (same, once.0, eq-eqb m m refl, get_or-set_same beside m seen false there) (or-false seen)
+      | inr other ↦ rw (ne_eqb n m other, ne_eqb m n (λ e. other (sym e)), get_or-set_other beside m n seen false other)
+          (ap (λ b. cond (is_among n ns) b (at beside n)) (or-regroup seen (t m) (list_any t (those_before n ns))))
     ]
+
+abbrev pub some_after : (ℕ → Bool) → List ℕ → List Bool → ℕ → Bool
+some_after t ns beside n = cond (is_among n ns) (list_any t (those_after n ns)) (at beside n)
+
+pub after-step : (t : ℕ → Bool) (left : ℕ) (m : ℕ) (ns : List ℕ) (beside : List Bool) → left ≡ length (filter t ns) → IsDistinct (m ∷ ns)
+    → m < length beside → (n : ℕ) → some_after t ns (set beside m (nat_lt 0 left)) n ≡ some_after t (m ∷ ns) beside n
+after-step t left m ns beside e once there n =
+    elim (cases_eq n m) [
+      | inl same ↦ rw (same, once.0, eq-eqb m m refl, get_or-set_same beside m (nat_lt 0 left) false there)
+          (ap (nat_lt 0) e ∙ sym (any-count t ns))
+      | inr other ↦ rw (ne_eqb n m other, get_or-set_other beside m n (nat_lt 0 left) false other) refl
+    ]
+  where
+    any-count : (t : ℕ → Bool) (ns : List ℕ) → list_any t ns ≡ nat_lt 0 (length (filter t ns))
+    any-count t [] = refl
+    any-count t (n ∷ ns) =
+        elim (cases_Bool (t n)) [
+          | inl passes ↦ rw passes (sym (lt-ltb 0 _ (omega arith)))
+          | inr fails ↦ rw fails (any-count t ns)
+        ]
+
+-- whether some of the nodes beside a node pass
+abbrev pub any_beside : (ℕ → Bool) → Bool → Forest → ℕ → Bool
+any_beside t from_end f n = list_any t (nodes_beside from_end f n)
+
+-- the children of one parent more are done
+pub any-more : (f : Forest) → IsForest f → (t : ℕ → Bool) (from_end : Bool) (count n : ℕ) (old : Bool)
+    → old ≡ entered false (any_beside t from_end f) count n (parent_of f n)
+    → cond (is_among n (children_of f count)) (any_among t from_end n (children_of f count)) old
+    ≡ entered false (any_beside t from_end f) (count + 1) n (parent_of f n)
+any-more f is t from_end count n old is_old =
+    ap (λ b. cond (is_among n (children_of f count)) (any_among t from_end n (children_of f count)) b) is_old
+    ∙ entered-more f is false (any_beside t from_end f) count n (any_among t from_end n (children_of f count))
+    (λ e. sym (ap (λ (o : Option ℕ). any_among t from_end n (children_under f o)) e))
+
+pub any-alone : (t : ℕ → Bool) (from_end : Bool) (f : Forest) (n : ℕ) → parent_of f n ≡ None → any_beside t from_end f n ≡ false
+any-alone t true f n e = rw e refl
+any-alone t false f n e = rw e refl

@@ -120,23 +120,23 @@ kind-alone kind true f n e = rw e refl
 kind-alone kind false f n e = rw e refl
 
 pub firsts-more : (f : Forest) → IsForest f → (kind : ℕ → ℕ) (count n old : ℕ)
-    → old ≡ entered (kind_place kind false f) count n (parent_of f n)
+    → old ≡ entered 1 (kind_place kind false f) count n (parent_of f n)
     → cond (is_among n (children_of f count)) (suc (count_kind kind (kind n) (those_before n (children_of f count)))) old
-    ≡ entered (kind_place kind false f) (count + 1) n (parent_of f n)
+    ≡ entered 1 (kind_place kind false f) (count + 1) n (parent_of f n)
 firsts-more f is kind count n old e =
     let place = suc (count_kind kind (kind n) (those_before n (children_of f count))) in
     ap (λ k. cond (is_among n (children_of f count)) place k) e
-    ∙ entered-more f is (kind_place kind false f) count n place
+    ∙ entered-more f is 1 (kind_place kind false f) count n place
     (λ h. sym (ap (λ (o : Option ℕ). suc (count_kind kind (kind n) (those_before n (children_under f o)))) h))
 
 pub lasts-more : (f : Forest) → IsForest f → (kind : ℕ → ℕ) (count n old : ℕ)
-    → old ≡ entered (kind_place kind true f) count n (parent_of f n)
+    → old ≡ entered 1 (kind_place kind true f) count n (parent_of f n)
     → cond (is_among n (children_of f count)) (suc (count_kind kind (kind n) (those_after n (children_of f count)))) old
-    ≡ entered (kind_place kind true f) (count + 1) n (parent_of f n)
+    ≡ entered 1 (kind_place kind true f) (count + 1) n (parent_of f n)
 lasts-more f is kind count n old e =
     let place = suc (count_kind kind (kind n) (those_after n (children_of f count))) in
     ap (λ k. cond (is_among n (children_of f count)) place k) e
-    ∙ entered-more f is (kind_place kind true f) count n place
+    ∙ entered-more f is 1 (kind_place kind true f) count n place
     (λ h. sym (ap (λ (o : Option ℕ). suc (count_kind kind (kind n) (those_after n (children_under f o)))) h))
 
 counts-name : (f : Forest) (o : Option QualName) → is_some o ≡ true → (m : ℕ) → have_same_name o (name_at f m) ≡ counts f o m

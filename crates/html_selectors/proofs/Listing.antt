@@ -1,23 +1,37 @@
--- All nodes of a forest in tree order: each is there, after its parent and before its children.
+-- The elements of a forest and the nodes that have children, in tree order: each is there, after its parent and before its children.
 use Rattle.std.proofs.Common.{◌≡◌, ◌∙◌, ◌⊎◌, ◌+◌, ◌-◌, ◌<◌, ◌≤◌, ℕ, zero, suc, Bool, true, false, List, [], ◌∷◌, ◌++◌, length}
 use Rattle.std.proofs.Common.{Option, Some, None, inl, inr, refl, ap, arith, subst, sym, take, drop}
 use Rattle.std.proofs.Math.ListN.{get_or}
-use Rattle.std.specs.Prelude.{cond, filter, is_none, is_some, not}
+use Rattle.std.specs.Prelude.{◌||◌, cond, filter, is_none, is_some, not}
 use Rattle.std.specs.List.{range_with_len}
-use Rattle.std.proofs.lemmas.Bool.{cases_Bool, lt-ltb}
+use Rattle.std.proofs.lemmas.Bool.{cases_Bool, cases_eq, lt-ltb}
 use Rattle.std.proofs.lemmas.List.{append-nil, append_assoc, drop_more, nil_from_length, take_all, take_more}
 use Rattle.markup.specs.Forest.{Forest, IsForest, children_of, is_among, node_count, parent_of}
-use Rattle.markup.proofs.Children.{is_among-append_right}
+use Rattle.markup.proofs.Children.{is_among-append_right, is_among-push_other, is_among-push_same}
 use Rattle.markup.proofs.Forests.{IsParent-from_child}
+use Rattle.markup.proofs.Parents.{is_among-parent}
 use Rattle.markup.proofs.WholeTrees.{among-first, among-later}
 use Rattle.html_nodes.specs.Below.{IsBelow, below, each_with_below, is_on}
 use Rattle.html_nodes.specs.Below.IsBelow.{child, deeper}
 use Rattle.html_nodes.proofs.Distinct.{among-below, listed}
 use Rattle.html_nodes.proofs.Levels.{below-children}
-use Rattle.html_selector_matching.specs.Around.{above, line}
+use Rattle.html_selector_matching.specs.Around.{above, is_element, line}
 use Rattle.html_selector_matching.proofs.Lines.{below-more, below-node, line-some}
-use Rattle.html_selectors.specs.Order.{BeginsWith, in_tree_order, is_root, roots}
+use Rattle.html_forest.specs.Links.{first_of}
+use Rattle.html_selectors.specs.Order.{BeginsWith, in_tree_order, inner_below, is_inner, is_root, roots}
 use Rattle.html_selectors.proofs.Lists.{among-filter, among-left, among-range, each-all, each-among, filter-among, range-among}
+
+-- a node that has a child is listed
+pub parent-inner : (f : Forest) (n p : ℕ) → parent_of f n ≡ Some p → is_inner f p ≡ true
+parent-inner f n p e = or-right (is_element f p) _ (some-first (children_of f p) n (is_among-parent f n p e))
+  where
+    or-right : (a b : Bool) → b ≡ true → (a || b) ≡ true
+    or-right true b h = refl
+    or-right false b h = h
+
+    some-first : (ns : List ℕ) (n : ℕ) → is_among n ns ≡ true → is_some (first_of ns) ≡ true
+    some-first [] n h = absurd (cc)
+    some-first (m ∷ ms) n h = refl
 
 -- PARENTS COME FIRST
 
@@ -61,10 +75,52 @@ root-none : (o : Option ℕ) (done : List ℕ) → is_none o ≡ true → is_on 
 root-none None done h = refl
 root-none (Some p) done h = absurd (cc)
 
+-- also where leaves are left out
+on-kept : (f : Forest) (keep : ℕ → Bool) → ((n p : ℕ) → parent_of f n ≡ Some p → keep p ≡ true) → (n : ℕ) (done kept : List ℕ)
+    → ((q : ℕ) → is_among q done ≡ true → keep q ≡ true → is_among q kept ≡ true)
+    → is_on (parent_of f n) done ≡ true → is_on (parent_of f n) kept ≡ true
+on-kept f keep parents n done kept all h = by (parent_of f n) refl h
+  where
+    by : (o : Option ℕ) → parent_of f n ≡ o → is_on o done ≡ true → is_on o kept ≡ true
+    by None e h = refl
+    by (Some p) e h = all p h (parents n p e)
+
+kept-more : (keep : ℕ → Bool) (n : ℕ) (done kept : List ℕ)
+    → ((q : ℕ) → is_among q done ≡ true → keep q ≡ true → is_among q kept ≡ true)
+    → (q : ℕ) → is_among q (done ++ n ∷ []) ≡ true → keep q ≡ true → is_among q (kept ++ n ∷ []) ≡ true
+kept-more keep n done kept all q h k =
+    elim (cases_eq q n) [
+      | inl same ↦ rw (same, is_among-push_same n kept) refl
+      | inr other ↦ is_among-push_other q n kept other ∙ all q (sym (is_among-push_other q n done other) ∙ h) k
+    ]
+
+left-out : (keep : ℕ → Bool) (n : ℕ) (done kept : List ℕ) → keep n ≡ false
+    → ((q : ℕ) → is_among q done ≡ true → keep q ≡ true → is_among q kept ≡ true)
+    → (q : ℕ) → is_among q (done ++ n ∷ []) ≡ true → keep q ≡ true → is_among q kept ≡ true
+left-out keep n done kept leaf all q h k =
+    elim (cases_eq q n) [
+      | inl same ↦ absurd (let no : keep q ≡ false = ap keep same ∙ leaf in cc)
+      | inr other ↦ all q (sym (is_among-push_other q n done other) ∙ h) k
+    ]
+
+first-filter : (f : Forest) (keep : ℕ → Bool) → ((n p : ℕ) → parent_of f n ≡ Some p → keep p ≡ true) → (ns done kept : List ℕ)
+    → ((q : ℕ) → is_among q done ≡ true → keep q ≡ true → is_among q kept ≡ true)
+    → ParentsFirst f done ns → ParentsFirst f kept (filter keep ns)
+first-filter f keep parents [] done kept all h = tt
+first-filter f keep parents (n ∷ ns) done kept all h =
+    elim (cases_Bool (keep n)) [
+      | inl inner ↦ rw inner (
+        on-kept f keep parents n done kept all h.0,
+        first-filter f keep parents ns (done ++ n ∷ []) (kept ++ n ∷ []) (kept-more keep n done kept all) h.1,
+      )
+      | inr leaf ↦ rw leaf (first-filter f keep parents ns (done ++ n ∷ []) kept (left-out keep n done kept leaf all) h.1)
+    ]
+
 first-order : (f : Forest) → IsForest f → ParentsFirst f [] (in_tree_order f)
 unfolding in_tree_order
 first-order f is =
-    first-each f (below f) (roots f) [] (λ n h done among. first-below f is (length (below f n)) n (omega arith) done among)
+    first-each f (inner_below f) (roots f) [] (λ n h done among. first-filter f (is_inner f) (parent-inner f) (below f n) done done
+    (λ q a k. a) (first-below f is (length (below f n)) n (omega arith) done among))
     (λ n h. root-none (parent_of f n) [] (filter-among (is_root f) n (range_with_len 0 (node_count f)) h).1)
 
 parent-at : (f : Forest) (ns done : List ℕ) → ParentsFirst f done ns → (i n : ℕ) → i < length ns → n ≡ get_or ns i n
@@ -84,47 +140,64 @@ parent-before f is order e i n there at-n =
 
 -- CHILDREN COME LATER
 
-abbrev ChildrenLater : Forest → List ℕ → Type 0
-ChildrenLater f [] = Unit {0}
-ChildrenLater f (n ∷ ns) = ((c : ℕ) → is_among c (children_of f n) ≡ true → is_among c ns ≡ true) × ChildrenLater f ns
+-- those of the children that pass a test
+abbrev ChildrenLater : Forest → (ℕ → Bool) → List ℕ → Type 0
+ChildrenLater f keep [] = Unit {0}
+ChildrenLater f keep (n ∷ ns) =
+    ((c : ℕ) → is_among c (children_of f n) ≡ true → keep c ≡ true → is_among c ns ≡ true) × ChildrenLater f keep ns
 
-later-append : (f : Forest) (xs ys : List ℕ) → ChildrenLater f xs → ChildrenLater f ys → ChildrenLater f (xs ++ ys)
-later-append f [] ys h k = k
-later-append f (x ∷ xs) ys h k = (λ c a. among-left c xs ys (h.0 c a), later-append f xs ys h.1 k)
+later-append : (f : Forest) (keep : ℕ → Bool) (xs ys : List ℕ) → ChildrenLater f keep xs → ChildrenLater f keep ys
+    → ChildrenLater f keep (xs ++ ys)
+later-append f keep [] ys h k = k
+later-append f keep (x ∷ xs) ys h k = (λ c a w. among-left c xs ys (h.0 c a w), later-append f keep xs ys h.1 k)
 
-later-each : (f : Forest) (g : ℕ → List ℕ) (ns : List ℕ) → ((n : ℕ) → is_among n ns ≡ true → ChildrenLater f (g n))
-    → ((n c : ℕ) → is_among c (children_of f n) ≡ true → is_among c (g n) ≡ true) → ChildrenLater f (each_with_below g ns)
-later-each f g [] inside down = tt
-later-each f g (n ∷ ns) inside down =
-    later-append f (n ∷ g n) (each_with_below g ns) (down n, inside n (among-first n ns))
-    (later-each f g ns (λ m h. inside m (among-later m n ns h)) down)
+later-each : (f : Forest) (keep : ℕ → Bool) (g : ℕ → List ℕ) (ns : List ℕ)
+    → ((n : ℕ) → is_among n ns ≡ true → ChildrenLater f keep (g n))
+    → ((n c : ℕ) → is_among c (children_of f n) ≡ true → keep c ≡ true → is_among c (g n) ≡ true)
+    → ChildrenLater f keep (each_with_below g ns)
+later-each f keep g [] inside down = tt
+later-each f keep g (n ∷ ns) inside down =
+    later-append f keep (n ∷ g n) (each_with_below g ns) (down n, inside n (among-first n ns))
+    (later-each f keep g ns (λ m h. inside m (among-later m n ns h)) down)
+
+later-filter : (f : Forest) (keep : ℕ → Bool) (ns : List ℕ) → ChildrenLater f keep ns → ChildrenLater f keep (filter keep ns)
+later-filter f keep [] h = tt
+later-filter f keep (n ∷ ns) h =
+    elim (cases_Bool (keep n)) [
+      | inl inner ↦ rw inner ((λ c a w. among-filter keep c ns (h.0 c a w) w), later-filter f keep ns h.1)
+      | inr leaf ↦ rw leaf (later-filter f keep ns h.1)
+    ]
 
 child-below : (f : Forest) → IsForest f → (n c : ℕ) → is_among c (children_of f n) ≡ true → is_among c (below f n) ≡ true
 child-below f is n c h = listed f is n c (child (is.one_parent n c h))
 
-later-below : (f : Forest) → IsForest f → (k n : ℕ) → length (below f n) ≤ k → ChildrenLater f (below f n)
-later-below f is zero n few = subst (ChildrenLater f) (sym (nil_from_length (below f n) (omega (arith, few)))) tt
-later-below f is (suc k) n few =
-    subst (ChildrenLater f) (sym (below-children f is n))
-    (later-each f (below f) (children_of f n)
-    (λ c among. later-below f is k c (let less = below-more f is c n (is.one_parent n c among) in omega (arith, less, few)))
-    (child-below f is))
+later-below : (f : Forest) → IsForest f → (keep : ℕ → Bool) (k n : ℕ) → length (below f n) ≤ k → ChildrenLater f keep (below f n)
+later-below f is keep zero n few = subst (ChildrenLater f keep) (sym (nil_from_length (below f n) (omega (arith, few)))) tt
+later-below f is keep (suc k) n few =
+    subst (ChildrenLater f keep) (sym (below-children f is n))
+    (later-each f keep (below f) (children_of f n)
+    (λ c among. later-below f is keep k c (let less = below-more f is c n (is.one_parent n c among) in omega (arith, less, few)))
+    (λ m c a w. child-below f is m c a))
 
-later-order : (f : Forest) → IsForest f → ChildrenLater f (in_tree_order f)
+later-order : (f : Forest) → IsForest f → ChildrenLater f (is_inner f) (in_tree_order f)
 unfolding in_tree_order
-later-order f is = later-each f (below f) (roots f) (λ n h. later-below f is (length (below f n)) n (omega arith)) (child-below f is)
+later-order f is =
+    later-each f (is_inner f) (inner_below f) (roots f)
+    (λ n h. later-filter f (is_inner f) (below f n) (later-below f is (is_inner f) (length (below f n)) n (omega arith)))
+    (λ n c a w. among-filter (is_inner f) c (below f n) (child-below f is n c a) w)
 
-children-at : (f : Forest) (ns : List ℕ) → ChildrenLater f ns → (i n : ℕ) → i < length ns → n ≡ get_or ns i n
-    → (c : ℕ) → is_among c (children_of f n) ≡ true → is_among c (drop (suc i) ns) ≡ true
-children-at f [] later i n there is c h = absurd (omega (arith, there))
-children-at f (m ∷ ms) later zero n there is c h = later.0 c (rw is at h)
-children-at f (m ∷ ms) later (suc i) n there is c h = children-at f ms later.1 i n (omega (arith, there)) is c h
+children-at : (f : Forest) (keep : ℕ → Bool) (ns : List ℕ) → ChildrenLater f keep ns → (i n : ℕ) → i < length ns → n ≡ get_or ns i n
+    → (c : ℕ) → is_among c (children_of f n) ≡ true → keep c ≡ true → is_among c (drop (suc i) ns) ≡ true
+children-at f keep [] later i n there is c h w = absurd (omega (arith, there))
+children-at f keep (m ∷ ms) later zero n there is c h w = later.0 c (rw is at h) w
+children-at f keep (m ∷ ms) later (suc i) n there is c h w = children-at f keep ms later.1 i n (omega (arith, there)) is c h w
 
--- the children of a node come after it
+-- the children of a node come after it, if they are listed
 pub children-after : (f : Forest) → IsForest f → (order : List ℕ) → order ≡ in_tree_order f → (i n : ℕ) → i < length order
-    → n ≡ get_or order i n → (c : ℕ) → is_among c (children_of f n) ≡ true → is_among c (drop (suc i) order) ≡ true
-children-after f is order e i n there at-n c h =
-    children-at f order (subst (ChildrenLater f) (sym e) (later-order f is)) i n there at-n c h
+    → n ≡ get_or order i n → (c : ℕ) → is_among c (children_of f n) ≡ true → is_inner f c ≡ true
+    → is_among c (drop (suc i) order) ≡ true
+children-after f is order e i n there at-n c h w =
+    children-at f (is_inner f) order (subst (ChildrenLater f (is_inner f)) (sym e) (later-order f is)) i n there at-n c h w
 
 -- EACH NODE IS THERE
 
@@ -162,24 +235,27 @@ has-root f is [] n there e = root-by f is [] n there e (λ p ms m h. absurd (no-
 has-root f is (k ∷ ks) n there e =
     root-by f is (k ∷ ks) n there e (λ p ms m h up line. has-root f is ks p up (line ∙ sym (tails h))) (parent_of f n) refl
 
--- each node is listed
-pub all-listed : (f : Forest) → IsForest f → (n : ℕ) → n < node_count f → is_among n (in_tree_order f) ≡ true
+-- each of them is listed
+pub all-listed : (f : Forest) → IsForest f → (n : ℕ) → n < node_count f → is_inner f n ≡ true → is_among n (in_tree_order f) ≡ true
 unfolding in_tree_order
-all-listed f is n there =
+all-listed f is n there inner =
     let up = has-root f is (above f n) n there refl in
-    each-among (below f) (roots f) up.root n
+    each-among (inner_below f) (roots f) up.root n
     (among-filter (is_root f) up.root (range_with_len 0 (node_count f))
     (among-range up.root 0 (node_count f) (omega arith) (omega (arith, up.there))) (ap is_none up.top))
-    (elim up.is [ inl same ↦ inl same | inr under ↦ inr (listed f is up.root n under) ])
+    (elim up.is [
+      | inl same ↦ inl same
+      | inr under ↦ inr (among-filter (is_inner f) n (below f up.root) (listed f is up.root n under) inner)
+    ])
 
 -- and nothing else
 pub listed-node : (f : Forest) → IsForest f → (n : ℕ) → is_among n (in_tree_order f) ≡ true → n < node_count f
 unfolding in_tree_order
 listed-node f is n h =
-    each-all (λ m. m < node_count f) (below f) (roots f)
+    each-all (λ m. m < node_count f) (inner_below f) (roots f)
     (λ r a. let less = range-among r 0 (node_count f)
     (filter-among (is_root f) r (range_with_len 0 (node_count f)) a).0 in omega (arith, less))
-    (λ r m a b. below-node f is r m (among-below f is r m b)) n h
+    (λ r m a b. below-node f is r m (among-below f is r m (filter-among (is_inner f) m (below f r) b).0)) n h
 
 among-at : (ns : List ℕ) (i n : ℕ) → i < length ns → n ≡ get_or ns i n → is_among n ns ≡ true
 among-at [] i n there is = absurd (omega (arith, there))
@@ -212,39 +288,40 @@ none-by (Some n) false h = refl
 
 -- a root and what stands below it comes next
 pub root-next : (f : Forest) (order : List ℕ) (a n : ℕ) → a < n → is_root f a ≡ true
-    → (order ++ a ∷ below f a) ++ each_with_below (below f) (filter (is_root f) (range_with_len (a + 1) (n - (a + 1))))
-    ≡ order ++ each_with_below (below f) (filter (is_root f) (range_with_len a (n - a)))
+    → (order ++ a ∷ inner_below f a) ++ each_with_below (inner_below f) (filter (is_root f) (range_with_len (a + 1) (n - (a + 1))))
+    ≡ order ++ each_with_below (inner_below f) (filter (is_root f) (range_with_len a (n - a)))
 root-next f order a n less is =
     let rest = range_with_len (a + 1) (n - (a + 1)) in
-    append_assoc order (a ∷ below f a) (each_with_below (below f) (filter (is_root f) rest))
-    ∙ ap (λ (l : List ℕ). order ++ each_with_below (below f) l)
+    append_assoc order (a ∷ inner_below f a) (each_with_below (inner_below f) (filter (is_root f) rest))
+    ∙ ap (λ (l : List ℕ). order ++ each_with_below (inner_below f) l)
     (sym (ap (filter (is_root f)) (range-next a n less) ∙ ap (λ b. cond b (a ∷ filter (is_root f) rest) (filter (is_root f) rest)) is))
 
 pub other-next : (f : Forest) (order : List ℕ) (a n : ℕ) → a < n → is_root f a ≡ false
-    → order ++ each_with_below (below f) (filter (is_root f) (range_with_len (a + 1) (n - (a + 1))))
-    ≡ order ++ each_with_below (below f) (filter (is_root f) (range_with_len a (n - a)))
+    → order ++ each_with_below (inner_below f) (filter (is_root f) (range_with_len (a + 1) (n - (a + 1))))
+    ≡ order ++ each_with_below (inner_below f) (filter (is_root f) (range_with_len a (n - a)))
 other-next f order a n less is =
     let rest = range_with_len (a + 1) (n - (a + 1)) in
-    ap (λ (l : List ℕ). order ++ each_with_below (below f) l)
+    ap (λ (l : List ℕ). order ++ each_with_below (inner_below f) l)
     (sym (ap (filter (is_root f)) (range-next a n less) ∙ ap (λ b. cond b (a ∷ filter (is_root f) rest) (filter (is_root f) rest)) is))
 
 pub roots-all : (f : Forest) (n : ℕ) → n ≡ node_count f
-    → each_with_below (below f) (filter (is_root f) (range_with_len 0 (n - 0))) ≡ in_tree_order f
+    → each_with_below (inner_below f) (filter (is_root f) (range_with_len 0 (n - 0))) ≡ in_tree_order f
 unfolding in_tree_order
 roots-all f n e =
-    ap (λ k. each_with_below (below f) (filter (is_root f) (range_with_len 0 k))) (let s : n - 0 ≡ node_count f = omega (arith, e) in s)
+    ap (λ k. each_with_below (inner_below f) (filter (is_root f) (range_with_len 0 k)))
+    (let s : n - 0 ≡ node_count f = omega (arith, e) in s)
 
 -- the document comes first, where it has no parent
-pub begins-first : (f : Forest) (order : List ℕ) → order ≡ cond (is_root f 0) (0 ∷ below f 0) [] → BeginsWith f (length order) order
+pub begins-first : (f : Forest) (order : List ℕ) → order ≡ cond (is_root f 0) (0 ∷ inner_below f 0) [] → BeginsWith f (length order) order
 begins-first f order e =
     elim (cases_Bool (is_root f 0)) [
-      | inl root ↦ first order (e ∙ ap (λ b. cond b (0 ∷ below f 0) []) root)
-      | inr other ↦ none order (e ∙ ap (λ b. cond b (0 ∷ below f 0) []) other)
+      | inl root ↦ first order (e ∙ ap (λ b. cond b (0 ∷ inner_below f 0) []) root)
+      | inr other ↦ none order (e ∙ ap (λ b. cond b (0 ∷ inner_below f 0) []) other)
     ]
   where
-    first : (order : List ℕ) → order ≡ 0 ∷ below f 0 → BeginsWith f (length order) order
-    first order e = rw e (take_all (length (0 ∷ below f 0)) (0 ∷ below f 0) (omega arith)
-        ∙ sym (ap (λ b. cond b (0 ∷ below f 0) []) (lt-ltb 0 (length (0 ∷ below f 0)) (omega arith))))
+    first : (order : List ℕ) → order ≡ 0 ∷ inner_below f 0 → BeginsWith f (length order) order
+    first order e = rw e (take_all (length (0 ∷ inner_below f 0)) (0 ∷ inner_below f 0) (omega arith)
+        ∙ sym (ap (λ b. cond b (0 ∷ inner_below f 0) []) (lt-ltb 0 (length (0 ∷ inner_below f 0)) (omega arith))))
 
     none : (order : List ℕ) → order ≡ [] → BeginsWith f (length order) order
     none order e = rw e refl
@@ -259,15 +336,15 @@ pub begins-more : (f : Forest) (first : ℕ) (order more : List ℕ) → first �
 begins-more f first order more within h = take-within first order more within ∙ h
 
 pub all-roots : (f : Forest) → IsForest f → (order : List ℕ) (count : ℕ) → count ≡ node_count f
-    → order ≡ cond (is_root f 0) (0 ∷ below f 0) []
-    → order ++ each_with_below (below f) (filter (is_root f) (range_with_len 1 (count - 1))) ≡ in_tree_order f
+    → order ≡ cond (is_root f 0) (0 ∷ inner_below f 0) []
+    → order ++ each_with_below (inner_below f) (filter (is_root f) (range_with_len 1 (count - 1))) ≡ in_tree_order f
 all-roots f is order count all e =
     let some : 0 < count = let d = is.document in omega (arith, d, all) in
     elim (cases_Bool (is_root f 0)) [
-      | inl root ↦ ap (λ (l : List ℕ). l ++ each_with_below (below f) (filter (is_root f) (range_with_len 1 (count - 1))))
-          (e ∙ ap (λ b. cond b (0 ∷ below f 0) []) root) ∙ (root-next f [] 0 count some root ∙ roots-all f count all)
-      | inr other ↦ ap (λ (l : List ℕ). l ++ each_with_below (below f) (filter (is_root f) (range_with_len 1 (count - 1))))
-          (e ∙ ap (λ b. cond b (0 ∷ below f 0) []) other) ∙ (other-next f [] 0 count some other ∙ roots-all f count all)
+      | inl root ↦ ap (λ (l : List ℕ). l ++ each_with_below (inner_below f) (filter (is_root f) (range_with_len 1 (count - 1))))
+          (e ∙ ap (λ b. cond b (0 ∷ inner_below f 0) []) root) ∙ (root-next f [] 0 count some root ∙ roots-all f count all)
+      | inr other ↦ ap (λ (l : List ℕ). l ++ each_with_below (inner_below f) (filter (is_root f) (range_with_len 1 (count - 1))))
+          (e ∙ ap (λ b. cond b (0 ∷ inner_below f 0) []) other) ∙ (other-next f [] 0 count some other ∙ roots-all f count all)
     ]
 
 pub drop-all : (k : ℕ) (ns : List ℕ) → length ns ≤ k → drop k ns ≡ []
@@ -278,11 +355,11 @@ drop-all (suc k) (n ∷ ns) all = drop-all k ns (omega (arith, all))
 
 -- what comes after the document
 pub behind-first : (f : Forest) (first : ℕ) (order nodes : List ℕ) → BeginsWith f first order → 1 ≤ first
-    → nodes ≡ take (first - 1) (drop 1 order) → nodes ≡ below f 0
+    → nodes ≡ take (first - 1) (drop 1 order) → nodes ≡ inner_below f 0
 behind-first f zero order nodes begins some e = absurd (omega (arith, some))
 behind-first f (suc k) order nodes begins some e =
-    e ∙ by order (begins ∙ ap (λ b. cond b (0 ∷ below f 0) []) (lt-ltb 0 (suc k) (omega arith)))
+    e ∙ by order (begins ∙ ap (λ b. cond b (0 ∷ inner_below f 0) []) (lt-ltb 0 (suc k) (omega arith)))
   where
-    by : (order : List ℕ) → take (suc k) order ≡ 0 ∷ below f 0 → take (suc k - 1) (drop 1 order) ≡ below f 0
+    by : (order : List ℕ) → take (suc k) order ≡ 0 ∷ inner_below f 0 → take (suc k - 1) (drop 1 order) ≡ inner_below f 0
     by [] h = absurd (no-line (sym h))
     by (x ∷ xs) h = ap (λ j. take j xs) (let less : suc k - 1 ≡ k = omega arith in less) ∙ tails h

@@ -1,7 +1,7 @@
 -- What is among lists, and what passes tests.
 use Rattle.std.proofs.Common.{◌≡◌, ◌∙◌, ◌⊎◌, ◌+◌, ◌<◌, ◌≤◌, ℕ, zero, suc, Bool, true, false, List, [], ◌∷◌, ◌++◌}
 use Rattle.std.proofs.Common.{inl, inr, refl, ap, arith, subst, sym}
-use Rattle.std.specs.Prelude.{◌||◌, filter}
+use Rattle.std.specs.Prelude.{◌||◌, cond, filter}
 use Rattle.std.specs.List.{find, list_any, range_with_len}
 use Rattle.std.proofs.lemmas.Bool.{cases_Bool, cases_eq, eq-eqb, ne_eqb}
 use Rattle.std.proofs.lemmas.List.Folds.{list_any-append}
@@ -105,6 +105,20 @@ any-same p q same ns = any-alike p q ns (λ n h. same n)
 pub filter-same : (p q : ℕ → Bool) → ((n : ℕ) → p n ≡ q n) → (ns : List ℕ) → filter p ns ≡ filter q ns
 filter-same p q same [] = refl
 filter-same p q same (n ∷ ns) = rw (same n, filter-same p q same ns) refl
+
+-- a test that is met only where another one is
+pub filter-filter : (p q : ℕ → Bool) → ((n : ℕ) → p n ≡ true → q n ≡ true) → (ns : List ℕ) → filter p (filter q ns) ≡ filter p ns
+filter-filter p q stricter [] = refl
+filter-filter p q stricter (n ∷ ns) =
+    elim (cases_Bool (q n)) [
+      | inl found ↦ rw found (ap (λ (l : List ℕ). cond (p n) (n ∷ l) l) (filter-filter p q stricter ns))
+      | inr out ↦
+          let fails : p n ≡ false = elim (cases_Bool (p n)) [
+            | inl passes ↦ absurd (let found = stricter n passes in cc)
+            | inr fails ↦ fails
+          ] in
+          rw (out, fails) (filter-filter p q stricter ns)
+    ]
 
 pub find-same : (p q : ℕ → Bool) → ((n : ℕ) → p n ≡ q n) → (ns : List ℕ) → find p ns ≡ find q ns
 find-same p q same [] = refl

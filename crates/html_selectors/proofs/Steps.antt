@@ -1,13 +1,14 @@
 -- What stands above and below nodes, step by step.
-use Rattle.std.proofs.Common.{◌≡◌, ◌∙◌, ◌+◌, ◌-◌, ◌<◌, ◌≤◌, ℕ, zero, suc, Bool, true, false, List, [], ◌∷◌, length}
+use Rattle.std.proofs.Common.{◌≡◌, ◌∙◌, ◌+◌, ◌-◌, ◌<◌, ◌≤◌, ℕ, zero, suc, Bool, true, false, List, [], ◌∷◌, ◌++◌, length}
 use Rattle.std.proofs.Common.{Option, Some, None}
 use Rattle.std.proofs.Common.{inl, inr, refl, ap, arith, drop, subst, sym, take}
 use Rattle.std.proofs.Math.ListN.{get_or, set}
 use Rattle.std.specs.Prelude.{◌&&◌, ◌||◌, is_some}
 use Rattle.std.specs.List.{list_any}
-use Rattle.std.proofs.lemmas.Bool.{cases_eq, cases_lt, eq-eqb, ne_eqb}
+use Rattle.std.proofs.lemmas.Bool.{cases_Bool, cases_eq, cases_lt, eq-eqb, ne_eqb}
 use Rattle.std.proofs.lemmas.List.{get_or-set_other, get_or-set_same, get_or_past, take_all}
 use Rattle.markup.specs.Forest.{Forest, IsForest, children_of, element_name, is_among, no_node, node_count, parent_of}
+use Rattle.markup.proofs.Children.{is_among-push_other}
 use Rattle.markup.proofs.Forests.{IsParent-from_child}
 use Rattle.markup.proofs.Parents.{is_among-parent}
 use Rattle.markup.proofs.WholeTrees.{among-first}
@@ -18,10 +19,11 @@ use Rattle.html_nodes.proofs.Levels.{below-children}
 use Rattle.html_selector_matching.specs.Around.{above, is_element, line, line_within, one_of}
 use Rattle.html_selector_matching.proofs.Lines.{line-none, line-some}
 use Rattle.html_selectors.specs.Columns.{at}
-use Rattle.html_selectors.specs.Order.{in_tree_order}
+use Rattle.html_forest.specs.Links.{first_of}
+use Rattle.html_selectors.specs.Order.{in_tree_order, is_inner}
 use Rattle.html_selectors.proofs.Lists.{any-alike, any-each}
 use Rattle.html_selectors.proofs.Marks.{and-false, mark-pass, mark-push, none-from}
-use Rattle.html_selectors.proofs.Listing.{all-listed, children-after, drop-next, in-range, parent-before, take-next}
+use Rattle.html_selectors.proofs.Listing.{all-listed, children-after, drop-next, in-range, parent-before, parent-inner, take-next}
 
 or-false : (b : Bool) → (b || false) ≡ b
 or-false true = refl
@@ -34,6 +36,24 @@ no-element f n past = ap (λ node. is_some (element_name node.about)) (get_or_pa
 no-children : (f : Forest) (n : ℕ) → node_count f ≤ n → children_of f n ≡ []
 no-children f n past = ap (λ node. node.children) (get_or_past f.nodes n no_node past)
 
+-- ELEMENTS AND NODES THAT HAVE CHILDREN
+
+pub element-inner : (f : Forest) (n : ℕ) → is_element f n ≡ true → is_inner f n ≡ true
+element-inner f n e = ap (λ b. b || is_some (first_of (children_of f n))) e
+
+pub element-there : (f : Forest) (n : ℕ) → is_element f n ≡ true → n < node_count f
+element-there f n e =
+    elim (cases_lt n (node_count f)) [
+      | inl less ↦ less
+      | inr past ↦ absurd (let none = no-element f n past in cc)
+    ]
+
+-- an element is listed
+pub element-listed : (f : Forest) → IsForest f → (order : List ℕ) → order ≡ in_tree_order f → (n : ℕ) → is_element f n ≡ true
+    → is_among n order ≡ true
+element-listed f is order e n h =
+    subst (λ (l : List ℕ). is_among n l ≡ true) (sym e) (all-listed f is n (element-there f n h) (element-inner f n h))
+
 -- ABOVE
 
 pub above-none : (f : Forest) (t : ℕ → Bool) (n : ℕ) → parent_of f n ≡ None → list_any t (above f n) ≡ false
@@ -43,14 +63,14 @@ pub above-some : (f : Forest) → IsForest f → (t : ℕ → Bool) (n p : ℕ) 
     → list_any t (above f n) ≡ (t p || list_any t (above f p))
 above-some f is t n p e = ap (λ (o : Option ℕ). list_any t (line f o)) e ∙ ap (list_any t) (line-some f is p)
 
--- a node that has a parent is listed
-pub above-listed : (f : Forest) → IsForest f → (t : ℕ → Bool) (n : ℕ)
+-- one that has a parent is listed
+above-listed : (f : Forest) → IsForest f → (t : ℕ → Bool) (n : ℕ) → is_inner f n ≡ true
     → (is_among n (in_tree_order f) && list_any t (above f n)) ≡ list_any t (above f n)
-above-listed f is t n = by (parent_of f n) refl
+above-listed f is t n inner = by (parent_of f n) refl
   where
     by : (o : Option ℕ) → parent_of f n ≡ o → (is_among n (in_tree_order f) && list_any t (above f n)) ≡ list_any t (above f n)
     by None e = rw (above-none f t n e) (and-false (is_among n (in_tree_order f)))
-    by (Some p) e = rw (all-listed f is n (is.in_range p n (is_among-parent f n p e))) refl
+    by (Some p) e = rw (all-listed f is n (is.in_range p n (is_among-parent f n p e)) inner) refl
 
 -- what is known of a candidate whose parent is done
 under-value : (f : Forest) → IsForest f → (t w : ℕ → Bool) (c : List Bool) (done : List ℕ) (n : ℕ)
@@ -96,13 +116,14 @@ and-past a false b h = and-false a
 
 pub under-all : (f : Forest) → IsForest f → (order : List ℕ) → order ≡ in_tree_order f → (t w : ℕ → Bool) (c : List Bool) (i : ℕ)
     → length order ≤ i → ((m : ℕ) → at c m ≡ (is_among m (take i order) && (w m && list_any t (above f m))))
-    → (m : ℕ) → at c m ≡ (w m && list_any t (above f m))
-under-all f is order e t w c i all marked m =
+    → (m : ℕ) → is_inner f m ≡ true → at c m ≡ (w m && list_any t (above f m))
+under-all f is order e t w c i all marked m inner =
     marked m ∙ (ap (λ (l : List ℕ). is_among m l && (w m && list_any t (above f m))) (take_all i order all ∙ e)
-    ∙ and-past (is_among m (in_tree_order f)) (w m) (list_any t (above f m)) (above-listed f is t m))
+    ∙ and-past (is_among m (in_tree_order f)) (w m) (list_any t (above f m)) (above-listed f is t m inner))
 
 -- what is known of a node whose ancestors are all candidates
-pub under-left : (f : Forest) → IsForest f → (t w u : ℕ → Bool) (n : ℕ) → ((m : ℕ) → u m ≡ (w m && list_any t (above f m)))
+pub under-left : (f : Forest) → IsForest f → (t w u : ℕ → Bool) (n : ℕ)
+    → ((m : ℕ) → is_inner f m ≡ true → u m ≡ (w m && list_any t (above f m)))
     → ((m : ℕ) → is_among m (above f n) ≡ true → w m ≡ true)
     → list_any (λ m. t m || u m) (one_of (parent_of f n)) ≡ list_any t (above f n)
 under-left f is t w u n told all = by (parent_of f n) refl
@@ -113,7 +134,8 @@ under-left f is t w u n told all = by (parent_of f n) refl
         let first : is_among p (above f n) ≡ true = subst (λ (l : List ℕ). is_among p l ≡ true)
         (sym (ap (λ (o : Option ℕ). line f o) e ∙ line-some f is p)) (among-first p (above f p)) in
         or-false (t p || u p)
-        ∙ (ap (λ b. t p || b) (told p ∙ ap (λ b. b && list_any t (above f p)) (all p first)) ∙ sym (above-some f is t n p e))
+        ∙ (ap (λ b. t p || b) (told p (parent-inner f n p e) ∙ ap (λ b. b && list_any t (above f p)) (all p first))
+        ∙ sym (above-some f is t n p e))
 
 -- BELOW
 
@@ -139,29 +161,28 @@ parent-marked f is c id p e there n =
     some-is h = cc
 
 -- the parents of those that are done are marked
-pub parents-step : (f : Forest) → IsForest f → (t : ℕ → Bool) (number : ℕ) (old new : List Bool)
-    → ((n p : ℕ) → n < number → t n ≡ true → parent_of f n ≡ Some p → at old p ≡ true)
-    → ((m : ℕ) → at new m ≡ (is_among number (children_of f m) || at old m))
-    → (n p : ℕ) → n < number + 1 → t n ≡ true → parent_of f n ≡ Some p → at new p ≡ true
-parents-step f is t number old new done more n p low h e =
-    elim (cases_lt n number) [
-      | inl less ↦ more p ∙ (ap (λ b. is_among number (children_of f p) || b) (done n p less h e) ∙ or-true (is_among number (children_of f p)))
-      | inr past ↦ let same : n ≡ number = omega (arith, low, past) in
-          more p ∙ ap (λ b. b || at old p) (is_among-parent f number p (ap (parent_of f) (sym same) ∙ e))
+pub parents-step : (f : Forest) → IsForest f → (t : ℕ → Bool) (done : List ℕ) (m : ℕ) (old new : List Bool)
+    → ((n p : ℕ) → is_among n done ≡ true → t n ≡ true → parent_of f n ≡ Some p → at old p ≡ true)
+    → ((k : ℕ) → at new k ≡ (is_among m (children_of f k) || at old k))
+    → (n p : ℕ) → is_among n (done ++ m ∷ []) ≡ true → t n ≡ true → parent_of f n ≡ Some p → at new p ≡ true
+parents-step f is t done m old new marked more n p among h e =
+    elim (cases_eq n m) [
+      | inl same ↦ more p ∙ ap (λ b. b || at old p) (is_among-parent f m p (ap (parent_of f) (sym same) ∙ e))
+      | inr other ↦ more p ∙ (ap (λ b. is_among m (children_of f p) || b)
+          (marked n p (sym (is_among-push_other n m done other) ∙ among) h e) ∙ or-true (is_among m (children_of f p)))
     ]
   where
     or-true : (b : Bool) → (b || true) ≡ true
     or-true true = refl
     or-true false = refl
 
-pub parents-pass : (f : Forest) (t : ℕ → Bool) (number : ℕ) (old : List Bool) → t number ≡ false
-    → ((n p : ℕ) → n < number → t n ≡ true → parent_of f n ≡ Some p → at old p ≡ true)
-    → (n p : ℕ) → n < number + 1 → t n ≡ true → parent_of f n ≡ Some p → at old p ≡ true
-parents-pass f t number old fails done n p low h e =
-    elim (cases_lt n number) [
-      | inl less ↦ done n p less h e
-      | inr past ↦ let same : n ≡ number = omega (arith, low, past) in
-          absurd (let yes : t number ≡ true = ap t (sym same) ∙ h in cc)
+pub parents-pass : (f : Forest) (t : ℕ → Bool) (done : List ℕ) (m : ℕ) (old : List Bool) → t m ≡ false
+    → ((n p : ℕ) → is_among n done ≡ true → t n ≡ true → parent_of f n ≡ Some p → at old p ≡ true)
+    → (n p : ℕ) → is_among n (done ++ m ∷ []) ≡ true → t n ≡ true → parent_of f n ≡ Some p → at old p ≡ true
+parents-pass f t done m old fails marked n p among h e =
+    elim (cases_eq n m) [
+      | inl same ↦ absurd (let no : t n ≡ false = ap t same ∙ fails in cc)
+      | inr other ↦ marked n p (sym (is_among-push_other n m done other) ∙ among) h e
     ]
 
 pub parent-none : (f : Forest) → IsForest f → (id n : ℕ) (b : Bool) → parent_of f id ≡ None → b ≡ (is_among id (children_of f n) || b)
@@ -196,27 +217,48 @@ done-more r n done (c ∷ cs) =
     fold true a d y = refl
     fold false a d y = ap (λ b. b || y) (and-false a ∙ sym (and-false d))
 
--- what is told of a node whose children are done
-over-value : (f : Forest) → IsForest f → (t : ℕ → Bool) (c : List Bool) (done : List ℕ) (n : ℕ)
-    → ((m : ℕ) → at c m ≡ over_done t f done m)
-    → ((m : ℕ) → is_among m (children_of f n) ≡ true → is_among m done ≡ true) → at c n ≡ list_any t (below f n)
-over-value f is t c done n marked all =
+-- one of a column of elements, or what is over one, is listed
+over-inner : (f : Forest) → IsForest f → (t : ℕ → Bool) → ((n : ℕ) → t n ≡ true → is_element f n ≡ true) → (n : ℕ)
+    → (t n || list_any t (below f n)) ≡ true → is_inner f n ≡ true
+over-inner f is t elements n h =
+    elim (cases_Bool (t n)) [
+      | inl own ↦ element-inner f n (elements n own)
+      | inr out ↦ by (children_of f n) refl (sym (below-any f is t n) ∙ (ap (λ b. b || list_any t (below f n)) (sym out) ∙ h))
+    ]
+  where
+    or-true : (b : Bool) → (b || true) ≡ true
+    or-true true = refl
+    or-true false = refl
+
+    by : (cs : List ℕ) → children_of f n ≡ cs → list_any (λ c. t c || list_any t (below f c)) (children_of f n) ≡ true → is_inner f n ≡ true
+    by [] e any = absurd (let none = ap (list_any (λ c. t c || list_any t (below f c))) e in cc)
+    by (c ∷ cs) e any = ap (λ (l : List ℕ). is_element f n || is_some (first_of l)) e ∙ or-true (is_element f n)
+
+-- what is told of a node whose children are done, if they are listed
+over-value : (f : Forest) → IsForest f → (t : ℕ → Bool) → ((n : ℕ) → t n ≡ true → is_element f n ≡ true) → (c : List Bool)
+    (done : List ℕ) (n : ℕ) → ((m : ℕ) → at c m ≡ over_done t f done m)
+    → ((m : ℕ) → is_among m (children_of f n) ≡ true → is_inner f m ≡ true → is_among m done ≡ true) → at c n ≡ list_any t (below f n)
+over-value f is t elements c done n marked all =
     marked n ∙ (any-alike (λ m. is_among m done && (t m || list_any t (below f m))) (λ m. t m || list_any t (below f m)) (children_of f n)
-    (λ m h. ap (λ b. b && (t m || list_any t (below f m))) (all m h))
+    (λ m h. given (is_among m done) (t m || list_any t (below f m)) (λ some. all m h (over-inner f is t elements m some)))
     ∙ sym (below-any f is t n))
+  where
+    given : (a b : Bool) → (b ≡ true → a ≡ true) → (a && b) ≡ b
+    given a true h = ap (λ x. x && true) (h refl)
+    given a false h = and-false a
 
 -- the next node back in tree order is done
-pub over-step : (f : Forest) → IsForest f → (order : List ℕ) → order ≡ in_tree_order f → (t : ℕ → Bool) (c : List Bool)
-    (left n : ℕ) (v : Bool) (new : List Bool)
+pub over-step : (f : Forest) → IsForest f → (order : List ℕ) → order ≡ in_tree_order f → (t : ℕ → Bool)
+    → ((n : ℕ) → t n ≡ true → is_element f n ≡ true) → (c : List Bool) (left n : ℕ) (v : Bool) (new : List Bool)
     → 0 < left → left ≤ length order → n ≡ get_or order (left - 1) n
     → ((m : ℕ) → at c m ≡ over_done t f (drop left order) m)
     → v ≡ (t n || at c n) → ((m : ℕ) → at new m ≡ ((is_among n (children_of f m) && v) || at c m))
     → (m : ℕ) → at new m ≡ over_done t f (drop (left - 1) order) m
-over-step f is order e t c left n v new some within at-n marked told more m =
+over-step f is order e t elements c left n v new some within at-n marked told more m =
     let there : left - 1 < length order = omega (arith, some, within) in
     let back : suc (left - 1) ≡ left = omega (arith, some) in
-    let value = told ∙ ap (λ b. t n || b) (over-value f is t c (drop left order) n marked
-    (λ k h. subst (λ j. is_among k (drop j order) ≡ true) back (children-after f is order e (left - 1) n there at-n k h))) in
+    let value = told ∙ ap (λ b. t n || b) (over-value f is t elements c (drop left order) n marked
+    (λ k h w. subst (λ j. is_among k (drop j order) ≡ true) back (children-after f is order e (left - 1) n there at-n k h w))) in
     more m ∙ (ap (λ b. (is_among n (children_of f m) && b) || at c m) value
     ∙ (ap (λ b. (is_among n (children_of f m) && (t n || list_any t (below f n))) || b) (marked m)
     ∙ (sym (done-more (λ k. t k || list_any t (below f k)) n (drop left order) (children_of f m))
@@ -229,11 +271,12 @@ over-none t f done m e = sym (ap (λ (l : List ℕ). over_done t f l m) e ∙ no
     none [] = refl
     none (c ∷ cs) = none cs
 
-pub over-all : (f : Forest) → IsForest f → (order : List ℕ) → order ≡ in_tree_order f → (t : ℕ → Bool) (c : List Bool)
+pub over-all : (f : Forest) → IsForest f → (order : List ℕ) → order ≡ in_tree_order f → (t : ℕ → Bool)
+    → ((n : ℕ) → t n ≡ true → is_element f n ≡ true) → (c : List Bool)
     → ((m : ℕ) → at c m ≡ over_done t f order m) → (m : ℕ) → at c m ≡ list_any t (below f m)
-over-all f is order e t c marked m =
-    over-value f is t c order m marked
-    (λ k h. subst (λ (l : List ℕ). is_among k l ≡ true) (sym e) (all-listed f is k (is.in_range m k h)))
+over-all f is order e t elements c marked m =
+    over-value f is t elements c order m marked
+    (λ k h w. subst (λ (l : List ℕ). is_among k l ≡ true) (sym e) (all-listed f is k (is.in_range m k h) w))
 
 pub and-true : (b : Bool) → (b && true) ≡ b
 and-true true = refl
@@ -293,8 +336,10 @@ over-above f is t n m h among =
 
 -- in a column of all nodes each is under what stands above it
 pub under-any : (f : Forest) → IsForest f → (t w u : ℕ → Bool) (o : Bool) (n : ℕ) → ((m : ℕ) → m < node_count f → w m ≡ true)
-    → u n ≡ (w n && list_any t (above f n)) → (o && u n) ≡ (o && list_any t (above f n))
-under-any f is t w u o n all told = ap (λ b. o && b) (told ∙ by (parent_of f n) refl)
+    → (o ≡ true → is_element f n ≡ true) → (is_inner f n ≡ true → u n ≡ (w n && list_any t (above f n)))
+    → (o && u n) ≡ (o && list_any t (above f n))
+under-any f is t w u false n all element told = refl
+under-any f is t w u true n all element told = told (element-inner f n (element refl)) ∙ by (parent_of f n) refl
   where
     by : (p : Option ℕ) → parent_of f n ≡ p → (w n && list_any t (above f n)) ≡ list_any t (above f n)
     by None e = ap (λ b. w n && b) (above-none f t n e) ∙ (and-false (w n) ∙ sym (above-none f t n e))

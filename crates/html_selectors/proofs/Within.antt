@@ -33,6 +33,21 @@ complex-element (Beside' p left combinator simples tests) f scope n =
     absorb-more (is_element f n) (list_all (is_simple f scope n) simples.items) (passes tests f scope n)
     (list_any (λ m. is_complex left f scope m) (left_of combinator f n))
 
+-- what goes on is an element
+pub goes-element : (r : Relative) (f : Forest) (scope n : ℕ) → goes_on r f scope n ≡ true → is_element f n ≡ true
+goes-element (To' combinator simples tests) f scope n h =
+    first (is_element f n) (list_all (is_simple f scope n) simples.items) (passes tests f scope n) h
+  where
+    first : (e a b : Bool) → ((e && a) && b) ≡ true → e ≡ true
+    first true a b h = refl
+    first false a b h = absurd (cc)
+goes-element (Then' combinator simples tests p rest) f scope n h =
+    first (is_element f n) (list_all (is_simple f scope n) simples.items) (passes tests f scope n) _ h
+  where
+    first : (e a b c : Bool) → (((e && a) && b) && c) ≡ true → e ≡ true
+    first true a b c h = refl
+    first false a b c h = absurd (cc)
+
 either-absorbs : (e a b : Bool) → (e && a) ≡ a → (e && b) ≡ b → (e && (a || b)) ≡ (a || b)
 either-absorbs true a b h k = refl
 either-absorbs false a b h k = ap (λ x. x || false) h ∙ ap (λ y. a || y) k
@@ -42,6 +57,14 @@ any-element selectors.Nothing f scope n = and-false (is_element f n)
 any-element (Or' p one q others) f scope n =
     either-absorbs (is_element f n) (is_complex one f scope n) (is_any others f scope n)
     (complex-element one f scope n) (any-element others f scope n)
+
+-- what selectors select is an element
+pub selected-element : (s : Selectors) (f : Forest) (scope n : ℕ) → is_any s f scope n ≡ true → is_element f n ≡ true
+selected-element s f scope n h = first (is_element f n) (is_any s f scope n) (any-element s f scope n) h
+  where
+    first : (e b : Bool) → (e && b) ≡ b → b ≡ true → e ≡ true
+    first true b h k = refl
+    first false b h k = absurd (cc)
 
 -- `w`: within; `e`: an element; `a` and `b`: what a compound selector asks
 pub within-plain : (w e a b : Bool) → (w ≡ true → e ≡ true) → ((w && a) && b) ≡ (w && ((e && a) && b))

@@ -1,8 +1,10 @@
 //! Columns: for each node of a forest, by its number, whether it passes a test.
-ghost use Rattle.std.specs.Prelude.{◌≡◌, ◌≤◌, ◌&&◌, ◌||◌, ℕ, IfErr, IfOk, false, length, not, vec_len};
+ghost use Rattle.std.specs.Prelude.{◌≡◌, ◌≤◌, ◌&&◌, ◌||◌, ◌⊎◌, ℕ, IfErr, IfOk, false, length, not, true, vec_len};
 ghost use Rattle.markup.specs.declared.fault.ParseFault.TheVariants.{Memory};
+ghost use Rattle.html_selector_matching.specs.Around.{is_element};
 ghost use Rattle.html_selectors.specs.Columns.{Refines, at};
 
+use crate::page_index::Index;
 use html_forest::NodeId;
 use markup::ParseFault;
 use std::alloc::Global;
@@ -26,15 +28,27 @@ pub(crate) fn none_of(alloc: Global, count: usize) -> Result<Vec<bool>, ParseFau
     Ok(vec![in alloc; false; count]?)
 }
 
-/// Leaves in a column those nodes that pass a test. Asks it of no other node.
-pub(crate) fn refine<F: Fn(NodeId) -> bool>(column: &mut Vec<bool>, test: F)
-    requires { F.IsAlwaysCallable test }
+/// Leaves in a column of elements those that pass a test. Asks it of no other node.
+pub(crate) fn refine<F: Fn(NodeId) -> bool>(index: &Index<'_>, column: &mut Vec<bool>, test: F)
+    requires callable { F.IsAlwaysCallable test }
+    requires elements { (n : ℕ) → at column.old.items n ≡ true → is_element index.now.forest.now n ≡ true }
     ensures { (n : ℕ) → Refines (F.post test n) (at column.old.items n) (at column.new.items n) }
 {
-    for number in 0..column.len() {
-        if column[number] {
-            column[number] = test(NodeId::new(number));
+    index.forest.keeps();
+    for id in &index.order {
+        if is_in(column.as_slice(), *id) {
+            column[id.number()] = test(*id);
         }
+    }
+}
+
+// Leaves in a column those nodes that are in one that is no shorter.
+fn keep_common(column: &mut Vec<bool>, those: &[bool])
+    requires { vec_len column.old ≤ length those.now }
+    ensures { (n : ℕ) → at column.new.items n ≡ (at column.old.items n && at those.now n) }
+{
+    for number in 0..column.len() {
+        column[number] &= those[number];
     }
 }
 
@@ -42,17 +56,25 @@ pub(crate) fn refine<F: Fn(NodeId) -> bool>(column: &mut Vec<bool>, test: F)
 pub(crate) fn keep_those(column: &mut Vec<bool>, those: &[bool])
     ensures { (n : ℕ) → at column.new.items n ≡ (at column.old.items n && at those.now n) }
 {
-    for number in 0..column.len() {
-        column[number] &= is_in(those, NodeId::new(number));
-    }
+    column.truncate(those.len());
+    keep_common(column, those);
+}
+
+fn least(one: usize, other: usize) -> usize
+    ensures one { result ≤ one }
+    ensures other { result ≤ other }
+    ensures least { result ≡ one ⊎ result ≡ other }
+{
+    if one < other { one } else { other }
 }
 
 /// Leaves in a column those nodes that are not in another one.
 pub(crate) fn drop_those(column: &mut Vec<bool>, those: &[bool])
     ensures { (n : ℕ) → at column.new.items n ≡ (at column.old.items n && not (at those.now n)) }
 {
-    for number in 0..column.len() {
-        column[number] &= !is_in(those, NodeId::new(number));
+    let common = least(column.len(), those.len());
+    for number in 0..common {
+        column[number] &= !those[number];
     }
 }
 
@@ -62,9 +84,7 @@ fn add_those(column: &mut Vec<bool>, those: &[bool])
     ensures { (n : ℕ) → at column.new.items n ≡ (at column.old.items n || at those.now n) }
 {
     for number in 0..those.len() {
-        if those[number] {
-            column[number] = true;
-        }
+        column[number] |= those[number];
     }
 }
 

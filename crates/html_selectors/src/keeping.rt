@@ -1,5 +1,5 @@
 //! Leaves in a column what stands, or is placed, as a selector asks.
-ghost use Rattle.std.specs.Prelude.{◌≡◌, ◌<◌, ◌&&◌, ◌||◌, ℕ, List, IfErr, IfOk, OnOk, Some, cond, map, nat_lt, true};
+ghost use Rattle.std.specs.Prelude.{◌≡◌, ◌<◌, ◌&&◌, ◌||◌, ℕ, List, IfErr, IfOk, OnOk, Some, cond, map, true};
 ghost use Rattle.std.specs.Char.{to_ascii_lowercase};
 ghost use Rattle.std.specs.List.{list_all, list_any};
 ghost use Rattle.markup.specs.Forest.{data_of, element_name, node_count, parent_of};
@@ -19,6 +19,7 @@ use crate::column::{is_in, keep_those, refine};
 use crate::lines::{has_child, has_parent, over, parents, under};
 use crate::page_index::Index;
 use crate::places::{place_at, places};
+use crate::sides::beside;
 use crate::types::places_of_type;
 use html_forest::{Forest, NodeId};
 use html_selector_matching::{
@@ -55,34 +56,29 @@ fn is_next_in(forest: &Forest, id: NodeId, column: &[bool]) -> bool
     }
 }
 
-// Leaves in a column those nodes that are not in the first place.
-fn keep_later(places: &[u64], column: &mut Vec<bool>)
-    ensures { (n : ℕ) → at column.new.items n ≡ (at column.old.items n && nat_lt 1 (columns.place_at places.now n)) }
-{
-    refine(column, |id: NodeId| -> bool { place_at(places, id) > 1 });
-}
-
-// Leaves in a column those nodes that have one of another column among the siblings on one side.
+// Leaves in a column of elements those that have one of another column among the siblings on one side.
 fn keep_beside(
     index: &Index<'_>,
     from_end: bool,
     those: &[bool],
     column: &mut Vec<bool>,
 ) -> Result<(), ParseFault>
+    requires { (n : ℕ) → at column.old.items n ≡ true → around.is_element index.now.forest.now n ≡ true }
     ensures ok { OnOk result ((n : ℕ) → at column.new.items n
         ≡ (at column.old.items n && list_any (at those.now) (nodes_beside from_end index.now.forest.now n))) }
     ensures fault { IfErr result (λ fault. fault ≡ Memory) }
 {
-    let written = places(index, from_end, those, column.as_slice())?;
-    keep_later(written.as_slice(), column);
+    let with = beside(index, from_end, those, column.as_slice())?;
+    keep_those(column, with.as_slice());
     Ok(())
 }
 
-// Leaves in a column those nodes that are in a wanted place.
-fn keep_placed(nth: &Nth, places: &[u64], column: &mut Vec<bool>)
+// Leaves in a column of elements those that are in a wanted place.
+fn keep_placed(index: &Index<'_>, nth: &Nth, places: &[u64], column: &mut Vec<bool>)
+    requires { (n : ℕ) → at column.old.items n ≡ true → around.is_element index.now.forest.now n ≡ true }
     ensures { (n : ℕ) → at column.new.items n ≡ (at column.old.items n && asks.is_nth nth.now (columns.place_at places.now n)) }
 {
-    refine(column, |id: NodeId| -> bool {
+    refine(index, column, |id: NodeId| -> bool {
         is_nth(nth, place_at(places, id))
     });
 }
@@ -95,8 +91,9 @@ fn all_nodes(index: &Index<'_>) -> Result<Vec<bool>, ParseFault>
     Ok(vec![in index.alloc; true; index.count]?)
 }
 
-// Leaves in a column those nodes above which stands one of another column.
+// Leaves in a column of elements those above which stands one of another column.
 fn keep_under(index: &Index<'_>, left: &[bool], column: &mut Vec<bool>) -> Result<(), ParseFault>
+    requires { (n : ℕ) → at column.old.items n ≡ true → around.is_element index.now.forest.now n ≡ true }
     ensures ok { OnOk result ((n : ℕ) → at column.new.items n
         ≡ (at column.old.items n && list_any (at left.now) (above index.now.forest.now n))) }
     ensures fault { IfErr result (λ fault. fault ≡ Memory) }
@@ -108,8 +105,8 @@ fn keep_under(index: &Index<'_>, left: &[bool], column: &mut Vec<bool>) -> Resul
     Ok(())
 }
 
-/// Leaves in a column those nodes of which the parent, or where it is asked one of all above, is in another column. `wanted` has the nodes
-/// over those of the column.
+/// Leaves in a column of elements those of which the parent, or where it is asked one of all above, is in another column. `wanted` has the
+/// nodes over those of the column.
 pub(crate) fn keep_inside(
     index: &Index<'_>,
     deep: bool,
@@ -117,7 +114,8 @@ pub(crate) fn keep_inside(
     left: &[bool],
     column: &mut Vec<bool>,
 ) -> Result<(), ParseFault>
-    requires { (n : ℕ) → at wanted.now n ≡ list_any (at column.old.items) (below index.now.forest.now n) }
+    requires wanted { (n : ℕ) → at wanted.now n ≡ list_any (at column.old.items) (below index.now.forest.now n) }
+    requires elements { (n : ℕ) → at column.old.items n ≡ true → around.is_element index.now.forest.now n ≡ true }
     ensures ok { OnOk result ((n : ℕ) → at column.new.items n
         ≡ (at column.old.items n && list_any (at left.now) (left_of (cond deep Descendant Child) index.now.forest.now n))) }
     ensures fault { IfErr result (λ fault. fault ≡ Memory) }
@@ -125,13 +123,14 @@ pub(crate) fn keep_inside(
     let forest = index.forest;
     forest.keeps();
     if !deep {
-        refine(column, |id: NodeId| -> bool {
+        refine(index, column, |id: NodeId| -> bool {
             has_parent(forest, id, left, &[])
         });
         return Ok(());
     }
     let those = under(index, wanted, left)?;
     refine(
+        index,
         column,
         |id: NodeId| -> bool
             ensures { result ≡ list_any (λ n. at left.entry.now n || at those.items n) (one_of (parent_of forest.entry.now id)) }
@@ -140,13 +139,14 @@ pub(crate) fn keep_inside(
     Ok(())
 }
 
-/// Leaves in a column those nodes to which one on the left stands as a combinator says.
+/// Leaves in a column of elements those to which one on the left stands as a combinator says.
 pub(crate) fn keep_right(
     index: &Index<'_>,
     combinator: Combinator,
     left: &[bool],
     column: &mut Vec<bool>,
 ) -> Result<(), ParseFault>
+    requires { (n : ℕ) → at column.old.items n ≡ true → around.is_element index.now.forest.now n ≡ true }
     ensures ok { OnOk result ((n : ℕ) → at column.new.items n
         ≡ (at column.old.items n && list_any (at left.now) (left_of combinator index.now.forest.now n))) }
     ensures fault { IfErr result (λ fault. fault ≡ Memory) }
@@ -154,7 +154,7 @@ pub(crate) fn keep_right(
     let forest = index.forest;
     match combinator {
         Combinator::Child => {
-            refine(column, |id: NodeId| -> bool {
+            refine(index, column, |id: NodeId| -> bool {
                 has_parent(forest, id, left, &[])
             });
             Ok(())
@@ -162,6 +162,7 @@ pub(crate) fn keep_right(
         Combinator::Descendant => keep_under(index, left, column),
         Combinator::NextSibling => {
             refine(
+                index,
                 column,
                 |id: NodeId| -> bool
                     ensures { result ≡ list_any (at left.entry.now) (one_of (around.element_before forest.entry.now id)) }
@@ -173,13 +174,15 @@ pub(crate) fn keep_right(
     }
 }
 
-/// Leaves in a column those nodes which stand to one on the right as a combinator says.
+/// Leaves in a column of elements those which stand to an element of another one, on the right, as a combinator says.
 pub(crate) fn keep_left(
     index: &Index<'_>,
     combinator: Combinator,
     right: &[bool],
     column: &mut Vec<bool>,
 ) -> Result<(), ParseFault>
+    requires right { (n : ℕ) → at right.now n ≡ true → around.is_element index.now.forest.now n ≡ true }
+    requires elements { (n : ℕ) → at column.old.items n ≡ true → around.is_element index.now.forest.now n ≡ true }
     ensures ok { OnOk result ((n : ℕ) → at column.new.items n
         ≡ (at column.old.items n && list_any (at right.now) (right_of combinator index.now.forest.now n))) }
     ensures fault { IfErr result (λ fault. fault ≡ Memory) }
@@ -187,7 +190,7 @@ pub(crate) fn keep_left(
     let forest = index.forest;
     match combinator {
         Combinator::Child => {
-            refine(column, |id: NodeId| -> bool {
+            refine(index, column, |id: NodeId| -> bool {
                 has_child(forest, id, right, &[])
             });
             Ok(())
@@ -199,6 +202,7 @@ pub(crate) fn keep_left(
         }
         Combinator::NextSibling => {
             refine(
+                index,
                 column,
                 |id: NodeId| -> bool
                     ensures { result ≡ list_any (at right.entry.now) (one_of (around.element_after forest.entry.now id)) }
@@ -210,12 +214,15 @@ pub(crate) fn keep_left(
     }
 }
 
-// Leaves in a column those nodes that are in another one or whose parent is in a third one.
-fn keep_near(forest: &Forest, own: &[bool], parents: &[bool], column: &mut Vec<bool>)
+// Leaves in a column of elements those that are in another one or whose parent is in a third one.
+fn keep_near(index: &Index<'_>, own: &[bool], parents: &[bool], column: &mut Vec<bool>)
+    requires { (n : ℕ) → at column.old.items n ≡ true → around.is_element index.now.forest.now n ≡ true }
     ensures { (n : ℕ) → at column.new.items n ≡ (at column.old.items n
-        && (at own.now n || list_any (at parents.now) (one_of (parent_of forest.now n)))) }
+        && (at own.now n || list_any (at parents.now) (one_of (parent_of index.now.forest.now n)))) }
 {
+    let forest = index.forest;
     refine(
+        index,
         column,
         |id: NodeId| -> bool
             ensures { result ≡ (at own.entry.now id || list_any (at parents.entry.now) (one_of (parent_of forest.entry.now id))) }
@@ -225,6 +232,7 @@ fn keep_near(forest: &Forest, own: &[bool], parents: &[bool], column: &mut Vec<b
 
 /// The elements of a column, and those that have a parent in common with one of them.
 pub(crate) fn siblings(index: &Index<'_>, column: &[bool]) -> Result<Vec<bool>, ParseFault>
+    requires { (n : ℕ) → at column.now n ≡ true → around.is_element index.now.forest.now n ≡ true }
     ensures elements { IfOk result (λ beside. (n : ℕ) → at beside.items n ≡ true → around.is_element index.now.forest.now n ≡ true) }
     ensures own { IfOk result (λ beside. (n : ℕ) → at column.now n ≡ true → around.is_element index.now.forest.now n ≡ true
         → at beside.items n ≡ true) }
@@ -234,34 +242,36 @@ pub(crate) fn siblings(index: &Index<'_>, column: &[bool]) -> Result<Vec<bool>, 
 {
     let parents = parents(index, column)?;
     let mut beside = elements(index)?;
-    keep_near(index.forest, column, parents.as_slice(), &mut beside);
+    keep_near(index, column, parents.as_slice(), &mut beside);
     Ok(beside)
 }
 
-/// Leaves in a column those nodes that have the wanted place among those that are in another one.
+/// Leaves in a column of elements those that have the wanted place among those that are in another one.
 pub(crate) fn keep_nth_of(
     index: &Index<'_>,
     nth: &Nth,
     those: &[bool],
     column: &mut Vec<bool>,
 ) -> Result<(), ParseFault>
+    requires { (n : ℕ) → at column.old.items n ≡ true → around.is_element index.now.forest.now n ≡ true }
     ensures ok { OnOk result ((n : ℕ) → at column.new.items n
         ≡ (at column.old.items n && is_nth_of (at those.now) nth.now index.now.forest.now n)) }
     ensures fault { IfErr result (λ fault. fault ≡ Memory) }
 {
     let written = places(index, nth.from_end, those, column.as_slice())?;
     keep_those(column, those);
-    keep_placed(nth, written.as_slice(), column);
+    keep_placed(index, nth, written.as_slice(), column);
     Ok(())
 }
 
-// Leaves in a column those elements that have the wanted place among all elements under their parent.
+// Leaves in a column of elements those that have the wanted place among all elements under their parent.
 fn keep_nth_child(
     index: &Index<'_>,
     scope: NodeId,
     nth: &Nth,
     column: &mut Vec<bool>,
 ) -> Result<(), ParseFault>
+    requires { (n : ℕ) → at column.old.items n ≡ true → around.is_element index.now.forest.now n ≡ true }
     ensures ok { OnOk result ((n : ℕ) → at column.new.items n
         ≡ (at column.old.items n && asks.is_simple index.now.forest.now scope n (NthChild nth.now))) }
     ensures fault { IfErr result (λ fault. fault ≡ Memory) }
@@ -272,7 +282,7 @@ fn keep_nth_child(
         index.elements.as_slice(),
         column.as_slice(),
     )?;
-    keep_placed(nth, written.as_slice(), column);
+    keep_placed(index, nth, written.as_slice(), column);
     Ok(())
 }
 
@@ -289,7 +299,7 @@ fn keep_nth_of_type(
     ensures fault { IfErr result (λ fault. fault ≡ Memory) }
 {
     let written = places_of_type(index, nth.from_end)?;
-    keep_placed(nth, written.as_slice(), column);
+    keep_placed(index, nth, written.as_slice(), column);
     Ok(())
 }
 
@@ -317,13 +327,14 @@ fn keep_attribute(
     Ok(())
 }
 
-// Leaves in a column those elements that have a name.
+// Leaves in a column of elements those that have a name.
 fn keep_named(
     index: &Index<'_>,
     scope: NodeId,
     wanted: &Name,
     column: &mut Vec<bool>,
 ) -> Result<(), ParseFault>
+    requires { (n : ℕ) → at column.old.items n ≡ true → around.is_element index.now.forest.now n ≡ true }
     ensures ok { OnOk result ((n : ℕ) → at column.new.items n
         ≡ (at column.old.items n && asks.is_simple index.now.forest.now scope n («Type» wanted.now))) }
     ensures fault { IfErr result (λ fault. fault ≡ Memory) }
@@ -332,6 +343,7 @@ fn keep_named(
     let written = LocalName::from_str(index.alloc, wanted.written().as_str())?;
     let lowered = LocalName::from_str(index.alloc, wanted.lowered().as_str())?;
     refine(
+        index,
         column,
         |id: NodeId| -> bool
             ensures { (name : List ℕ) → written ≡ name → lowered ≡ map to_ascii_lowercase name
@@ -341,13 +353,15 @@ fn keep_named(
     Ok(())
 }
 
-// Leaves in a column those elements that are as one simple selector asks, each asked by itself.
+// Leaves in a column of elements those that are as one simple selector asks, each asked by itself.
 fn keep_each(index: &Index<'_>, scope: NodeId, simple: &Simple, column: &mut Vec<bool>)
+    requires { (n : ℕ) → at column.old.items n ≡ true → around.is_element index.now.forest.now n ≡ true }
     ensures { (n : ℕ) → at column.new.items n
         ≡ (at column.old.items n && asks.is_simple index.now.forest.now scope n simple.now) }
 {
     let forest = index.forest;
     refine(
+        index,
         column,
         |id: NodeId| -> bool
             ensures { result ≡ asks.is_simple forest.entry.now scope id simple.entry.now }

@@ -15,6 +15,7 @@ mod order;
 mod page_index;
 mod places;
 mod selecting;
+mod sides;
 mod types;
 
 pub use each::{Selected, select_each};

@@ -4,8 +4,9 @@ ghost use Rattle.std.specs.List.{list_any};
 ghost use Rattle.markup.specs.Forest.{children_of, is_among, node_count, parent_of};
 ghost use Rattle.markup.specs.declared.fault.ParseFault.TheVariants.{Memory};
 ghost use Rattle.html_nodes.specs.Below.{below};
-ghost use Rattle.html_selector_matching.specs.Around.{above, one_of};
+ghost use Rattle.html_selector_matching.specs.Around.{above, is_element, one_of};
 ghost use Rattle.html_selectors.specs.Columns.{at};
+ghost use Rattle.html_selectors.specs.Order.{is_inner};
 
 use crate::column::{is_in, none_of};
 use crate::page_index::Index;
@@ -22,14 +23,15 @@ pub(crate) fn has_parent(forest: &Forest, id: NodeId, one: &[bool], other: &[boo
     }
 }
 
-/// Those of the wanted nodes above which stands one of a column. Whoever is above a wanted node is wanted too.
+/// Those of the wanted nodes above which stands one of a column, among the elements and the nodes that have children. Whoever is above a
+/// wanted node is wanted too.
 pub(crate) fn under(
     index: &Index<'_>,
     wanted: &[bool],
     column: &[bool],
 ) -> Result<Vec<bool>, ParseFault>
     requires { (n p : ℕ) → at wanted.now n ≡ true → parent_of index.now.forest.now n ≡ Some p → at wanted.now p ≡ true }
-    ensures ok { IfOk result (λ under. (n : ℕ) → at under.items n
+    ensures ok { IfOk result (λ under. (n : ℕ) → is_inner index.now.forest.now n ≡ true → at under.items n
         ≡ (at wanted.now n && list_any (at column.now) (above index.now.forest.now n))) }
     ensures fault { IfErr result (λ fault. fault ≡ Memory) }
 {
@@ -68,25 +70,26 @@ fn mark_parent(forest: &Forest, id: NodeId, column: &mut Vec<bool>)
     }
 }
 
-/// Nodes among which are the parents of those in a column.
+/// Nodes among which are the parents of those in a column of elements.
 pub(crate) fn parents(index: &Index<'_>, column: &[bool]) -> Result<Vec<bool>, ParseFault>
+    requires { (n : ℕ) → at column.now n ≡ true → is_element index.now.forest.now n ≡ true }
     ensures ok { IfOk result (λ parents. (n p : ℕ) → at column.now n ≡ true → parent_of index.now.forest.now n ≡ Some p
         → at parents.items p ≡ true) }
     ensures fault { IfErr result (λ fault. fault ≡ Memory) }
 {
     index.forest.keeps();
     let mut parents = none_of(index.alloc, index.count)?;
-    for number in 0..column.len() {
-        let id = NodeId::new(number);
-        if is_in(column, id) {
-            mark_parent(index.forest, id, &mut parents);
+    for id in &index.order {
+        if is_in(column, *id) {
+            mark_parent(index.forest, *id, &mut parents);
         }
     }
     Ok(parents)
 }
 
-/// The nodes below which stands one of a column.
+/// The nodes below which stands one of a column of elements.
 pub(crate) fn over(index: &Index<'_>, column: &[bool]) -> Result<Vec<bool>, ParseFault>
+    requires { (n : ℕ) → at column.now n ≡ true → is_element index.now.forest.now n ≡ true }
     ensures ok { IfOk result (λ over. (n : ℕ) → at over.items n ≡ list_any (at column.now) (below index.now.forest.now n)) }
     ensures fault { IfErr result (λ fault. fault ≡ Memory) }
 {

@@ -1,11 +1,11 @@
-//! All nodes of a forest in tree order, and which of them are elements.
+//! The elements of a forest and the nodes that have children, in tree order.
 ghost use Rattle.std.specs.Prelude.{◌≡◌, ◌++◌, ◌∷◌, [], ℕ, IfErr, IfOk, OnOk, cond};
 ghost use Rattle.markup.specs.Forest.{node_count};
 ghost use Rattle.markup.specs.declared.fault.ParseFault.TheVariants.{Memory};
-ghost use Rattle.html_nodes.specs.Below.{below};
 ghost use Rattle.html_selector_matching.specs.Around as around;
 ghost use Rattle.html_selectors.specs.Columns.{at};
-ghost use Rattle.html_selectors.specs.Order.{BeginsWith, in_tree_order, is_root};
+ghost use Rattle.html_selectors.specs.Order as orders;
+ghost use Rattle.html_selectors.specs.Order.{BeginsWith, in_tree_order, inner_below, is_root};
 
 use html_forest::{Forest, NodeId};
 use html_nodes::nodes_below;
@@ -31,21 +31,30 @@ pub(crate) fn count_nodes(forest: &Forest) -> usize
     low
 }
 
-// Lists a node and those below it.
+// Whether a node is an element or has a child.
+fn is_inner(forest: &Forest, id: NodeId) -> bool
+    ensures { result ≡ orders.is_inner forest.now id }
+{
+    is_element(forest, id) || forest.first_child(id).is_some()
+}
+
+// Lists a node and those of the nodes below it that are elements or have children.
 fn push_tree(forest: &Forest, root: NodeId, order: &mut Vec<NodeId>) -> Result<(), ParseFault>
-    ensures ok { OnOk result (order.new.items ≡ order.old.items ++ root ∷ below forest.now root) }
+    ensures ok { OnOk result (order.new.items ≡ order.old.items ++ root ∷ inner_below forest.now root) }
     ensures fault { IfErr result (λ fault. fault ≡ Memory) }
 {
     order.push(root)?;
     for id in nodes_below(forest, root) {
-        order.push(id)?;
+        if is_inner(forest, id) {
+            order.push(id)?;
+        }
     }
     Ok(())
 }
 
-// Lists the document and those below it, where it has no parent.
+// Lists the document, where it has no parent, and those below it.
 fn push_document(forest: &Forest, order: &mut Vec<NodeId>) -> Result<(), ParseFault>
-    ensures ok { OnOk result (order.new.items ≡ order.old.items ++ cond (is_root forest.now 0) (0 ∷ below forest.now 0) []) }
+    ensures ok { OnOk result (order.new.items ≡ order.old.items ++ cond (is_root forest.now 0) (0 ∷ inner_below forest.now 0) []) }
     ensures fault { IfErr result (λ fault. fault ≡ Memory) }
 {
     let document = forest.document();
@@ -55,8 +64,8 @@ fn push_document(forest: &Forest, order: &mut Vec<NodeId>) -> Result<(), ParseFa
     Ok(())
 }
 
-/// All nodes of a forest, so many of them: each node that has no parent, with those below it. The document comes first where it has no
-/// parent; then the number says how many nodes it is with those below it, and else it is 0.
+/// Of a forest of so many nodes each node that has no parent, with those below it that are elements or have children. The document comes
+/// first where it has no parent; then the number says how many nodes it is with those below it, and else it is 0.
 pub(crate) fn list_nodes(
     alloc: Global,
     forest: &Forest,

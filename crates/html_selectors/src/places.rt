@@ -2,7 +2,7 @@
 ghost use Rattle.std.specs.Prelude.{◌≡◌, ◌≤◌, ℕ, IfErr, IfOk, cond, filter, length, suc, true, vec_len};
 ghost use Rattle.markup.specs.Forest.{children_of, is_among, node_count, those_before};
 ghost use Rattle.markup.specs.declared.fault.ParseFault.TheVariants.{Memory};
-ghost use Rattle.html_selector_matching.specs.Around.{those_after};
+ghost use Rattle.html_selector_matching.specs.Around.{is_element, those_after};
 ghost use Rattle.html_selector_matching.specs.Simples.{place_of};
 ghost use Rattle.html_selectors.specs.Columns as columns;
 ghost use Rattle.html_selectors.specs.Columns.{at, place_among};
@@ -34,15 +34,15 @@ pub(crate) fn first_places(alloc: Global, count: usize) -> Result<Vec<u64>, Pars
     Ok(vec![in alloc; 1; count]?)
 }
 
-// One for a node of a column, nothing for another one.
-fn count_of(column: &[bool], id: NodeId) -> u64
+/// One for a node of a column, nothing for another one.
+pub(crate) fn count_of(column: &[bool], id: NodeId) -> u64
     ensures { result ≡ cond (at column.now id) 1 0 }
 {
     if is_in(column, id) { 1 } else { 0 }
 }
 
-// How many children of a node are in a column.
-fn count_children(forest: &Forest, parent: NodeId, column: &[bool]) -> u64
+/// How many children of a node are in a column.
+pub(crate) fn count_children(forest: &Forest, parent: NodeId, column: &[bool]) -> u64
     ensures { result ≡ length (filter (at column.now) (children_of forest.now parent)) }
 {
     children_are_few(forest, parent);
@@ -105,13 +105,14 @@ fn place_children(
     }
 }
 
-/// The places of wanted nodes among those under their parents that are in a column.
+/// The places of wanted elements among the nodes under their parents that are in a column.
 pub(crate) fn places(
     index: &Index<'_>,
     from_end: bool,
     column: &[bool],
     wanted: &[bool],
 ) -> Result<Vec<u64>, ParseFault>
+    requires { (n : ℕ) → at wanted.now n ≡ true → is_element index.now.forest.now n ≡ true }
     ensures ok { IfOk result (λ places. (n : ℕ) → at wanted.now n ≡ true → columns.place_at places.items n
         ≡ place_of (at column.now) from_end index.now.forest.now n) }
     ensures fault { IfErr result (λ fault. fault ≡ Memory) }

@@ -108,7 +108,7 @@ fn selected_by_complex(
     Ok(column)
 }
 
-// Those of a column above which stands an element that a selector selects: as the parent, or where it is asked anywhere.
+// Those of a column of elements above which stands one that a selector selects: as the parent, or where it is asked anywhere.
 #[cycle(columns)]
 fn column_inside(
     index: &Index<'_>,
@@ -118,6 +118,7 @@ fn column_inside(
     mut column: Vec<bool>,
     narrow: u8,
 ) -> Result<Vec<bool>, ParseFault>
+    requires { (n : ℕ) → at column.items n ≡ true → is_element index.now.forest.now n ≡ true }
     ensures ok { IfOk result (λ inside. (n : ℕ) → at inside.items n
         ≡ (at column.items n && list_any (λ m. selects.is_complex left.now index.now.forest.now scope m)
         (left_of (cond deep Descendant Child) index.now.forest.now n))) }
@@ -213,7 +214,7 @@ fn column_of_relative(
     }
 }
 
-// The elements that a compound selector selects, and on whose right stands one of a column, as a combinator says.
+// The elements that a compound selector selects, and on whose right stands one of a column of elements, as a combinator says.
 #[cycle(columns)]
 fn column_left(
     index: &Index<'_>,
@@ -222,6 +223,7 @@ fn column_left(
     combinator: Combinator,
     right: &[bool],
 ) -> Result<Vec<bool>, ParseFault>
+    requires { (n : ℕ) → at right.now n ≡ true → is_element index.now.forest.now n ≡ true }
     ensures ok { IfOk result (λ column. (n : ℕ) → at column.items n
         ≡ (selects.is_compound compound.now index.now.forest.now scope n
         && list_any (at right.now) (right_of combinator index.now.forest.now n))) }

@@ -11,7 +11,8 @@ use Rattle.html_selectors.proofs.keeping.keep_inside.Goals as goal
 
 pub under-requires : goal.under-requires
 under-requires c = λ n p h e.
-    c.requires p ∙ over-up c.args.index.now.forest.now c.keeps.ensures.is_forest (at c.args.column.now.items) n p (sym (c.requires n) ∙ h) e
+    c.requires.wanted p
+    ∙ over-up c.args.index.now.forest.now c.keeps.ensures.is_forest (at c.args.column.now.items) n p (sym (c.requires.wanted n) ∙ h) e
 
 pub returns-clause-ok : goal.returns-clause-ok
 returns-clause-ok c =
@@ -21,5 +22,5 @@ returns-clause-ok c =
     let t = at c.args.left.now in
     λ n. refined-if _ (old n) _ (list_any t (above f n)) (c.refine-2.ensures n)
     (λ there r told. told.1 ∙ under-left f is t (at c.args.wanted.now) (at c.in_ok-those.those.items) n c.in_ok-those.ensures.ok
-    (λ m among. c.requires m ∙ over-above f is old n m there among))
+    (λ m among. c.requires.wanted m ∙ over-above f is old n m there among))
     ∙ ap (λ b. old n && list_any t (left_of (cond b Descendant Child) f n)) (sym c.if-not-deep.false)

@@ -19,5 +19,5 @@ returns-clause-ok c =
     let those = at c.in_ok-those.those.items in
     λ n. c.keep_those.ensures n
     ∙ (ap (λ (l : List Bool). old n && at l n) c.as_slice-2.ensures.value
-    ∙ under-any f c.keeps.ensures.is_forest t (at c.in_ok-all.all.items) those (old n) n c.in_ok-all.ensures.ok
-    (c.in_ok-those.ensures.ok n ∙ ap (λ (l : List Bool). at l n && list_any t (above f n)) c.as_slice.ensures.value))
+    ∙ under-any f c.keeps.ensures.is_forest t (at c.in_ok-all.all.items) those (old n) n c.in_ok-all.ensures.ok (c.requires n)
+    (λ inner. c.in_ok-those.ensures.ok n inner ∙ ap (λ (l : List Bool). at l n && list_any t (above f n)) c.as_slice.ensures.value))

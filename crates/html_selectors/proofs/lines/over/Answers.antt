@@ -34,8 +34,8 @@ loop-left-preserved-in-loop-left c =
     record {
       within = omega (arith, within);
       count = c.mark_parent.ensures.len ∙ c.loop-left.invariant.count;
-      done = over-step f c.keeps.ensures.is_forest c.args.index.now.order.items c.args.index.now.ordered t over c.loop-left.left n true
-          c.mark_parent.new.column.items c.loop-left-test.true within c.index-id.ensures c.loop-left.invariant.done told
+      done = over-step f c.keeps.ensures.is_forest c.args.index.now.order.items c.args.index.now.ordered t c.requires over
+          c.loop-left.left n true c.mark_parent.new.column.items c.loop-left-test.true within c.index-id.ensures c.loop-left.invariant.done told
           (λ m. c.mark_parent.ensures.marked m ∙ ap (λ b. b || at over m) (sym (and-true (is_among n (children_of f m)))));
     }
   where
@@ -55,8 +55,8 @@ loop-left-preserved c =
     record {
       within = omega (arith, within);
       count = c.loop-left.invariant.count;
-      done = over-step f c.keeps.ensures.is_forest c.args.index.now.order.items c.args.index.now.ordered t over c.loop-left.left n false
-          over c.loop-left-test.true within c.index-id.ensures c.loop-left.invariant.done told
+      done = over-step f c.keeps.ensures.is_forest c.args.index.now.order.items c.args.index.now.ordered t c.requires over
+          c.loop-left.left n false over c.loop-left-test.true within c.index-id.ensures c.loop-left.invariant.done told
           (λ m. sym (ap (λ b. b || at over m) (and-false (is_among n (children_of f m)))));
     }
 
@@ -65,5 +65,5 @@ returns-clause-ok c =
     let order = c.args.index.now.order.items in
     let t = at c.args.column.now in
     let none : c.loop-left.left ≡ 0 = omega (arith, c.loop-left-test.false) in
-    over-all c.args.index.now.forest.now c.keeps.ensures.is_forest order c.args.index.now.ordered t c.loop-left.over.items
+    over-all c.args.index.now.forest.now c.keeps.ensures.is_forest order c.args.index.now.ordered t c.requires c.loop-left.over.items
     (λ m. c.loop-left.invariant.done m ∙ ap (λ k. over_done t c.args.index.now.forest.now (drop k order) m) none)

@@ -1,5 +1,6 @@
 use Rattle.std.proofs.Common.{◌≡◌, ◌∙◌, List, Bool, ap, arith, sym}
 use Rattle.markup.specs.Forest.{node_count, parent_of}
+use Rattle.html_selector_matching.specs.Simples.{place_of}
 use Rattle.html_selectors.specs.Columns.{at}
 use Rattle.html_selectors.proofs.Counts.{beside-more, owned-by, unwanted-more, written, written-all, written-none}
 use Rattle.html_selectors.proofs.places.places.Goals as goal
@@ -30,7 +31,7 @@ loop-number-preserved c =
       | else-is_in w ↦ rw w.places-is (record {
         len = c.loop-number.invariant.len;
         done = λ n own. c.loop-number.invariant.done n own
-            ∙ unwanted-more f t wanted c.args.from_end c.loop-number.number n (sym told ∙ w.if-is_in.false) own;
+            ∙ unwanted-more f 1 (place_of t c.args.from_end f) wanted c.loop-number.number n (sym told ∙ w.if-is_in.false) own;
       })
     ]
 

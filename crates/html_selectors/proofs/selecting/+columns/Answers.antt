@@ -54,6 +54,9 @@ keep_nth-returns-clause-ok t c =
     (c.in_ok-beside.ensures.own n (ap (λ (l : List Bool). at l n) c.as_slice.ensures.value ∙ there) (c.requires n there))
     (λ m p up down e. c.in_ok-beside.ensures.siblings n m p (ap (λ (l : List Bool). at l n) c.as_slice.ensures.value ∙ there) up down e)))
 
+pub keep_nth-siblings-requires : goal.keep_nth-siblings-requires
+keep_nth-siblings-requires t c = λ n h. c.requires n (sym (ap (λ (l : List Bool). at l n) c.as_slice.ensures.value) ∙ h)
+
 pub column_left-returns-clause-ok : goal.column_left-returns-clause-ok
 column_left-returns-clause-ok t c =
     let f = c.args.index.now.forest.now in

@@ -18,8 +18,8 @@ loop-number-init c =
       first_len = omega (arith, c.in_ok-firsts.ensures.len, c.args.index.now.counted);
       last_len = omega (arith, c.in_ok-lasts.ensures.len, c.args.index.now.counted);
       none = c.in_ok-counts.ensures.none;
-      firsts = λ n. c.in_ok-firsts.ensures.first n ∙ sym (entered-none (kind_place kind false f) n (parent_of f n));
-      lasts = λ n. c.in_ok-lasts.ensures.first n ∙ sym (entered-none (kind_place kind true f) n (parent_of f n));
+      firsts = λ n. c.in_ok-firsts.ensures.first n ∙ sym (entered-none 1 (kind_place kind false f) n (parent_of f n));
+      lasts = λ n. c.in_ok-lasts.ensures.first n ∙ sym (entered-none 1 (kind_place kind true f) n (parent_of f n));
     }
 
 pub loop-number-preserved : goal.loop-number-preserved
@@ -59,8 +59,8 @@ returns-then-from_end-clause-ok c =
     let all : c.loop-number.number ≡ node_count f =
     omega (arith, c.loop-number-test.false, c.loop-number.auto.number-end, c.args.index.now.counted) in
     λ n element. c.loop-number.invariant.lasts n
-    ∙ (ap (λ k. entered (kind_place (kind_at kinds) true f) k n (parent_of f n)) all
-    ∙ (entered-all f is (kind_place (kind_at kinds) true f) n (kind-alone (kind_at kinds) true f n)
+    ∙ (ap (λ k. entered 1 (kind_place (kind_at kinds) true f) k n (parent_of f n)) all
+    ∙ (entered-all f is 1 (kind_place (kind_at kinds) true f) n (kind-alone (kind_at kinds) true f n)
     ∙ (kind-place f kinds c.in_ok-kinds.ensures.kinds true n element
     ∙ ap (λ b. place_of (counts f (name_at f n)) b f n) (sym c.if-from_end.true))))
 
@@ -72,7 +72,7 @@ returns-clause-ok c =
     let all : c.loop-number.number ≡ node_count f =
     omega (arith, c.loop-number-test.false, c.loop-number.auto.number-end, c.args.index.now.counted) in
     λ n element. c.loop-number.invariant.firsts n
-    ∙ (ap (λ k. entered (kind_place (kind_at kinds) false f) k n (parent_of f n)) all
-    ∙ (entered-all f is (kind_place (kind_at kinds) false f) n (kind-alone (kind_at kinds) false f n)
+    ∙ (ap (λ k. entered 1 (kind_place (kind_at kinds) false f) k n (parent_of f n)) all
+    ∙ (entered-all f is 1 (kind_place (kind_at kinds) false f) n (kind-alone (kind_at kinds) false f n)
     ∙ (kind-place f kinds c.in_ok-kinds.ensures.kinds false n element
     ∙ ap (λ b. place_of (counts f (name_at f n)) b f n) (sym c.if-from_end.false))))

@@ -13,7 +13,7 @@ invariant-loop-number l = record {
   last_len : length l.lasts.items ≡ node_count l.index.forest.now;
   none : (k : ℕ) → count_at l.counts.items k ≡ 0;
   firsts : (n : ℕ) → place_at l.firsts.items n
-      ≡ entered (kind_place (kind_at l.kinds.items) false l.index.forest.now) l.number n (parent_of l.index.forest.now n);
+      ≡ entered 1 (kind_place (kind_at l.kinds.items) false l.index.forest.now) l.number n (parent_of l.index.forest.now n);
   lasts : (n : ℕ) → place_at l.lasts.items n
-      ≡ entered (kind_place (kind_at l.kinds.items) true l.index.forest.now) l.number n (parent_of l.index.forest.now n);
+      ≡ entered 1 (kind_place (kind_at l.kinds.items) true l.index.forest.now) l.number n (parent_of l.index.forest.now n);
 }

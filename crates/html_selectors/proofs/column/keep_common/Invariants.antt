@@ -1,7 +1,7 @@
 use Rattle.std.proofs.Common.{◌≡◌, ◌<◌, ◌≤◌, ℕ, length}
 use Rattle.std.specs.Prelude.{◌&&◌}
 use Rattle.html_selectors.specs.Columns.{at}
-use Rattle.html_selectors.proofs.column.keep_those.Given as goal
+use Rattle.html_selectors.proofs.column.keep_common.Given as goal
 
 abbrev pub invariant-loop-number : goal.invariant-loop-number
 invariant-loop-number l = record {
