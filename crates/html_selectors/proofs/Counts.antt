@@ -2,7 +2,7 @@
 use Rattle.std.proofs.Common.{◌≡◌, ◌∙◌, ◌+◌, ◌<◌, ◌≤◌, ℕ, suc, Bool, true, false, List, [], ◌∷◌, length, Option, Some, None}
 use Rattle.std.proofs.Common.{inl, inr, refl, ap, arith, sym}
 use Rattle.std.proofs.Math.ListN.{set}
-use Rattle.std.specs.Prelude.{◌||◌, cond, filter, nat_lt}
+use Rattle.std.specs.Prelude.{cond, filter, nat_lt}
 use Rattle.std.specs.List.{list_any}
 use Rattle.std.proofs.lemmas.Bool.{cases_Bool, cases_eq, cases_order, eq-eqb, le-ltb, lt-ltb, ne_eqb}
 use Rattle.std.proofs.lemmas.List.{get_or-set_other, get_or-set_same}
@@ -11,7 +11,7 @@ use Rattle.markup.proofs.Forests.{IsParent-from_child}
 use Rattle.markup.proofs.Parents.{is_among-parent}
 use Rattle.html_selector_matching.specs.Around.{children_under, those_after}
 use Rattle.html_selector_matching.specs.Simples.{nodes_beside, place_of}
-use Rattle.html_selectors.specs.Columns.{any_among, at, place_among, place_at}
+use Rattle.html_selectors.specs.Columns.{at, place_among, place_at}
 use Rattle.html_selectors.proofs.Lists.{filter-same}
 
 -- how many pass, of a list with one more
@@ -169,29 +169,9 @@ pub place-same : (t u : ℕ → Bool) → ((n : ℕ) → t n ≡ u n) → (from_
     → place_of t from_end f n ≡ place_of u from_end f n
 place-same t u same from_end f n = ap (λ (l : List ℕ). suc (length l)) (filter-same t u same (nodes_beside from_end f n))
 
--- SOME BEFORE, SOME AFTER
+-- SOME BESIDE A NODE
 
-or-false : (b : Bool) → b ≡ (b || false)
-or-false true = refl
-or-false false = refl
-
-or-regroup : (a b c : Bool) → ((a || b) || c) ≡ (a || (b || c))
-or-regroup true b c = refl
-or-regroup false b c = refl
-
--- what is written down in the end, once `seen` says whether one of those that are done passes
-abbrev pub some_before : (ℕ → Bool) → Bool → List ℕ → List Bool → ℕ → Bool
-some_before t seen ns beside n = cond (is_among n ns) (seen || list_any t (those_before n ns)) (at beside n)
-
-pub before-step : (t : ℕ → Bool) (seen : Bool) (m : ℕ) (ns : List ℕ) (beside : List Bool) → IsDistinct (m ∷ ns) → m < length beside
-    → (n : ℕ) → some_before t (seen || t m) ns (set beside m seen) n ≡ some_before t seen (m ∷ ns) beside n
-before-step t seen m ns beside once there n =
-    elim (cases_eq n m) [
-      | inl same ↦ rw (same, once.0, eq-eqb m m refl, get_or-set_same beside m seen false there) (or-false seen)
-      | inr other ↦ rw (ne_eqb n m other, ne_eqb m n (λ e. other (sym e)), get_or-set_other beside m n seen false other)
-          (ap (λ b. cond (is_among n ns) b (at beside n)) (or-regroup seen (t m) (list_any t (those_before n ns))))
-    ]
-
+-- what is written down in the end
 abbrev pub some_after : (ℕ → Bool) → List ℕ → List Bool → ℕ → Bool
 some_after t ns beside n = cond (is_among n ns) (list_any t (those_after n ns)) (at beside n)
 
@@ -217,14 +197,14 @@ abbrev pub any_beside : (ℕ → Bool) → Bool → Forest → ℕ → Bool
 any_beside t from_end f n = list_any t (nodes_beside from_end f n)
 
 -- the children of one parent more are done
-pub any-more : (f : Forest) → IsForest f → (t : ℕ → Bool) (from_end : Bool) (count n : ℕ) (old : Bool)
-    → old ≡ entered false (any_beside t from_end f) count n (parent_of f n)
-    → cond (is_among n (children_of f count)) (any_among t from_end n (children_of f count)) old
-    ≡ entered false (any_beside t from_end f) (count + 1) n (parent_of f n)
-any-more f is t from_end count n old is_old =
-    ap (λ b. cond (is_among n (children_of f count)) (any_among t from_end n (children_of f count)) b) is_old
-    ∙ entered-more f is false (any_beside t from_end f) count n (any_among t from_end n (children_of f count))
-    (λ e. sym (ap (λ (o : Option ℕ). any_among t from_end n (children_under f o)) e))
+pub any-more : (f : Forest) → IsForest f → (t : ℕ → Bool) (count n : ℕ) (old : Bool)
+    → old ≡ entered false (any_beside t true f) count n (parent_of f n)
+    → cond (is_among n (children_of f count)) (list_any t (those_after n (children_of f count))) old
+    ≡ entered false (any_beside t true f) (count + 1) n (parent_of f n)
+any-more f is t count n old is_old =
+    ap (λ b. cond (is_among n (children_of f count)) (list_any t (those_after n (children_of f count))) b) is_old
+    ∙ entered-more f is false (any_beside t true f) count n (list_any t (those_after n (children_of f count)))
+    (λ e. sym (ap (λ (o : Option ℕ). list_any t (those_after n (children_under f o))) e))
 
 pub any-alone : (t : ℕ → Bool) (from_end : Bool) (f : Forest) (n : ℕ) → parent_of f n ≡ None → any_beside t from_end f n ≡ false
 any-alone t true f n e = rw e refl

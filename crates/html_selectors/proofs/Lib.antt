@@ -8,3 +8,4 @@ mod Beside
 mod Counts
 mod Numbering
 mod KindCounts
+mod Elder

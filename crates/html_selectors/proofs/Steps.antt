@@ -202,7 +202,7 @@ or-swap true false c = refl
 or-swap false b c = refl
 
 -- one more is done
-done-more : (r : ℕ → Bool) (n : ℕ) (done cs : List ℕ)
+pub done-more : (r : ℕ → Bool) (n : ℕ) (done cs : List ℕ)
     → list_any (λ c. is_among c (n ∷ done) && r c) cs ≡ ((is_among n cs && r n) || list_any (λ c. is_among c done && r c) cs)
 done-more r n done [] = refl
 done-more r n done (c ∷ cs) =

@@ -33,6 +33,13 @@ complex-element (Beside' p left combinator simples tests) f scope n =
     absorb-more (is_element f n) (list_all (is_simple f scope n) simples.items) (passes tests f scope n)
     (list_any (λ m. is_complex left f scope m) (left_of combinator f n))
 
+pub complex-is-element : (c : Complex) (f : Forest) (scope n : ℕ) → is_complex c f scope n ≡ true → is_element f n ≡ true
+complex-is-element c f scope n h = first (is_element f n) (is_complex c f scope n) (complex-element c f scope n) h
+  where
+    first : (e b : Bool) → (e && b) ≡ b → b ≡ true → e ≡ true
+    first true b h k = refl
+    first false b h k = absurd (cc)
+
 -- what goes on is an element
 pub goes-element : (r : Relative) (f : Forest) (scope n : ℕ) → goes_on r f scope n ≡ true → is_element f n ≡ true
 goes-element (To' combinator simples tests) f scope n h =

@@ -1,6 +1,5 @@
 -- Columns: for each node of a forest, by its number, whether it passes a test.
 use Rattle.std.specs.Prelude.{◌≡◌, ℕ, suc, Bool, true, false, cond, List, filter, length, slice_index_or}
-use Rattle.std.specs.List.{list_any}
 use Rattle.markup.specs.Forest.{those_before}
 use Rattle.html_selector_matching.specs.Around.{those_after}
 
@@ -16,10 +15,6 @@ Refines P false new = new ≡ false
 -- the place of a node among those of a list that pass a test, from the first or from the last
 abbrev pub place_among : (ℕ → Bool) → Bool → ℕ → List ℕ → ℕ
 place_among t from_end n ns = suc (length (filter t (cond from_end (those_after n ns) (those_before n ns))))
-
--- whether one of those after a node of a list passes a test, or one of those before it
-abbrev pub any_among : (ℕ → Bool) → Bool → ℕ → List ℕ → Bool
-any_among t from_end n ns = list_any t (cond from_end (those_after n ns) (those_before n ns))
 
 -- the place of a node among those under its parent, as it was written down
 abbrev pub place_at : List ℕ → ℕ → ℕ

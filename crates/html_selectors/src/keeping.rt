@@ -1,5 +1,5 @@
 //! Leaves in a column what stands, or is placed, as a selector asks.
-ghost use Rattle.std.specs.Prelude.{◌≡◌, ◌<◌, ◌&&◌, ◌||◌, ℕ, List, IfErr, IfOk, OnOk, Some, cond, map, true};
+ghost use Rattle.std.specs.Prelude.{◌≡◌, ◌<◌, ◌&&◌, ◌||◌, ℕ, List, IfErr, IfOk, OnOk, Some, cond, false, map, true};
 ghost use Rattle.std.specs.Char.{to_ascii_lowercase};
 ghost use Rattle.std.specs.List.{list_all, list_any};
 ghost use Rattle.markup.specs.Forest.{data_of, element_name, node_count, parent_of};
@@ -19,7 +19,7 @@ use crate::column::{is_in, keep_those, refine};
 use crate::lines::{has_child, has_parent, over, parents, under};
 use crate::page_index::Index;
 use crate::places::{place_at, places};
-use crate::sides::beside;
+use crate::sides::{after, before};
 use crate::types::places_of_type;
 use html_forest::{Forest, NodeId};
 use html_selector_matching::{
@@ -56,19 +56,27 @@ fn is_next_in(forest: &Forest, id: NodeId, column: &[bool]) -> bool
     }
 }
 
-// Leaves in a column of elements those that have one of another column among the siblings on one side.
-fn keep_beside(
-    index: &Index<'_>,
-    from_end: bool,
-    those: &[bool],
-    column: &mut Vec<bool>,
-) -> Result<(), ParseFault>
-    requires { (n : ℕ) → at column.old.items n ≡ true → around.is_element index.now.forest.now n ≡ true }
+// Leaves in a column of elements those that have one of another column before them under the same parent.
+fn keep_after(index: &Index<'_>, those: &[bool], column: &mut Vec<bool>) -> Result<(), ParseFault>
+    requires those { (n : ℕ) → at those.now n ≡ true → around.is_element index.now.forest.now n ≡ true }
+    requires elements { (n : ℕ) → at column.old.items n ≡ true → around.is_element index.now.forest.now n ≡ true }
     ensures ok { OnOk result ((n : ℕ) → at column.new.items n
-        ≡ (at column.old.items n && list_any (at those.now) (nodes_beside from_end index.now.forest.now n))) }
+        ≡ (at column.old.items n && list_any (at those.now) (nodes_beside false index.now.forest.now n))) }
     ensures fault { IfErr result (λ fault. fault ≡ Memory) }
 {
-    let with = beside(index, from_end, those, column.as_slice())?;
+    let with = after(index, those)?;
+    keep_those(column, with.as_slice());
+    Ok(())
+}
+
+// Leaves in a column of elements those that have one of another column after them under the same parent.
+fn keep_before(index: &Index<'_>, those: &[bool], column: &mut Vec<bool>) -> Result<(), ParseFault>
+    requires { (n : ℕ) → at column.old.items n ≡ true → around.is_element index.now.forest.now n ≡ true }
+    ensures ok { OnOk result ((n : ℕ) → at column.new.items n
+        ≡ (at column.old.items n && list_any (at those.now) (nodes_beside true index.now.forest.now n))) }
+    ensures fault { IfErr result (λ fault. fault ≡ Memory) }
+{
+    let with = before(index, those, column.as_slice())?;
     keep_those(column, with.as_slice());
     Ok(())
 }
@@ -139,14 +147,15 @@ pub(crate) fn keep_inside(
     Ok(())
 }
 
-/// Leaves in a column of elements those to which one on the left stands as a combinator says.
+/// Leaves in a column of elements those to which an element of another one, on the left, stands as a combinator says.
 pub(crate) fn keep_right(
     index: &Index<'_>,
     combinator: Combinator,
     left: &[bool],
     column: &mut Vec<bool>,
 ) -> Result<(), ParseFault>
-    requires { (n : ℕ) → at column.old.items n ≡ true → around.is_element index.now.forest.now n ≡ true }
+    requires left { (n : ℕ) → at left.now n ≡ true → around.is_element index.now.forest.now n ≡ true }
+    requires elements { (n : ℕ) → at column.old.items n ≡ true → around.is_element index.now.forest.now n ≡ true }
     ensures ok { OnOk result ((n : ℕ) → at column.new.items n
         ≡ (at column.old.items n && list_any (at left.now) (left_of combinator index.now.forest.now n))) }
     ensures fault { IfErr result (λ fault. fault ≡ Memory) }
@@ -170,7 +179,7 @@ pub(crate) fn keep_right(
             );
             Ok(())
         }
-        Combinator::SubsequentSibling => keep_beside(index, false, left, column),
+        Combinator::SubsequentSibling => keep_after(index, left, column),
     }
 }
 
@@ -210,7 +219,7 @@ pub(crate) fn keep_left(
             );
             Ok(())
         }
-        Combinator::SubsequentSibling => keep_beside(index, true, right, column),
+        Combinator::SubsequentSibling => keep_before(index, right, column),
     }
 }
 

@@ -58,8 +58,8 @@ pub(crate) fn has_child(forest: &Forest, id: NodeId, one: &[bool], other: &[bool
     false
 }
 
-// Puts the parent of a node into a column.
-fn mark_parent(forest: &Forest, id: NodeId, column: &mut Vec<bool>)
+/// Puts the parent of a node into a column.
+pub(crate) fn mark_parent(forest: &Forest, id: NodeId, column: &mut Vec<bool>)
     requires { node_count forest.now ≤ length column.old.items }
     ensures len { length column.new.items ≡ length column.old.items }
     ensures marked { (n : ℕ) → at column.new.items n ≡ (is_among id (children_of forest.now n) || at column.old.items n) }

@@ -102,6 +102,7 @@ fn selected_by_complex(
     narrow: u8,
 ) -> Result<Vec<bool>, ParseFault>
     ensures ok { IfOk result (λ column. (n : ℕ) → at column.items n ≡ selects.is_complex complex.now index.now.forest.now scope n) }
+    ensures elements { IfOk result (λ column. (n : ℕ) → at column.items n ≡ true → is_element index.now.forest.now n ≡ true) }
     ensures fault { IfErr result (λ fault. fault ≡ Memory) }
 {
     let column = column_of_complex(index, scope, complex, index.elements.as_slice(), narrow)?;
@@ -139,7 +140,7 @@ fn column_inside(
     Ok(column)
 }
 
-// Those of some elements that a compound selector selects, and on whose left stands one of a column, as a combinator says.
+// Those of some elements that a compound selector selects, and on whose left stands an element of a column, as a combinator says.
 #[cycle(columns)]
 fn column_right(
     index: &Index<'_>,
@@ -149,7 +150,8 @@ fn column_right(
     left: &[bool],
     within: &[bool],
 ) -> Result<Vec<bool>, ParseFault>
-    requires { (n : ℕ) → at within.now n ≡ true → is_element index.now.forest.now n ≡ true }
+    requires left { (n : ℕ) → at left.now n ≡ true → is_element index.now.forest.now n ≡ true }
+    requires within { (n : ℕ) → at within.now n ≡ true → is_element index.now.forest.now n ≡ true }
     ensures ok { IfOk result (λ column. (n : ℕ) → at column.items n
         ≡ ((at within.now n && selects.is_compound compound.now index.now.forest.now scope n)
         && list_any (at left.now) (left_of combinator index.now.forest.now n))) }

@@ -35,7 +35,8 @@ loop-left-preserved-in-loop-left c =
       within = omega (arith, within);
       count = c.mark_parent.ensures.len ∙ c.loop-left.invariant.count;
       done = over-step f c.keeps.ensures.is_forest c.args.index.now.order.items c.args.index.now.ordered t c.requires over
-          c.loop-left.left n true c.mark_parent.new.column.items c.loop-left-test.true within c.index-id.ensures c.loop-left.invariant.done told
+          c.loop-left.left n true c.mark_parent.new.column.items c.loop-left-test.true within c.index-id.ensures
+          c.loop-left.invariant.done told
           (λ m. c.mark_parent.ensures.marked m ∙ ap (λ b. b || at over m) (sym (and-true (is_among n (children_of f m)))));
     }
   where

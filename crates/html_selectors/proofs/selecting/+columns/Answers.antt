@@ -13,7 +13,7 @@ use Rattle.html_selectors.specs.Relatives.{first_of}
 use Rattle.html_selectors.proofs.Beside.{nth-beside}
 use Rattle.html_selectors.proofs.Lists.{any-same}
 use Rattle.html_selectors.proofs.Marks.{and-regroup}
-use Rattle.html_selectors.proofs.Within.{agree, complex-element, elements-more, has-on, joined, over-left}
+use Rattle.html_selectors.proofs.Within.{agree, complex-element, complex-is-element, elements-more, has-on, joined, over-left}
 use Rattle.html_selectors.proofs.selecting.+columns.Goals as goal
 
 pub column_inside-returns-clause-ok : goal.column_inside-returns-clause-ok
@@ -76,6 +76,10 @@ selected_by_complex-returns-clause-ok t c =
     λ n. c.in_ok-column.ensures.ok n
     ∙ (ap (λ (l : List Bool). at l n && is_complex s f c.args.scope n) c.as_slice.ensures.value
     ∙ (ap (λ b. b && is_complex s f c.args.scope n) (c.args.index.now.marked n) ∙ complex-element s f c.args.scope n))
+
+pub selected_by_complex-returns-clause-elements : goal.selected_by_complex-returns-clause-elements
+selected_by_complex-returns-clause-elements t c = λ n h.
+    complex-is-element c.args.complex.now c.args.index.now.forest.now c.args.scope n (sym (selected_by_complex-returns-clause-ok t c n) ∙ h)
 
 pub column_of_relative-returns-in_ok-column-in-Then-clause-ok : goal.column_of_relative-returns-in_ok-column-in-Then-clause-ok
 column_of_relative-returns-in_ok-column-in-Then-clause-ok t c =

@@ -1,10 +1,10 @@
-use Rattle.std.proofs.Common.{◌∙◌, Bool, List, ap}
+use Rattle.std.proofs.Common.{◌∙◌, Bool, List, ap, true}
 use Rattle.std.specs.Prelude.{◌&&◌}
 use Rattle.std.specs.List.{list_any}
 use Rattle.html_selector_matching.specs.Simples.{nodes_beside}
 use Rattle.html_selectors.specs.Columns.{at}
 use Rattle.html_selectors.proofs.Within.{agree}
-use Rattle.html_selectors.proofs.keeping.keep_beside.Goals as goal
+use Rattle.html_selectors.proofs.keeping.keep_before.Goals as goal
 
 pub returns-clause-ok : goal.returns-clause-ok
 returns-clause-ok c =
@@ -13,5 +13,5 @@ returns-clause-ok c =
     let f = c.args.index.now.forest.now in
     λ n. c.keep_those.ensures n
     ∙ (ap (λ (l : List Bool). old n && at l n) c.as_slice-2.ensures.value
-    ∙ agree (old n) (at c.in_ok-with.with.items n) (list_any t (nodes_beside c.args.from_end f n))
+    ∙ agree (old n) (at c.in_ok-with.with.items n) (list_any t (nodes_beside true f n))
     (λ there. c.in_ok-with.ensures.ok n (ap (λ (l : List Bool). at l n) c.as_slice.ensures.value ∙ there)))
