@@ -1,5 +1,5 @@
 //! Selectors as text (CSSOM, "Serializing selectors").
-ghost use Rattle.std.specs.Prelude.{◌≡◌, ◌++◌, ◌+◌, ◌<◌, ◌∷◌, [], IfErr, IfOk, OnOk, IsTrue, codes, flat_map};
+ghost use Rattle.std.specs.Prelude.{◌≡◌, ◌++◌, ◌+◌, ◌<◌, ◌∷◌, [], IfErr, IfOk, OnOk, IsTrue, codes, cond, flat_map};
 ghost use Rattle.std.specs.Str.{chars};
 ghost use Rattle.std.specs.String.{string_bytes};
 ghost use Rattle.markup.specs.Plain.{is_plain};
@@ -84,50 +84,6 @@ fn push_digit_or_later(text: &mut Text, c: char) -> Result<(), ParseFault>
     }
 }
 
-fn push_all_later(text: &mut Text, rest: &[char]) -> Result<(), ParseFault>
-    ensures ok { OnOk result (text.new ≡ text.old ++ flat_map defined.later_character rest.now) }
-    ensures fault { IfErr result (λ fault. fault ≡ Memory) }
-{
-    let mut left = rest;
-    while let [c, others @ ..] = left {
-        push_later(text, *c)?;
-        left = others;
-    }
-    Ok(())
-}
-
-fn push_behind_hyphen(text: &mut Text, rest: &[char]) -> Result<(), ParseFault>
-    ensures ok { OnOk result (text.new ≡ text.old ++ defined.behind_hyphen rest.now) }
-    ensures fault { IfErr result (λ fault. fault ≡ Memory) }
-{
-    let Some((c, others)) = rest.split_first() else {
-        return Ok(());
-    };
-    push_digit_or_later(text, *c)?;
-    push_all_later(text, others)
-}
-
-#[tactic(auto, unfolding(crate::specs::Written::identifier))]
-fn push_identifier(alloc: Global, text: &mut Text, name: &Text) -> Result<(), ParseFault>
-    ensures ok { OnOk result (text.new ≡ text.old ++ defined.identifier name.now) }
-    ensures fault { IfErr result (λ fault. fault ≡ Memory) }
-{
-    let chars = characters(alloc, name.as_str())?;
-    let Some((c, others)) = chars.as_slice().split_first() else {
-        return Ok(());
-    };
-    if *c != '-' {
-        push_digit_or_later(text, *c)?;
-        return push_all_later(text, others);
-    }
-    if others.is_empty() {
-        text.push('\\')?;
-        return text.push('-');
-    }
-    text.push('-')?;
-    push_behind_hyphen(text, others)
-}
-
 fn push_string_character(text: &mut Text, c: char) -> Result<(), ParseFault>
     ensures ok { OnOk result (text.new ≡ text.old ++ defined.string_character c) }
     ensures fault { IfErr result (λ fault. fault ≡ Memory) }
@@ -144,16 +100,61 @@ fn push_string_character(text: &mut Text, c: char) -> Result<(), ParseFault>
     text.push(c)
 }
 
-fn push_string_characters(text: &mut Text, rest: &[char]) -> Result<(), ParseFault>
-    ensures ok { OnOk result (text.new ≡ text.old ++ flat_map defined.string_character rest.now) }
+// A character of a string in quotes, or of an identifier behind its beginning.
+fn push_character(text: &mut Text, quoted: bool, c: char) -> Result<(), ParseFault>
+    ensures ok { OnOk result (text.new ≡ text.old ++ cond quoted defined.string_character defined.later_character c) }
+    ensures fault { IfErr result (λ fault. fault ≡ Memory) }
+{
+    if quoted {
+        push_string_character(text, c)
+    } else {
+        push_later(text, c)
+    }
+}
+
+fn push_characters(text: &mut Text, quoted: bool, rest: &[char]) -> Result<(), ParseFault>
+    ensures ok { OnOk result (text.new
+        ≡ text.old ++ flat_map (cond quoted defined.string_character defined.later_character) rest.now) }
     ensures fault { IfErr result (λ fault. fault ≡ Memory) }
 {
     let mut left = rest;
     while let [c, others @ ..] = left {
-        push_string_character(text, *c)?;
+        push_character(text, quoted, *c)?;
         left = others;
     }
     Ok(())
+}
+
+fn push_behind_hyphen(text: &mut Text, rest: &[char]) -> Result<(), ParseFault>
+    ensures ok { OnOk result (text.new ≡ text.old ++ defined.behind_hyphen rest.now) }
+    ensures fault { IfErr result (λ fault. fault ≡ Memory) }
+{
+    let Some((c, others)) = rest.split_first() else {
+        return Ok(());
+    };
+    push_digit_or_later(text, *c)?;
+    push_characters(text, false, others)
+}
+
+#[tactic(auto, unfolding(crate::specs::Written::identifier))]
+fn push_identifier(alloc: Global, text: &mut Text, name: &Text) -> Result<(), ParseFault>
+    ensures ok { OnOk result (text.new ≡ text.old ++ defined.identifier name.now) }
+    ensures fault { IfErr result (λ fault. fault ≡ Memory) }
+{
+    let chars = characters(alloc, name.as_str())?;
+    let Some((c, others)) = chars.as_slice().split_first() else {
+        return Ok(());
+    };
+    if *c != '-' {
+        push_digit_or_later(text, *c)?;
+        return push_characters(text, false, others);
+    }
+    if others.is_empty() {
+        text.push('\\')?;
+        return text.push('-');
+    }
+    text.push('-')?;
+    push_behind_hyphen(text, others)
 }
 
 #[tactic(auto, unfolding(crate::specs::Written::quoted))]
@@ -163,7 +164,7 @@ fn push_quoted(alloc: Global, text: &mut Text, value: &Text) -> Result<(), Parse
 {
     let chars = characters(alloc, value.as_str())?;
     text.push('"')?;
-    push_string_characters(text, chars.as_slice())?;
+    push_characters(text, true, chars.as_slice())?;
     text.push('"')
 }
 
