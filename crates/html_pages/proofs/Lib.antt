@@ -1,2 +1,2 @@
-mod Parsed
+pub mod Parsed
 mod Again

@@ -13,11 +13,10 @@ use Rattle.markup.specs.declared.tree_sink.TreeSink.{Ghosts as TreeGhosts}
 use Rattle.html_normal.specs.Document.{default_opts, default_setting}
 use Rattle.html_normal.specs.Faults.{fault_of}
 use Rattle.html_normal.specs.Normal.{IsInputFault}
-use Rattle.html_normal.specs.declared.fault.NormalFault.{NormalFault}
 use Rattle.html_normal.specs.declared.fault.NormalFault.TheVariants.{Memory}
 use Rattle.html_normal.proofs.Meanings.{document-made, finish-fault}
 use Rattle.html_parser.specs.Documents.{Begins, Finishes, IsBuilt, builder, of_document, of_new_context}
-use Rattle.html_parser.specs.Read.{Beginning, HasRead, stopped_by}
+use Rattle.html_parser.specs.Read.{Beginning, stopped_by}
 use Rattle.html_queue.specs.Queue.{Queue}
 use Rattle.html_rules.specs.Documents.{Setting}
 use Rattle.html_rules.specs.State.{State}
@@ -36,8 +35,8 @@ pub on-err : {A E : Type 0} {P Q : E → Type 0} (r : Result A E) → IfErr r P 
 on-err (Ok x) h f = tt
 on-err (Err e) h f = f e h
 
--- of parsers only want of memory is told
-memory-alone : (fault : ParseFault) → IsInputFault ⊥ None None (fault_of fault) → fault_of fault ≡ Memory
+-- the only fault of the parsers is out of memory
+pub memory-alone : (fault : ParseFault) → IsInputFault ⊥ None None (fault_of fault) → fault_of fault ≡ Memory
 memory-alone parse.Memory h = refl
 memory-alone parse.Failed h = refl
 memory-alone parse.TokenInText h = absurd h

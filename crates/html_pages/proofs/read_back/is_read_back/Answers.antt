@@ -1,4 +1,4 @@
-use Rattle.html_pages.proofs.Again.{not-read-back, read-back}
+use Rattle.html_pages.proofs.Again.{read-back}
 use Rattle.html_pages.proofs.Parsed.{on-ok}
 use Rattle.html_pages.proofs.read_back.is_read_back.Goals as goal
 

@@ -1,5 +1,5 @@
 use Rattle.std.proofs.lemmas.Str.{IsUtf8-string_bytes}
-use Rattle.std.proofs.Common.{false, true}
+use Rattle.std.proofs.Common.{false}
 use Rattle.std.specs.String.{string_bytes}
 use Rattle.html_normal.specs.Document.{forest_answers}
 use Rattle.html_tree_builder.specs.States.{setting_of}
