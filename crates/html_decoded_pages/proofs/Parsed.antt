@@ -1,17 +1,14 @@
 -- What a parser makes of a text that was decoded.
-use Rattle.std.proofs.Common.{◌≡◌, ◌∙◌, ℕ, Bool, false, List, [], Option, Some, None, Result, Ok, Err, IsUtf8, refl, sym, ap, subst}
+use Rattle.std.proofs.Common.{◌≡◌, ◌∙◌, ℕ, Bool, false, List, [], Option, Some, None, Result, Ok, IsUtf8, refl, sym, ap, subst}
 use Rattle.std.specs.Prelude.{IfOk}
-use Rattle.std.proofs.lemmas.List.{append-nil}
 use Rattle.std.specs.Str.{chars}
 use Rattle.markup.specs.Forest.{Forest, empty_forest}
 use Rattle.markup.specs.declared.fault.ParseFault.{ParseFault}
-use Rattle.markup.specs.declared.fault.ParseFault.TheVariants as parse
 use Rattle.markup.specs.declared.tree_sink.TreeSink.{Ghosts as TreeGhosts}
 use Rattle.html_normal.specs.Document.{default_setting, forest_answers}
 use Rattle.html_normal.specs.Faults.{fault_of}
-use Rattle.html_normal.specs.Normal.{IsInputFault}
 use Rattle.html_normal.specs.declared.fault.NormalFault.TheVariants.{Memory}
-use Rattle.html_normal.proofs.Meanings.{document-made, finish-fault, opts_with}
+use Rattle.html_normal.proofs.Meanings.{finish-fault, opts_with}
 use Rattle.html_parser.specs.Documents.{IsBuilt, builder, of_document}
 use Rattle.html_parser.specs.Read.{Beginning, FailsAfter, IsLeft, RisesTo, owed_by}
 use Rattle.html_rules.specs.Documents.{Setting}
@@ -23,6 +20,7 @@ use Rattle.html_tree_builder.specs.States.{answers_of, setting_of}
 use Rattle.html_tree_builder.specs.declared.options.TreeBuilderOpts.{TreeBuilderOpts}
 use Rattle.html_tree_builder.specs.declared.builder.TreeBuilder.{TreeBuilder}
 use Rattle.html_pages.specs.Pages.{IsPage}
+use Rattle.html_pages.proofs.Parsed.{memory-alone, page-made}
 use Rattle.html_encodings.specs.declared.names.Encoding.{Encoding}
 use Rattle.html_decoded_pages.specs.Changing.{named_in, settled}
 use Rattle.html_decoded_pages.specs.DecodedPages.{IsParsedPage}
@@ -30,18 +28,6 @@ use Rattle.html_decoded_pages.specs.Parsing.{IsOutcome, IsParsed, beginning_of, 
 use Rattle.html_decoded_pages.specs.Pauses.{IsBefore, ReadsIn, settled_by}
 use Rattle.html_decoded_pages.specs.declared.parsing.Parsed.{Parsed}
 use Rattle.html_decoded_pages.specs.declared.parsing.Parsed.TheVariants.{Other, Whole}
-
-pub on-ok : {A E : Type 0} {P Q : A → Type 0} (r : Result A E) → IfOk r P → ((x : A) → P x → Q x) → IfOk r Q
-on-ok (Ok x) h f = f x h
-on-ok (Err e) h f = tt
-
--- the only fault of the parsers is out of memory
-memory-alone : (fault : ParseFault) → IsInputFault ⊥ None None (fault_of fault) → fault_of fault ≡ Memory
-memory-alone parse.Memory h = refl
-memory-alone parse.Failed h = refl
-memory-alone parse.TokenInText h = absurd h
-memory-alone parse.Ended h = absurd h
-memory-alone parse.Shape h = absurd h
 
 module _ {K H O : Type 0} (Sink : TreeGhosts K H O) where
   pub reading-fault : (begin : Beginning State) (k : Tokenizer (TreeBuilder K H O)) (fault : ParseFault)
@@ -116,19 +102,6 @@ module _ {K H O : Type 0} (Sink : TreeGhosts K H O) (table : List Row) (exact : 
       (sym left_is) whole in
       parsed-outcome left other parsed there outcome
 
--- what was built of a text is its page
-page-made : {K H : Type 0} (Sink : TreeGhosts K H Forest)
-    → ((sink : K) (out : Forest) → Sink.finish_gives sink out → out ≡ Sink.forest sink) → (table : List Row) (exact : Bool)
-    (bytes : List ℕ) (out : Forest) → IsUtf8 bytes
-    → IsBuilt Sink (of_document table (opts_with exact) default_setting empty_forest) (chars bytes) out → IsPage table exact bytes out
-page-made Sink gives table exact bytes out text built =
-    let all = subst (λ (cs : List ℕ). IsBuilt Sink (of_document table (opts_with exact) default_setting empty_forest) cs out)
-    (sym (append-nil (chars bytes))) built in
-    let read = document-made Sink table exact (opts_with exact) default_setting empty_forest (Some bytes) (Some []) bytes []
-    out (λ sink is. gives sink out is) refl refl refl refl text
-    (ap (λ (bs : List ℕ). Some bs) (sym (append-nil bytes))) refl all bytes refl in
-    record { document = read.input; counts = read.counts }
-
 -- before a document of a forest
 abbrev first_of : List Row → Beginning State
 first_of table = of_document table (opts_with false) default_setting empty_forest
@@ -154,8 +127,10 @@ module _ {K H : Type 0} (Sink : TreeGhosts K H Forest)
   page-parsed table bytes encoding f (Whole out) f_is text is =
       let built = subst (λ (b : Beginning State). IsBuilt Sink b (chars bytes) out) (begins-first table f f_is) is.0 in
       let same = subst (λ (b : Beginning State). settled_by (builder Sink) b (chars bytes) encoding ≡ encoding)
-      (begins-first table f f_is) is.1 in
-      (page-made Sink gives table false bytes out text built, sym (settled-same Sink table bytes encoding) ∙ same)
+      (begins-first table f f_is) is.1 in (
+        page-made Sink (λ (f : Forest). f) gives table false (opts_with false) default_setting empty_forest bytes out refl refl refl text built,
+        sym (settled-same Sink table bytes encoding) ∙ same,
+      )
   page-parsed table bytes encoding f (Other other) f_is text is =
       sym (settled-same Sink table bytes encoding)
       ∙ subst (λ (b : Beginning State). settled_by (builder Sink) b (chars bytes) encoding ≡ other) (begins-first table f f_is) is

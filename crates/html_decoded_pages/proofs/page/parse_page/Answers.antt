@@ -1,7 +1,8 @@
 use Rattle.std.proofs.Common.{refl}
 use Rattle.std.proofs.lemmas.Str.{IsUtf8-string_bytes}
 use Rattle.std.specs.String.{string_bytes}
-use Rattle.html_decoded_pages.proofs.Parsed.{on-ok, page-copied}
+use Rattle.html_pages.proofs.Parsed.{on-ok}
+use Rattle.html_decoded_pages.proofs.Parsed.{page-copied}
 use Rattle.html_decoded_pages.proofs.page.parse_page.Goals as goal
 
 pub returns-clause-ok : goal.returns-clause-ok
