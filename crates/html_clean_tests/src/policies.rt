@@ -213,10 +213,7 @@ const USER_CONTENT: [(&str, &str); 9] = [
         "<time datetime=2026-11-29>today</time>",
         "<time datetime=\"2026-11-29\">today</time>",
     ),
-    (
-        "<img src=a alt=b srcset=c>",
-        "<img src=\"a\" alt=\"b\">",
-    ),
+    ("<img src=a alt=b srcset=c>", "<img src=\"a\" alt=\"b\">"),
     (
         "<a href=javascript:x rel=opener target=_top>y</a>",
         "<a rel=\"nofollow noopener ugc\">y</a>",
