@@ -2,7 +2,7 @@
 use Rattle.std.specs.Prelude.{◌≡◌, ◌⊎◌, ◌++◌, ◌∷◌, ℕ, false, true, List, [], Option, Some, None, codes}
 use Rattle.html_faithful.specs.Walk.{is_faithful_forest}
 use Rattle.html_faithful_walk.specs.First.{IsFirst}
-use Rattle.html_faithful_walk.specs.Reasons.{shows}
+use Rattle.html_faithful_walk.specs.Reasons.{is_reason}
 use Rattle.html_faithful_walk.specs.declared.reasons.Unfaithful.{Unfaithful}
 use Rattle.html_faithful_walk.specs.declared.reasons.Unfaithful.TheVariants as why
 use Rattle.html_listings.specs.Listings.{local_of}
@@ -60,8 +60,8 @@ faithful_line name = name ++ codes ": faithful\n"
 abbrev pub unfaithful_line : (name path reason : List ℕ) → List ℕ
 unfaithful_line name path reason = name ++ (codes ": " ++ (path ++ (codes ": " ++ (reason ++ codes "\n"))))
 
--- a document is not faithful, and this is the line of the first of its nodes that is not read as it is written: where it is, and what it
--- shows of the reason
+-- a document is not faithful, and this is the line of the first of its nodes that is not read as it is written: where it is, and a reason
+-- that holds of it
 pub record IsUnfaithful (name : List ℕ) (document : Forest) (text : List ℕ) (verdict : Verdict) : Type 0 where
   pub judged : is_faithful_forest true document ≡ false
   pub node : ℕ
@@ -69,7 +69,7 @@ pub record IsUnfaithful (name : List ℕ) (document : Forest) (text : List ℕ) 
   pub around : List ℕ
   pub are_around : AreAround document node around
   pub why : Unfaithful
-  pub shown : shows why (data_of document node) ≡ true
+  pub holds : is_reason true document node why ≡ true
   pub written : text ≡ unfaithful_line name (path document around) (reason why)
   pub done : verdict ≡ Errors
 
