@@ -336,7 +336,7 @@ or-false : (b : Bool) → (b || false) ≡ b
 or-false true = refl
 or-false false = refl
 
--- what is told of the next node
+-- what is seen of the next node
 after-value : (f : Forest) → IsForest f → (t : ℕ → Bool) → ((n : ℕ) → t n ≡ true → is_element f n ≡ true) → (order : List ℕ)
     → order ≡ in_tree_order f → (seen : List Bool) (i n : ℕ) → i < length order → n ≡ get_or order i n
     → ((p : ℕ) → at seen p ≡ seen_done t f (take i order) p) → list_any (at seen) (one_of (parent_of f n)) ≡ any_beside t false f n

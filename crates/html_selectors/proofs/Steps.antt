@@ -234,7 +234,7 @@ over-inner f is t elements n h =
     by [] e any = absurd (let none = ap (list_any (λ c. t c || list_any t (below f c))) e in cc)
     by (c ∷ cs) e any = ap (λ (l : List ℕ). is_element f n || is_some (first_of l)) e ∙ or-true (is_element f n)
 
--- what is told of a node whose children are done, if they are listed
+-- what is known of a node whose children are done, if they are listed
 over-value : (f : Forest) → IsForest f → (t : ℕ → Bool) → ((n : ℕ) → t n ≡ true → is_element f n ≡ true) → (c : List Bool)
     (done : List ℕ) (n : ℕ) → ((m : ℕ) → at c m ≡ over_done t f done m)
     → ((m : ℕ) → is_among m (children_of f n) ≡ true → is_inner f m ≡ true → is_among m done ≡ true) → at c n ≡ list_any t (below f n)
