@@ -14,6 +14,7 @@ pub use devices::VecWriter;
 pub use devices::write_whole;
 pub use html_decoded_pages::DecodedPage;
 pub use html_decoded_pages::decoded_document;
+pub use html_decoded_pages::decoded_noted_document;
 pub use html_decoded_pages::decoded_text;
 pub use html_decoded_source::DecodedSource;
 pub use html_encodings::Decoded;

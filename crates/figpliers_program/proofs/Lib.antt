@@ -4,7 +4,6 @@ mod Found
 mod Given
 mod Texts
 mod Made
-mod Notes
 mod Outcomes
 mod Paths
 mod Printing

@@ -1,5 +1,6 @@
 -- What is made of a page, from what was made of its text or of its document.
-use Rattle.std.proofs.Common.{◌≡◌, Bool, List, inr, subst, sym, ℕ}
+use Rattle.std.proofs.Common.{◌≡◌, ◌∙◌, Bool, List, inr, map, subst, sym, ℕ}
+use Rattle.std.proofs.lemmas.List.{length-map}
 use Rattle.std.specs.Prelude.{Ok, Result}
 use Rattle.std.specs.Str.{chars}
 use Rattle.html_listings.specs.Selected.{selected_in, selected_text}
@@ -9,16 +10,17 @@ use Rattle.html_selector_text.specs.Trees.{list_tree}
 use Rattle.selectors.specs.declared.selector.Selectors.{Selectors}
 use Rattle.std.proofs.Common.{length}
 use Rattle.figpliers.specs.Forest.{Forest}
+use Rattle.html_pages.specs.declared.noted.NotedForest.{NotedForest}
 use Rattle.figpliers.specs.Puts.{WriterView}
 use Rattle.figpliers.specs.Table.{Row}
 use Rattle.figpliers_program.specs.Jobs.{IsMadeOf, IsWritten, has_several}
-use Rattle.figpliers_program.specs.Pages.{DocumentText, PageText, SelectedText, TextText, verdict_on}
+use Rattle.figpliers_program.specs.Pages.{DocumentText, ErrorsText, NotedText, PageText, SelectedText, TextText, note_of, verdict_on}
 use Rattle.figpliers_program.specs.Printing.{PrintsSome}
-use Rattle.figpliers_program.specs.Reading.{IsDocumentOf, IsTextOf}
+use Rattle.figpliers_program.specs.Reading.{IsDocumentOf, IsNotedOf, IsTextOf}
 use Rattle.figpliers_program.specs.declared.command.Asked.{Asked}
 use Rattle.figpliers_program.specs.declared.command.DocumentJob.{DocumentJob}
 use Rattle.figpliers_program.specs.declared.command.Job.{Job}
-use Rattle.figpliers_program.specs.declared.command.Job.TheVariants.{OfDocument, OfText}
+use Rattle.figpliers_program.specs.declared.command.Job.TheVariants.{OfDocument, OfErrors, OfText}
 use Rattle.figpliers_program.specs.declared.command.TextJob.{TextJob}
 use Rattle.figpliers_program.specs.declared.faults.PageFault.{PageFault}
 use Rattle.figpliers_program.specs.declared.faults.Verdict.{Verdict}
@@ -50,6 +52,29 @@ made-of-document table copied asked job several name bytes document old new resu
       subst (λ (j : Job). IsWritten table j (has_several asked) name page old result new) (sym job_is)
           (subst (λ (s : Bool). PrintsSome (PageText table job s name page) old result new) several_is
           (subst (λ (t : List Row). PrintsSome (PageText t job several name page) old result new) table_is of_page)),
+    )
+
+-- of a document with its errors
+pub made-of-errors : (table copied : List Row) (asked : Asked) (name bytes : List ℕ) (noted : NotedForest) (old new : WriterView)
+    (result : Result Verdict PageFault) → copied ≡ table → asked.job ≡ OfErrors → IsNotedOf copied asked.reading bytes noted
+    → length noted.errors.items ≡ noted.forest.errors → PrintsSome (NotedText name noted) old result new
+    → IsMadeOf table asked name bytes old result new
+made-of-errors table copied asked name bytes noted old new result table_is job_is (page, text, is) all prints =
+    let of_page : PrintsSome (ErrorsText copied name page) old result new =
+    prints-as (NotedText name noted) (ErrorsText copied name page) old new result
+    (λ out verdict made. record {
+      document = noted.forest;
+      is_page = is;
+      errors = map note_of noted.errors.items;
+      each = length-map noted.errors.items note_of ∙ all;
+      written = made.0;
+      done = made.1;
+    }) prints in
+    inr (
+      page,
+      subst (λ (t : List Row). IsTextOf t asked.reading bytes page) table_is text,
+      subst (λ (j : Job). IsWritten table j (has_several asked) name page old result new) (sym job_is)
+          (subst (λ (t : List Row). PrintsSome (ErrorsText t name page) old result new) table_is of_page),
     )
 
 -- the elements that the selectors of a text select

@@ -9,7 +9,7 @@ use Rattle.figpliers_program.specs.Outcome.{AreDone, IfUnwritten, IsPageDone, St
 use Rattle.figpliers_program.specs.Verdicts.{graver}
 use Rattle.figpliers_program.specs.declared.command.DocumentJob.TheVariants.{Check, Links, Markdown, Select, Text, Tree}
 use Rattle.figpliers_program.specs.declared.command.Job.{Job}
-use Rattle.figpliers_program.specs.declared.command.Job.TheVariants.{OfDocument, OfText}
+use Rattle.figpliers_program.specs.declared.command.Job.TheVariants.{OfDocument, OfErrors, OfText}
 use Rattle.figpliers_program.specs.declared.faults.PageFault.{PageFault}
 use Rattle.figpliers_program.specs.declared.faults.Verdict.{Verdict}
 use Rattle.figpliers_program.specs.declared.faults.Verdict.TheVariants.{Errors, Fault, Fine, Nothing, Unwritten}
@@ -62,6 +62,7 @@ stops files IsMadeOf f items i d name before one after left next out mid errors 
 
 -- out of memory is a refusal of every command
 pub refused : (job : Job) (errors errors' : Stream) → ReportsNoMemory errors errors' → IsRefused job errors errors'
+refused OfErrors errors errors' line = line
 refused (OfText job) errors errors' line = line
 refused (OfDocument (Select selector show)) errors errors' line = inl line
 refused (OfDocument Tree) errors errors' line = line

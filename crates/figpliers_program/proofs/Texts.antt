@@ -2,13 +2,12 @@
 use Rattle.std.proofs.Common.{◌≡◌, ◌∙◌, ◌+◌, ◌<◌, ℕ, Bool, true, List, [], ◌∷◌, ◌++◌, Option, Some, Ok, Err, ap}
 use Rattle.std.proofs.Common.{append_assoc, drop, get_or, inl, inr, length, map, refl, sym, take}
 use Rattle.std.proofs.lemmas.List.{append-nil, map-append, take-append-drop, take_more}
-use Rattle.std.specs.Prelude.{◌==◌, if◌then◌else◌}
 use Rattle.std.specs.Str.{chars}
 use Rattle.figpliers.specs.Document.{document_bytes}
 use Rattle.figpliers.specs.Forest.{Forest, children_of}
 use Rattle.figpliers.specs.InnerText.{IsInnerText}
 use Rattle.figpliers.specs.Lines.{tree_lines}
-use Rattle.figpliers.specs.Pages.{IsFragment, IsPage, html_name}
+use Rattle.figpliers.specs.Pages.{IsFragment, html_name}
 use Rattle.figpliers.specs.Devices.{count_after}
 use Rattle.figpliers.specs.Normal.{IsBegun, IsFailed, IsNormalised, is_write_fault}
 use Rattle.figpliers.specs.NormalFault.{NormalFault}
@@ -17,12 +16,12 @@ use Rattle.figpliers.specs.Puts.{WriterView, with_bytes}
 use Rattle.figpliers.specs.Report.{Report}
 use Rattle.figpliers.specs.Table.{Row}
 use Rattle.figpliers_program.specs.Faults.{memory_fault_of}
-use Rattle.figpliers_program.specs.Pages.{ErrorsText, FragmentText, NormalText, RenderedText}
+use Rattle.figpliers_program.specs.Pages.{FragmentText, NormalText, RenderedText}
 use Rattle.figpliers_program.specs.Pages.{ended, error_line, error_lines, top_of}
 use Rattle.figpliers_program.specs.Printing.{IsCut, PrintsSome}
 use Rattle.figpliers_program.specs.declared.faults.PageFault.{PageFault}
 use Rattle.figpliers_program.specs.declared.faults.Verdict.{Verdict}
-use Rattle.figpliers_program.specs.declared.faults.Verdict.TheVariants.{Errors, Fine}
+use Rattle.figpliers_program.specs.declared.faults.Verdict.TheVariants.{Fine}
 use Rattle.figpliers_program.proofs.Printing.{cut-longer, prints-behind}
 
 pub rendered : (document : Forest) (node : ℕ) (text : List ℕ) → node ≡ 0 → IsInnerText document node (chars text)
@@ -120,10 +119,3 @@ lines-cut note name items i d error old mid new fault inside is put cut =
     ∙ ap (λ front. front ++ rest) (sym (lines-next note name items i d error inside is)) in
     rw whole (cut-longer old new (done ++ error_line name error) rest fault
     (prints-behind {R = Verdict} old mid new done (error_line name error) (Err fault) put cut))
-
--- all errors were listed
-pub listed : (table : List Row) (name page : List ℕ) (document : Forest) (errors : List (ℕ × List ℕ)) → IsPage table true page document
-    → length errors ≡ document.errors
-    → ErrorsText table name page (error_lines name errors) (if document.errors == 0 then Fine else Errors)
-listed table name page document errors is each =
-    record { document = document; is_page = is; errors = errors; each = each; written = refl; done = refl }

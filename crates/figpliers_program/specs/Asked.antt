@@ -15,11 +15,11 @@ use Rattle.figpliers_program.specs.declared.command.DocumentJob.{DocumentJob}
 use Rattle.figpliers_program.specs.declared.command.DocumentJob.TheVariants.{Check, Links, Markdown, Select, Tree}
 use Rattle.figpliers_program.specs.declared.command.DocumentJob.TheVariants as job
 use Rattle.figpliers_program.specs.declared.command.Job.{Job}
-use Rattle.figpliers_program.specs.declared.command.Job.TheVariants.{OfDocument, OfText}
+use Rattle.figpliers_program.specs.declared.command.Job.TheVariants.{OfDocument, OfErrors, OfText}
 use Rattle.figpliers_program.specs.declared.command.Reading.{Reading}
 use Rattle.figpliers_program.specs.declared.command.Reading.TheVariants.{Found, Lossy, Utf8}
 use Rattle.figpliers_program.specs.declared.command.TextJob.{TextJob}
-use Rattle.figpliers_program.specs.declared.command.TextJob.TheVariants.{Errors, Fragment, Normal}
+use Rattle.figpliers_program.specs.declared.command.TextJob.TheVariants.{Fragment, Normal}
 use Rattle.html_listings.specs.declared.listing.Listing.{Listing}
 use Rattle.html_listings.specs.declared.selected.Show.{Show}
 use Rattle.html_listings.specs.declared.selected.Show.TheVariants.{Attribute, Count, Html, Json}
@@ -71,7 +71,6 @@ lowered_value name rows = option_map (map to_ascii_lowercase) (first_of name row
 
 -- what a command of that name does with the text of each page
 abbrev pub IsTextJob : Text → List Row → TextJob → Type 0
-IsTextJob name rows Errors = name ≡ codes "errors"
 IsTextJob name rows (Fragment element) = (name ≡ codes "tree") × (Some (string_bytes element) ≡ lowered_value (codes "fragment") rows)
 IsTextJob name rows Normal = name ≡ codes "normal"
 
@@ -87,6 +86,7 @@ IsDocumentJob name rows (Select selector show) = (name ≡ codes "select")
 
 -- what a command of that name does
 abbrev pub IsJob : Text → List Row → Job → Type 0
+IsJob name rows OfErrors = name ≡ codes "errors"
 IsJob name rows (OfText job) = IsTextJob name rows job
 IsJob name rows (OfDocument job) = IsDocumentJob name rows job
 

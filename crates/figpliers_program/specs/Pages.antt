@@ -1,5 +1,6 @@
 -- What each command writes of a page, and the verdict.
-use Rattle.std.specs.Prelude.{◌≡◌, ◌++◌, ◌∷◌, ◌==◌, false, true, ℕ, Bool, List, [], Ok, codes, length, if◌then◌else◌}
+use Rattle.std.specs.Prelude.{◌≡◌, ◌++◌, ◌∷◌, ◌==◌, false, true, ℕ, Bool, List, [], Ok, codes, length, map, if◌then◌else◌}
+use Rattle.std.specs.Cow.{cow_str_bytes}
 use Rattle.std.specs.Fmt.{decimal}
 use Rattle.std.specs.List.{ends_with}
 use Rattle.std.specs.Str.{chars}
@@ -7,6 +8,8 @@ use Rattle.std.specs.String.{string_bytes}
 use Rattle.selectors.specs.declared.selector.Selectors.{Selectors}
 use Rattle.html_selector_text.specs.Grammar.{parsed}
 use Rattle.html_selector_text.specs.Trees.{list_tree}
+use Rattle.html_pages.specs.declared.noted.Noted.{Noted}
+use Rattle.html_pages.specs.declared.noted.NotedForest.{NotedForest}
 use Rattle.html_listings.specs.Listings.{links_text}
 use Rattle.html_listings.specs.Selected.{selected_in, selected_text}
 use Rattle.html_listings.specs.declared.selected.Show.{Show}
@@ -19,7 +22,6 @@ use Rattle.figpliers.specs.Table.{Row}
 use Rattle.figpliers_program.specs.declared.command.DocumentJob.{DocumentJob}
 use Rattle.figpliers_program.specs.declared.command.DocumentJob.TheVariants.{Check, Links, Markdown, Select, Text, Tree}
 use Rattle.figpliers_program.specs.declared.command.TextJob.{TextJob}
-use Rattle.figpliers_program.specs.declared.command.TextJob.TheVariants as job
 use Rattle.figpliers_program.specs.declared.command.TextJob.TheVariants.{Fragment, Normal}
 use Rattle.figpliers_program.specs.Checking.{CheckText}
 use Rattle.figpliers_program.specs.declared.faults.Verdict.{Verdict}
@@ -87,7 +89,11 @@ pub record NormalText (table : List Row) (page text : List ℕ) (verdict : Verdi
   pub written : text ≡ document_bytes document
   pub done : verdict ≡ Fine
 
--- the lines of parse errors, each with the number of its line and its words
+-- a parse error as its line and its words
+abbrev pub note_of : Noted → ℕ × List ℕ
+note_of error = (error.line, cow_str_bytes error.message)
+
+-- the lines of parse errors
 abbrev pub error_line : List ℕ → ℕ × List ℕ → List ℕ
 error_line name error = name ++ codes ":" ++ decimal error.0 ++ codes ": " ++ error.1 ++ 10 ∷ []
 
@@ -104,8 +110,12 @@ pub record ErrorsText (table : List Row) (name page text : List ℕ) (verdict : 
   pub written : text ≡ error_lines name errors
   pub done : verdict ≡ (if document.errors == 0 then Fine else Errors)
 
+-- the lines of the errors that a forest has kept
+abbrev pub NotedText : (name : List ℕ) → NotedForest → (text : List ℕ) → Verdict → Type 0
+NotedText name noted text verdict = (text ≡ error_lines name (map note_of noted.errors.items))
+    × (verdict ≡ (if noted.forest.errors == 0 then Fine else Errors))
+
 -- what a command writes of the text of a page that has a name
 abbrev pub TextText : List Row → TextJob → (name page : List ℕ) → (text : List ℕ) → Verdict → Type 0
-TextText table job.Errors name page text verdict = ErrorsText table name page text verdict
 TextText table (Fragment element) name page text verdict = FragmentText table (string_bytes element) page text verdict
 TextText table Normal name page text verdict = NormalText table page text verdict

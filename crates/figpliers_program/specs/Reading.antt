@@ -1,5 +1,5 @@
 -- The bytes of a page, and its text, by how its bytes are read.
-use Rattle.std.specs.Prelude.{◌≡◌, ◌⊎◌, ℕ, Bool, false, List, Option, codes, option_map}
+use Rattle.std.specs.Prelude.{◌≡◌, ◌⊎◌, ℕ, Bool, true, false, List, Option, codes, option_map}
 use Rattle.std.specs.Prelude.{IsUtf8}
 use Rattle.std.specs.Bool.{MatchBool}
 use Rattle.std.specs.Io.KnownBytes.{IsAtEnd, prepend_known}
@@ -10,6 +10,7 @@ use Rattle.figpliers.specs.Encoding.{Encoding}
 use Rattle.figpliers.specs.Encoding.TheVariants as encoding
 use Rattle.figpliers.specs.Forest.{Forest}
 use Rattle.figpliers.specs.Pages.{IsPage}
+use Rattle.html_pages.specs.declared.noted.NotedForest.{NotedForest}
 use Rattle.figpliers.specs.Sniffed.{Sniffed}
 use Rattle.figpliers.specs.Sniffing.{sniffed}
 use Rattle.figpliers.specs.Table.{Row}
@@ -51,6 +52,10 @@ HasNoText reading bytes fault = ⊥
 -- a forest is the document of the text of bytes
 abbrev pub IsDocumentOf : List Row → Reading → (bytes : List ℕ) → Forest → Type 0
 IsDocumentOf table reading bytes document = (text : List ℕ) × IsTextOf table reading bytes text × IsPage table false text document
+
+-- a forest that keeps its errors is the document of the text of bytes
+abbrev pub IsNotedOf : List Row → Reading → (bytes : List ℕ) → NotedForest → Type 0
+IsNotedOf table reading bytes noted = (text : List ℕ) × IsTextOf table reading bytes text × IsPage table true text noted.forest
 
 -- BYTES
 

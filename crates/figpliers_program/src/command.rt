@@ -26,8 +26,6 @@ use std::alloc::{AllocError, Global};
 /// What is done with the text of each page.
 #[derive(Drop)]
 pub enum TextJob {
-    /// Its parse errors are listed.
-    Errors,
     /// The tree that it makes in an element of this name is written line by line.
     Fragment { element: String },
     /// Its normal text is written.
@@ -54,6 +52,8 @@ pub enum DocumentJob {
 /// What is done with each page.
 #[derive(Drop)]
 pub enum Job {
+    /// Its parse errors are listed.
+    OfErrors,
     /// With its text.
     OfText(TextJob),
     /// With its document.
@@ -257,7 +257,7 @@ fn job_of(alloc: Global, name: &str, matches: &ArgMatches<'_>) -> Result<Option<
     ensures none { (result ≡ Ok None) → is_command name.now ≡ false }
 {
     match name {
-        "errors" => Ok(Some(Job::OfText(TextJob::Errors))),
+        "errors" => Ok(Some(Job::OfErrors)),
         "tree" => Ok(Some(tree_of(alloc, matches)?)),
         "links" => Ok(Some(links_of(alloc, matches)?)),
         "markdown" => Ok(Some(Job::OfDocument(DocumentJob::Markdown))),

@@ -7,15 +7,15 @@ ghost use Rattle.figpliers.specs.Puts.{told_by};
 ghost use Rattle.html_listings.specs.Listings.{links_text};
 ghost use Rattle.html_listings.specs.Selected.{selected_in, selected_text};
 ghost use Rattle.figpliers_program.specs.Faults.{memory_fault_of};
-ghost use Rattle.figpliers_program.specs.Pages.{ErrorsText, FragmentText, NormalText, RenderedText, error_line, top_of, verdict_on};
+ghost use Rattle.figpliers_program.specs.Pages.{FragmentText, NormalText, NotedText, RenderedText, error_line, top_of, verdict_on};
 ghost use Rattle.figpliers_program.specs.Printing.{Prints, PrintsSome};
 ghost use Rattle.figpliers_program.specs.declared.faults.Verdict.TheVariants.{Errors, Fine};
 
 use crate::faults::{PageFault, Verdict};
 use crate::writing::{put, put_ended};
 use figpliers::{
-    Exact, Forest, MemReader, NodeId, NormalFault, References, Target, fragment, inner_text,
-    markdown, normalise, noted_document, write_tree,
+    Exact, Forest, MemReader, NodeId, NormalFault, NotedForest, References, Target, fragment,
+    inner_text, markdown, normalise, write_tree,
 };
 use html_listings::{Listing, Show, write_links, write_selected};
 use selectors::Selectors;
@@ -170,18 +170,16 @@ fn verdict_of(count: u64) -> Verdict
     }
 }
 
-/// Lists the parse errors of a page.
+/// Lists the parse errors that were found in a page.
 pub fn errors<W: Target>(
     alloc: Global,
-    table: References,
     name: &str,
-    page: String,
+    noted: &NotedForest,
     writer: &mut W,
 ) -> Result<Verdict, PageFault>
-    ensures { PrintsSome (ErrorsText table name.now (string_bytes page)) (told_by W.written W.failures writer.old) result
+    ensures { PrintsSome (NotedText name.now noted.now) (told_by W.written W.failures writer.old) result
         (told_by W.written W.failures writer.new) }
 {
-    let noted = noted_document(alloc, table, page)?;
     for error in &noted.errors {
         put_error(alloc, name, error.line, error.message.as_str(), writer)?;
     }

@@ -14,7 +14,7 @@ use crate::command::{Asked, DocumentJob, Job, TextJob};
 use crate::commands::{errors, fragment_tree, links, normal, select, text, tree, write_markdown};
 use crate::faults::{PageFault, Verdict, report};
 use crate::files::Files;
-use crate::pages::{document_of, read_page, text_of};
+use crate::pages::{document_of, noted_of, read_page, text_of};
 use figpliers::{
     DeviceFault, Forest, References, SelectorError, Selectors, Source, SyntaxFault, Target,
     parse_selectors, standard, write_whole,
@@ -43,7 +43,6 @@ fn run_text<W: Target>(
         (told_by W.written W.failures writer.new) }
 {
     match job {
-        TextJob::Errors => errors(alloc, table, name, page, writer),
         TextJob::Fragment { element } => {
             fragment_tree(alloc, table, element.as_str(), page, writer)
         }
@@ -102,6 +101,10 @@ fn run_job<W: Target>(
     };
     let reading = &work.asked.reading;
     match &work.asked.job {
+        Job::OfErrors => {
+            let noted = noted_of(alloc, table, reading, bytes)?;
+            errors(alloc, name, &noted, writer)
+        }
         Job::OfText(job) => {
             let page = text_of(alloc, &table, reading, bytes)?;
             run_text(alloc, job, table, name, page, writer)

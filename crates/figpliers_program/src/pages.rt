@@ -1,14 +1,15 @@
 //! Pages from files and from standard input: their bytes, their texts and their documents.
-ghost use Rattle.std.specs.Prelude.{◌≡◌, IfErr, IfOk, option_copied, option_map, string_bytes};
-ghost use Rattle.figpliers_program.specs.Reading.{HasNoText, IsDocumentOf, IsFallback, IsFileRead, IsFileUnread, IsNotRead, IsRead};
-ghost use Rattle.figpliers_program.specs.Reading.{IsReadFrom, IsTextOf, IsUnread};
+ghost use Rattle.std.specs.Prelude.{◌≡◌, IfErr, IfOk, length, option_copied, option_map, string_bytes};
+ghost use Rattle.figpliers_program.specs.Reading.{HasNoText, IsDocumentOf, IsFallback, IsFileRead, IsFileUnread, IsNotRead, IsNotedOf};
+ghost use Rattle.figpliers_program.specs.Reading.{IsRead, IsReadFrom, IsTextOf, IsUnread};
 ghost use Rattle.figpliers_program.specs.declared.command.Reading.TheVariants.{Utf8};
 
 use crate::command::Reading;
 use crate::faults::PageFault;
 use crate::files::Files;
 use figpliers::{
-    Encoding, Forest, References, Source, decoded_document, decoded_text, document, document_lossy,
+    Encoding, Forest, NotedForest, References, Source, decoded_document, decoded_noted_document,
+    decoded_text, document, document_lossy, noted_document,
 };
 use std::alloc::Global;
 use std::str;
@@ -140,6 +141,32 @@ pub fn document_of(
             let bytes = bytes.as_slice();
             let fallback = fallback_of(bytes);
             let page = decoded_document(alloc, table, bytes, label_bytes(label), fallback)?;
+            Ok(page.content)
+        }
+    }
+}
+
+/// The document of a page, with its parse errors.
+pub fn noted_of(
+    alloc: Global,
+    table: References,
+    reading: &Reading,
+    bytes: Vec<u8>,
+) -> Result<NotedForest, PageFault>
+    ensures ok { IfOk result (IsNotedOf table reading.now bytes.items) }
+    ensures all { IfOk result (λ noted. length noted.errors.items ≡ noted.forest.errors) }
+    ensures fault { IfErr result (HasNoText reading.now bytes.items) }
+{
+    match reading {
+        Reading::Utf8 => Ok(noted_document(alloc, table, utf8_text(bytes)?)?),
+        Reading::Lossy => {
+            let text = String::from_utf8_lossy(alloc, bytes.as_slice())?;
+            Ok(noted_document(alloc, table, text)?)
+        }
+        Reading::Found { label } => {
+            let bytes = bytes.as_slice();
+            let fallback = fallback_of(bytes);
+            let page = decoded_noted_document(alloc, table, bytes, label_bytes(label), fallback)?;
             Ok(page.content)
         }
     }

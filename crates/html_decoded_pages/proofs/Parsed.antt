@@ -1,5 +1,5 @@
 -- What a parser makes of a text that was decoded.
-use Rattle.std.proofs.Common.{◌≡◌, ◌∙◌, ℕ, Bool, false, List, [], Option, Some, None, Result, Ok, IsUtf8, refl, sym, ap, subst}
+use Rattle.std.proofs.Common.{◌≡◌, ◌∙◌, ℕ, Bool, List, [], Option, Some, None, Result, Ok, IsUtf8, refl, sym, ap, subst}
 use Rattle.std.specs.Prelude.{IfOk}
 use Rattle.std.specs.Str.{chars}
 use Rattle.markup.specs.Forest.{Forest, empty_forest}
@@ -103,58 +103,61 @@ module _ {K H O : Type 0} (Sink : TreeGhosts K H O) (table : List Row) (exact : 
       parsed-outcome left other parsed there outcome
 
 -- before a document of a forest
-abbrev first_of : List Row → Beginning State
-first_of table = of_document table (opts_with false) default_setting empty_forest
+abbrev first_of : List Row → Bool → Beginning State
+first_of table exact = of_document table (opts_with exact) default_setting empty_forest
 
--- the encoding in which a text is to be read does not depend on the sink
-settled-same : {K H : Type 0} (Sink : TreeGhosts K H Forest) (table : List Row) (bytes : List ℕ) (encoding : Encoding)
-    → settled_by (builder Sink) (first_of table) (chars bytes) encoding
+-- the encoding in which a text is to be read depends neither on the sink nor on how exactly errors are reported
+settled-same : {K H O : Type 0} (Sink : TreeGhosts K H O) (table : List Row) (exact : Bool) (bytes : List ℕ) (encoding : Encoding)
+    → settled_by (builder Sink) (first_of table exact) (chars bytes) encoding
     ≡ settled encoding (named_in table bytes)
 unfolding settled_by named_in
-settled-same Sink table bytes encoding = refl
+settled-same Sink table exact bytes encoding = refl
 
--- what was parsed of a text is its page, or it is to be read in another encoding
-module _ {K H : Type 0} (Sink : TreeGhosts K H Forest)
-    (gives : (sink : K) (out : Forest) → Sink.finish_gives sink out → out ≡ Sink.forest sink)
-    (answers : answers_of Sink.integration_point Sink.allows_shadow_roots Sink.attaches_shadow ≡ forest_answers) where
-  begins-first : (table : List Row) (f : Forest) → f ≡ empty_forest → beginning_of Sink table false f ≡ first_of table
-  begins-first table f f_is = ap (λ (a : Answers). of_document table (opts_with false) (setting_with a) f) answers
-      ∙ ap (of_document table (opts_with false) default_setting) f_is
+-- What was parsed of a text has its document, or it is to be read in another encoding.
+module _ {K H O : Type 0} (Sink : TreeGhosts K H O) (forest_of : O → Forest)
+    (is_its : (sink : K) (out : O) → Sink.finish_gives sink out → forest_of out ≡ Sink.forest sink)
+    (answers : answers_of Sink.integration_point Sink.allows_shadow_roots Sink.attaches_shadow ≡ forest_answers) (exact : Bool) where
+  begins-first : (table : List Row) (f : Forest) → f ≡ empty_forest → beginning_of Sink table exact f ≡ first_of table exact
+  begins-first table f f_is = ap (λ (a : Answers). of_document table (opts_with exact) (setting_with a) f) answers
+      ∙ ap (of_document table (opts_with exact) default_setting) f_is
 
-  page-parsed : (table : List Row) (bytes : List ℕ) (encoding : Encoding) (f : Forest) (parsed : Parsed Forest) → f ≡ empty_forest
-      → IsUtf8 bytes → IsParsed Sink table false f (chars bytes) encoding parsed → IsParsedPage table bytes encoding parsed
+  abbrev IsPageOf : List Row → List ℕ → O → Type 0
+  IsPageOf table text out = IsPage table exact text (forest_of out)
+
+  page-parsed : (table : List Row) (bytes : List ℕ) (encoding : Encoding) (f : Forest) (parsed : Parsed O) → f ≡ empty_forest
+      → IsUtf8 bytes → IsParsed Sink table exact f (chars bytes) encoding parsed
+      → IsParsedPage (IsPageOf table) table bytes encoding parsed
   unfolding IsParsed IsParsedPage
   page-parsed table bytes encoding f (Whole out) f_is text is =
       let built = subst (λ (b : Beginning State). IsBuilt Sink b (chars bytes) out) (begins-first table f f_is) is.0 in
       let same = subst (λ (b : Beginning State). settled_by (builder Sink) b (chars bytes) encoding ≡ encoding)
       (begins-first table f f_is) is.1 in (
-        page-made Sink (λ (f : Forest). f) gives table false (opts_with false) default_setting empty_forest bytes out refl refl refl text built,
-        sym (settled-same Sink table bytes encoding) ∙ same,
+        page-made Sink forest_of is_its table exact (opts_with exact) default_setting empty_forest bytes out refl refl refl text built,
+        sym (settled-same Sink table exact bytes encoding) ∙ same,
       )
   page-parsed table bytes encoding f (Other other) f_is text is =
-      sym (settled-same Sink table bytes encoding)
+      sym (settled-same Sink table exact bytes encoding)
       ∙ subst (λ (b : Beginning State). settled_by (builder Sink) b (chars bytes) encoding ≡ other) (begins-first table f f_is) is
 
   -- the same with a copy of the table
-  pub page-copied : (table copied : List Row) (bytes : List ℕ) (encoding : Encoding) (f : Forest) (parsed : Parsed Forest) → copied ≡ table
-      → f ≡ empty_forest → IsUtf8 bytes → IsParsed Sink copied false f (chars bytes) encoding parsed
-      → IsParsedPage table bytes encoding parsed
+  pub page-copied : (table copied : List Row) (bytes : List ℕ) (encoding : Encoding) (f : Forest) (parsed : Parsed O) → copied ≡ table
+      → f ≡ empty_forest → IsUtf8 bytes → IsParsed Sink copied exact f (chars bytes) encoding parsed
+      → IsParsedPage (IsPageOf table) table bytes encoding parsed
   page-copied table copied bytes encoding f parsed table_is f_is text is =
       page-parsed table bytes encoding f parsed f_is text
-      (subst (λ (t : List Row). IsParsed Sink t false f (chars bytes) encoding parsed) table_is is)
+      (subst (λ (t : List Row). IsParsed Sink t exact f (chars bytes) encoding parsed) table_is is)
 
 -- what a parsed page says
-pub page-of : (table : List Row) (text : List ℕ) (encoding : Encoding) (forest : Forest)
-    → IsParsedPage table text encoding (Whole forest) → IsPage table false text forest
-unfolding IsParsedPage
-page-of table text encoding forest is = is.0
+module _ {T : Type 0} (Is : List ℕ → T → Type 0) (table : List Row) (text : List ℕ) (encoding : Encoding) where
+  pub made-of : (made : T) → IsParsedPage Is table text encoding (Whole made) → Is text made
+  unfolding IsParsedPage
+  made-of made is = is.0
 
-pub stays : (table : List Row) (text : List ℕ) (encoding : Encoding) (forest : Forest)
-    → IsParsedPage table text encoding (Whole forest) → settled encoding (named_in table text) ≡ encoding
-unfolding IsParsedPage
-stays table text encoding forest is = is.1
+  pub stays : (made : T) → IsParsedPage Is table text encoding (Whole made) → settled encoding (named_in table text) ≡ encoding
+  unfolding IsParsedPage
+  stays made is = is.1
 
-pub changes : (table : List Row) (text : List ℕ) (encoding other : Encoding)
-    → IsParsedPage table text encoding (Other other) → settled encoding (named_in table text) ≡ other
-unfolding IsParsedPage
-changes table text encoding other is = is
+  pub changes : (other : Encoding) → IsParsedPage Is table text encoding (Other other)
+      → settled encoding (named_in table text) ≡ other
+  unfolding IsParsedPage
+  changes other is = is

@@ -2,46 +2,42 @@
 use Rattle.std.proofs.Common.{◌≡◌, ◌∙◌, ℕ, false, List, drop, Option, Result, Ok, Err, true, refl, sym, ap, subst}
 use Rattle.std.specs.Prelude.{IfOk}
 use Rattle.std.specs.String.{string_bytes}
-use Rattle.markup.specs.Forest.{Forest}
 use Rattle.html_tokens.specs.Table.{Row}
 use Rattle.html_normal.specs.declared.fault.NormalFault.{NormalFault}
-use Rattle.html_pages.specs.Pages.{IsPage}
 use Rattle.html_encodings.specs.Sniffing.{sniffed}
 use Rattle.html_encodings.specs.declared.decoded.Decoded.{Decoded}
 use Rattle.html_encodings.specs.declared.names.Encoding.{Encoding}
 use Rattle.html_encodings.specs.declared.sniffing.Sniffed.{Sniffed}
 use Rattle.html_encodings_multibyte.specs.Texts.{IsText}
 use Rattle.html_decoded_pages.specs.Changing.{is_tentative, named_in, settled}
-use Rattle.html_decoded_pages.specs.DecodedPages.{IsDecodedDocument, IsDecodedText, IsParsedPage, encoding_of, text_in, unmarked}
+use Rattle.html_decoded_pages.specs.DecodedPages.{IsDecoded, IsParsedPage, encoding_of, text_in, unmarked}
 use Rattle.html_decoded_pages.specs.declared.page.DecodedPage.{DecodedPage}
 use Rattle.html_decoded_pages.specs.declared.parsing.Parsed.{Parsed}
 use Rattle.html_decoded_pages.specs.declared.parsing.Parsed.TheVariants.{Other, Whole}
-use Rattle.html_decoded_pages.proofs.Parsed.{changes, page-of, stays}
+use Rattle.html_decoded_pages.proofs.Parsed.{changes, made-of, stays}
 use Rattle.html_decoded_pages.proofs.Unmarked.{tentative-unmarked}
 
-module _ (table : List Row) (found : Sniffed) (bytes : List ℕ) (decoded : Decoded) (text : IsText found.encoding bytes decoded) where
+-- What was made of a page's text was made of the page.
+module _ {T : Type 0} (Is : List ℕ → T → Type 0) (table : List Row) (found : Sniffed) (bytes : List ℕ) (decoded : Decoded)
+    (text : IsText found.encoding bytes decoded) where
   -- what is read in the encoding that was found, and in another
-  abbrev found_page : {T : Type 0} → T → DecodedPage T
+  abbrev found_page : T → DecodedPage T
   found_page content = record { content = content; encoding = found.encoding; sniffed = found; errors = decoded.errors }
 
-  abbrev other_page : {T : Type 0} → Encoding → Decoded → T → DecodedPage T
+  abbrev other_page : Encoding → Decoded → T → DecodedPage T
   other_page encoding again content = record { content = content; encoding = encoding; sniffed = found; errors = again.errors }
 
   -- what is certain does not change
   stays-certain : is_tentative found.why ≡ false → found.encoding ≡ encoding_of table found bytes
   stays-certain certain = rw certain refl
 
-  pub certain-text : is_tentative found.why ≡ false
-      → IsDecodedText table found bytes (found_page decoded.text)
-  certain-text certain = record { sniffed = refl; encoding = stays-certain certain; errors = text.errors; text = text.text }
-
-  pub certain-document : (forest : Forest) → is_tentative found.why ≡ false → IsPage table false (string_bytes decoded.text) forest
-      → IsDecodedDocument table found bytes (found_page forest)
-  certain-document forest certain page = record {
+  pub of-certain : (content : T) → is_tentative found.why ≡ false → Is (string_bytes decoded.text) content
+      → IsDecoded Is table found bytes (found_page content)
+  of-certain content certain is = record {
     sniffed = refl;
     encoding = stays-certain certain;
     errors = text.errors;
-    document = subst (λ (t : List ℕ). IsPage table false t forest) text.text page;
+    content = subst (λ (t : List ℕ). Is t content) text.text is;
   }
 
   -- what is tentative changes to what is named
@@ -52,68 +48,41 @@ module _ (table : List Row) (found : Sniffed) (bytes : List ℕ) (decoded : Deco
       ap (λ t. settled found.encoding (named_in table t)) (sym text.text) ∙ is in
       rw tentative (sym named)
 
-  module _ (tentative : is_tentative found.why ≡ true) where
-    whole-text : (forest : Forest) → IsParsedPage table (string_bytes decoded.text) found.encoding (Whole forest)
-        → IsDecodedText table found bytes (found_page decoded.text)
-    whole-text forest parsed = record {
+  -- something was parsed of a copy of the text
+  module _ {P : Type 0} (Made : List ℕ → P → Type 0) (tentative : is_tentative found.why ≡ true) where
+    whole : (made : P) (content : T) → IsParsedPage Made table (string_bytes decoded.text) found.encoding (Whole made)
+        → Is (string_bytes decoded.text) content → IsDecoded Is table found bytes (found_page content)
+    whole made content parsed is = record {
       sniffed = refl;
-      encoding = changes-to found.encoding tentative (stays table (string_bytes decoded.text) found.encoding forest parsed);
+      encoding = changes-to found.encoding tentative (stays Made table (string_bytes decoded.text) found.encoding made parsed);
       errors = text.errors;
-      text = text.text;
+      content = subst (λ (t : List ℕ). Is t content) text.text is;
     }
 
-    other-text : (encoding : Encoding) (again : Decoded)
-        → IsParsedPage table (string_bytes decoded.text) found.encoding (Other encoding) → IsText encoding bytes again
-        → IsDecodedText table found bytes (other_page encoding again again.text)
-    other-text encoding again parsed is = record {
+    other : (encoding : Encoding) (again : Decoded) (content : T)
+        → IsParsedPage Made table (string_bytes decoded.text) found.encoding (Other encoding) → IsText encoding bytes again
+        → Is (string_bytes again.text) content → IsDecoded Is table found bytes (other_page encoding again content)
+    other encoding again content parsed text_is is = record {
       sniffed = refl;
-      encoding = changes-to encoding tentative (changes table (string_bytes decoded.text) found.encoding encoding parsed);
-      errors = is.errors;
-      text = is.text;
+      encoding = changes-to encoding tentative (changes Made table (string_bytes decoded.text) found.encoding encoding parsed);
+      errors = text_is.errors;
+      content = subst (λ (t : List ℕ). Is t content) text_is.text is;
     }
 
-    whole-document : (forest : Forest) → IsParsedPage table (string_bytes decoded.text) found.encoding (Whole forest)
-        → IsDecodedDocument table found bytes (found_page forest)
-    whole-document forest parsed = record {
-      sniffed = refl;
-      encoding = changes-to found.encoding tentative (stays table (string_bytes decoded.text) found.encoding forest parsed);
-      errors = text.errors;
-      document = subst (λ (t : List ℕ). IsPage table false t forest) text.text
-          (page-of table (string_bytes decoded.text) found.encoding forest parsed);
-    }
+    pub of-whole : (copy : List ℕ) (parsed : Parsed P) (made : P) (content : T) → copy ≡ string_bytes decoded.text
+        → IsParsedPage Made table copy found.encoding parsed → parsed ≡ Whole made
+        → (Made (string_bytes decoded.text) made → Is (string_bytes decoded.text) content)
+        → IsDecoded Is table found bytes (found_page content)
+    of-whole copy parsed made content copied is is_whole gives =
+        let there : IsParsedPage Made table (string_bytes decoded.text) found.encoding (Whole made) = rw (copied, is_whole) at is in
+        whole made content there (gives (made-of Made table (string_bytes decoded.text) found.encoding made there))
 
-    other-document : (encoding : Encoding) (again : Decoded) (forest : Forest)
-        → IsParsedPage table (string_bytes decoded.text) found.encoding (Other encoding) → IsText encoding bytes again
-        → IsPage table false (string_bytes again.text) forest
-        → IsDecodedDocument table found bytes (other_page encoding again forest)
-    other-document encoding again forest parsed is page = record {
-      sniffed = refl;
-      encoding = changes-to encoding tentative (changes table (string_bytes decoded.text) found.encoding encoding parsed);
-      errors = is.errors;
-      document = subst (λ (t : List ℕ). IsPage table false t forest) is.text page;
-    }
-
-    -- the same of a copy of the text, and of what it was parsed to
-    pub text-whole : (copy : List ℕ) (parsed : Parsed Forest) (forest : Forest) → copy ≡ string_bytes decoded.text
-        → IsParsedPage table copy found.encoding parsed → parsed ≡ Whole forest
-        → IsDecodedText table found bytes (found_page decoded.text)
-    text-whole copy parsed forest copied is whole = whole-text forest (rw (copied, whole) at is)
-
-    pub text-other : (copy : List ℕ) (parsed : Parsed Forest) (encoding : Encoding) (again : Decoded) → copy ≡ string_bytes decoded.text
-        → IsParsedPage table copy found.encoding parsed → parsed ≡ Other encoding → IsText encoding bytes again
-        → IsDecodedText table found bytes (other_page encoding again again.text)
-    text-other copy parsed encoding again copied is other text_is = other-text encoding again (rw (copied, other) at is) text_is
-
-    pub document-whole : (parsed : Parsed Forest) (forest : Forest)
-        → IsParsedPage table (string_bytes decoded.text) found.encoding parsed → parsed ≡ Whole forest
-        → IsDecodedDocument table found bytes (found_page forest)
-    document-whole parsed forest is whole = whole-document forest (rw whole at is)
-
-    pub document-other : (parsed : Parsed Forest) (encoding : Encoding) (again : Decoded) (forest : Forest)
-        → IsParsedPage table (string_bytes decoded.text) found.encoding parsed → parsed ≡ Other encoding → IsText encoding bytes again
-        → IsPage table false (string_bytes again.text) forest
-        → IsDecodedDocument table found bytes (other_page encoding again forest)
-    document-other parsed encoding again forest is other text_is page = other-document encoding again forest (rw other at is) text_is page
+    pub of-other : (copy : List ℕ) (parsed : Parsed P) (encoding : Encoding) (again : Decoded) (content : T)
+        → copy ≡ string_bytes decoded.text → IsParsedPage Made table copy found.encoding parsed → parsed ≡ Other encoding
+        → IsText encoding bytes again → Is (string_bytes again.text) content
+        → IsDecoded Is table found bytes (other_page encoding again content)
+    of-other copy parsed encoding again content copied is is_other text_is content_is =
+        other encoding again content (rw (copied, is_other) at is) text_is content_is
 
 -- bytes without a mark are those after it
 after-mark : (found : Sniffed) (bytes : List ℕ) → found.mark_length ≡ 0 → unmarked found bytes ≡ bytes

@@ -1,6 +1,6 @@
 -- Pages in any encoding, and what they are read as (HTML Standard, section 13.2.3).
 use Rattle.std.specs.declared.alloc.Global.{Global}
-use Rattle.std.specs.Prelude.{◌≡◌, ℕ, ◌-◌, ◌^◌, min, false, List, String, drop, encode_utf8_all, string_bytes}
+use Rattle.std.specs.Prelude.{◌≡◌, ℕ, ◌-◌, ◌^◌, min, true, false, List, String, drop, encode_utf8_all, string_bytes}
 use Rattle.markup.specs.Forest.{Forest}
 use Rattle.html_tokens.specs.Table.{Row}
 use Rattle.html_encodings.specs.Decoders.{decoding}
@@ -9,6 +9,7 @@ use Rattle.html_encodings.specs.declared.names.Encoding.{Encoding}
 use Rattle.html_encodings.specs.declared.sniffing.Sniffed.{Sniffed}
 use Rattle.html_encodings_multibyte.specs.Every.{decoded, every_end, every_start, every_step}
 use Rattle.html_pages.specs.Pages.{IsPage}
+use Rattle.html_pages.specs.declared.noted.NotedForest.{NotedForest}
 use Rattle.html_decoded_pages.specs.Changing.{is_tentative, named_in, settled, settled_if}
 use Rattle.html_decoded_pages.specs.declared.page.DecodedPage.{DecodedPage}
 use Rattle.html_decoded_pages.specs.declared.parsing.Parsed.{Parsed}
@@ -31,21 +32,32 @@ unmarked found bytes = drop found.mark_length bytes
 abbrev pub encoding_of : List Row → Sniffed → List ℕ → Encoding
 encoding_of table found bytes = settled_if (is_tentative found.why) found.encoding (named_in table (text_in found.encoding bytes))
 
--- Bytes, without a mark, were found to be in an encoding; they are read in one, and this is their text.
-pub record IsDecodedText (table : List Row) (found : Sniffed) (bytes : List ℕ) (page : DecodedPage (String Global)) : Type 0 where
-  pub sniffed : page.sniffed ≡ found
-  pub encoding : page.encoding ≡ encoding_of table found bytes
-  pub errors : page.errors ≡ errors_in page.encoding bytes
-  pub text : string_bytes page.content ≡ text_in page.encoding bytes
+module _ {T : Type 0} (Is : List ℕ → T → Type 0) where
+  -- Bytes, without a mark, were found to be in an encoding; they are read in one, and this was made of their text.
+  pub record IsDecoded (table : List Row) (found : Sniffed) (bytes : List ℕ) (page : DecodedPage T) : Type 0 where
+    pub sniffed : page.sniffed ≡ found
+    pub encoding : page.encoding ≡ encoding_of table found bytes
+    pub errors : page.errors ≡ errors_in page.encoding bytes
+    pub content : Is (text_in page.encoding bytes) page.content
 
--- The same, and this is their document.
-pub record IsDecodedDocument (table : List Row) (found : Sniffed) (bytes : List ℕ) (page : DecodedPage Forest) : Type 0 where
-  pub sniffed : page.sniffed ≡ found
-  pub encoding : page.encoding ≡ encoding_of table found bytes
-  pub errors : page.errors ≡ errors_in page.encoding bytes
-  pub document : IsPage table false (text_in page.encoding bytes) page.content
+  -- A text in UTF-8 that was decoded by an encoding is read in it, and this was made of it; or it is to be read in another.
+  unfoldable pub IsParsedPage : List Row → List ℕ → Encoding → Parsed T → Type 0
+  IsParsedPage table text encoding (Whole made) = Is text made × (settled encoding (named_in table text) ≡ encoding)
+  IsParsedPage table text encoding (Other other) = settled encoding (named_in table text) ≡ other
 
--- A text in UTF-8 that was decoded by an encoding is read in it, and this is its document; or it is to be read in another.
-unfoldable pub IsParsedPage : List Row → List ℕ → Encoding → Parsed Forest → Type 0
-IsParsedPage table text encoding (Whole forest) = IsPage table false text forest × (settled encoding (named_in table text) ≡ encoding)
-IsParsedPage table text encoding (Other other) = settled encoding (named_in table text) ≡ other
+-- a string is a text
+abbrev pub IsTextOf : List ℕ → String Global → Type 0
+IsTextOf text string = string_bytes string ≡ text
+
+-- a forest that keeps its errors is the document of a text
+abbrev pub IsNotedPage : List Row → List ℕ → NotedForest → Type 0
+IsNotedPage table text noted = IsPage table true text noted.forest
+
+abbrev pub IsDecodedText : List Row → Sniffed → List ℕ → DecodedPage (String Global) → Type 0
+IsDecodedText table found bytes page = IsDecoded IsTextOf table found bytes page
+
+abbrev pub IsDecodedDocument : List Row → Sniffed → List ℕ → DecodedPage Forest → Type 0
+IsDecodedDocument table found bytes page = IsDecoded (IsPage table false) table found bytes page
+
+abbrev pub IsDecodedNoted : List Row → Sniffed → List ℕ → DecodedPage NotedForest → Type 0
+IsDecodedNoted table found bytes page = IsDecoded (IsNotedPage table) table found bytes page

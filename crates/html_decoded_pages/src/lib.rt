@@ -5,9 +5,11 @@
 #![tactic(auto)]
 
 mod changing;
+mod noted;
 mod page;
 mod parsing;
 mod pauses;
 
 pub use html_encodings::{Encoding, Sniffed, Why};
+pub use noted::decoded_noted_document;
 pub use page::{DecodedPage, decoded_document, decoded_text};

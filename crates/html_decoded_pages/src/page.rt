@@ -1,8 +1,9 @@
 //! Pages in any encoding: their texts, and their documents.
-ghost use Rattle.std.specs.Prelude.{◌≡◌, IfErr, IfOk, true, option_copied, string_bytes};
+ghost use Rattle.std.specs.Prelude.{◌≡◌, IfErr, IfOk, true, false, option_copied, string_bytes};
 ghost use Rattle.html_normal.specs.declared.fault.NormalFault.TheVariants.{Memory};
 ghost use Rattle.html_encodings.specs.Sniffing.{sniffed};
 ghost use Rattle.html_encodings_multibyte.specs.Texts.{IsText};
+ghost use Rattle.html_pages.specs.Pages.{IsPage};
 ghost use Rattle.html_decoded_pages.specs.Changing.{is_tentative};
 ghost use Rattle.html_decoded_pages.specs.DecodedPages.{IsDecodedDocument, IsDecodedText, IsParsedPage, unmarked};
 
@@ -41,7 +42,7 @@ fn parse_page(
     text: String,
     encoding: Encoding,
 ) -> Result<Parsed<Forest>, NormalFault>
-    ensures ok { IfOk result (IsParsedPage references.now (string_bytes text) encoding) }
+    ensures ok { IfOk result (IsParsedPage (IsPage references.now false) references.now (string_bytes text) encoding) }
     ensures fault { IfErr result (λ fault. fault ≡ Memory) }
 {
     let Ok(table) = references.copy(alloc) else {

@@ -3,7 +3,9 @@
 ghost use Rattle.std.specs.Prelude.{◌<◌};
 
 use devices::MemReader;
-use html_decoded_pages::{Encoding, Why, decoded_document, decoded_text};
+use html_decoded_pages::{
+    Encoding, Why, decoded_document, decoded_noted_document, decoded_text,
+};
 use html_decoded_source::DecodedSource;
 use html_extracts::shown_text;
 use html_normal::{Exact, References, read_document};
@@ -184,9 +186,15 @@ fn is_read(alloc: Global, page: &[u8], row: &Row) -> Result<bool, Fail> {
     let document = decoded_document(alloc, table, page, label, Encoding::Windows1252)?;
     let forest = document.content;
     let shown = shown_text(alloc, &forest, forest.document())?;
+    let again = References::five(alloc)?;
+    let noted = decoded_noted_document(alloc, again, page, label, Encoding::Windows1252)?;
+    let noted_forest = noted.content.forest;
+    let noted_shown = shown_text(alloc, &noted_forest, noted_forest.document())?;
     Ok(
         text.encoding == *encoding
             && document.encoding == *encoding
+            && noted.encoding == *encoding
+            && noted_shown.as_str() == *words
             && text.sniffed == document.sniffed
             && document.sniffed.why == *why
             && text.errors == document.errors
@@ -219,6 +227,28 @@ fn a_meta_that_comes_late_changes_what_is_tentative(rt: HostRuntime) -> Result<(
     for row in LATE {
         let page = late(rt.alloc(), row.0)?;
         assert!(rt; is_read(rt.alloc(), page.as_slice(), row)?, "{}", row.4);
+    }
+    Ok(())
+}
+
+#[test]
+fn a_page_that_is_read_again_has_each_error_once(rt: HostRuntime) -> Result<(), Fail> {
+    let page = late(
+        rt.alloc(),
+        b"<!DOCTYPE html><meta charset=koi8-r>\n<p>\xE9</b>",
+    )?;
+    let table = References::five(rt.alloc())?;
+    let read = decoded_noted_document(
+        rt.alloc(),
+        table,
+        page.as_slice(),
+        None,
+        Encoding::Windows1252,
+    )?;
+    assert_eq!(rt; read.encoding, Encoding::Koi8R);
+    assert_eq!(rt; read.content.errors.len(), 1);
+    for error in &read.content.errors {
+        assert_eq!(rt; error.line, 2);
     }
     Ok(())
 }

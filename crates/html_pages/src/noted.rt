@@ -1,5 +1,5 @@
 //! A forest that keeps the errors of its page, each with its line.
-ghost use Rattle.std.specs.Prelude.{◌≡◌, ◌≤◌, IfErr, IfOk, IsSome, OnErr, OnOk};
+ghost use Rattle.std.specs.Prelude.{◌≡◌, ◌==◌, ◌≤◌, IfErr, IfOk, IsSome, OnErr, OnOk, length};
 ghost use Rattle.markup.specs.Forest.{empty_forest};
 ghost use Rattle.markup.specs.declared.fault.ParseFault.TheVariants.{Memory};
 
@@ -43,6 +43,13 @@ impl NotedForest {
             errors: Vec::new(alloc),
             line: 1,
         })
+    }
+
+    /// Whether it has an error for each that its forest counts.
+    pub fn is_complete(&self) -> bool
+        ensures { result ≡ (length self.now.errors.items == self.now.forest.errors) }
+    {
+        self.errors.len() as u64 == self.forest.error_count()
     }
 }
 

@@ -1,5 +1,5 @@
 //! Texts to documents and to fragments.
-ghost use Rattle.std.specs.Prelude.{◌≡◌, IfErr, IfOk, IsTrue, false, length, true};
+ghost use Rattle.std.specs.Prelude.{◌≡◌, IfErr, IfOk, false, length, true};
 ghost use Rattle.std.specs.Str.{chars};
 ghost use Rattle.std.specs.Str.Lossy.{utf8_lossy};
 ghost use Rattle.std.specs.String.{string_bytes};
@@ -100,14 +100,7 @@ pub fn fragment(
     whole(parser, text)
 }
 
-// Whether each error was kept that was counted.
-fn is_complete(page: &NotedForest) -> bool
-    ensures { IsTrue result → length page.now.errors.items ≡ page.now.forest.errors }
-{
-    page.errors.len() as u64 == page.forest.error_count()
-}
-
-/// The document of a text with all its parse errors, in the order in which they were told.
+/// The document of a text with all its parse errors, in the order in which they were found.
 ///
 /// Errors: [`NormalFault::Memory`].
 pub fn noted_document(
@@ -122,7 +115,7 @@ pub fn noted_document(
     let forest = NotedForest::new(alloc)?;
     let parser = parse_document(alloc, forest, options(ALL_ERRORS), references)?;
     let made = whole(parser, page)?;
-    if !is_complete(&made) {
+    if !made.is_complete() {
         return Err(NormalFault::Memory);
     }
     Ok(made)

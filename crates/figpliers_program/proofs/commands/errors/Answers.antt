@@ -1,20 +1,13 @@
-use Rattle.std.proofs.Common.{◌≡◌, ◌∙◌, ap, inl, inr, length, map, refl, take}
+use Rattle.std.proofs.Common.{◌≡◌, ◌∙◌, ap, inr, map, refl, take}
 use Rattle.std.specs.Prelude.{◌==◌, if◌then◌else◌}
-use Rattle.std.proofs.lemmas.List.{length-map, take_all}
+use Rattle.std.proofs.lemmas.List.{take_all}
 use Rattle.std.proofs.lemmas.Result.{err_from_is_err_and}
 use Rattle.html_serialize.proofs.Putting.{with_bytes-none, with_bytes-then}
 use Rattle.figpliers.specs.Puts.{with_bytes, told_by}
-use Rattle.figpliers_program.specs.Faults.{normal_fault_of}
-use Rattle.figpliers_program.specs.Pages.{error_line, error_lines}
+use Rattle.figpliers_program.specs.Pages.{error_line, error_lines, note_of}
 use Rattle.figpliers_program.specs.declared.faults.Verdict.TheVariants.{Errors, Fine}
-use Rattle.figpliers_program.proofs.Texts.{lines-cut, lines-next, listed}
-use Rattle.figpliers_program.proofs.Notes.{note_of}
+use Rattle.figpliers_program.proofs.Texts.{lines-cut, lines-next}
 use Rattle.figpliers_program.proofs.commands.errors.Goals as goal
-
-pub returns-in_err-noted : goal.returns-in_err-noted
-returns-in_err-noted g c =
-    let p = err_from_is_err_and c.from_residual.result c.from_residual.ensures.1 in
-    rw (p.1, p.2) (inl (ap normal_fault_of c.in_err-noted.ensures.fault, refl))
 
 pub loop-error-init : goal.loop-error-init
 loop-error-init g c = with_bytes-none _
@@ -34,14 +27,11 @@ pub returns-in_err-put_error : goal.returns-in_err-put_error
 returns-in_err-put_error g c =
     let name = c.args.name.now in
     let items = c.deref-error-items.result.now in
-    let forest = c.in_ok-noted.noted.forest in
-    let p = err_from_is_err_and c.from_residual-in_err-put_error.result c.from_residual-in_err-put_error.ensures.1 in
-    let each : length (map note_of items) ≡ forest.errors =
-    length-map items note_of ∙ ap length c.deref-error-items.ensures.value ∙ c.in_ok-noted.ensures.all in
+    let p = err_from_is_err_and c.from_residual.result c.from_residual.ensures.1 in
     rw (p.1, p.2) (inr (
       error_lines name (map note_of items),
-      if forest.errors == 0 then Fine else Errors,
-      listed _ name _ forest (map note_of items) c.in_ok-noted.ensures.ok each,
+      if c.args.noted.now.forest.errors == 0 then Fine else Errors,
+      (ap (λ errors. error_lines name (map note_of errors)) c.deref-error-items.ensures.value, refl),
       lines-cut note_of name items c.loop-error.error-index c.error-item.result (c.error-item.result.line, c.as_str.result.now) _ _ _
           c.in_err-put_error.field-0.0 c.loop-error-test.true
           ((λ j. (c.error-item.result.line, c.as_str.ensures.value j)) ∙ ap note_of c.error-item.is)
@@ -52,12 +42,9 @@ pub returns : goal.returns
 returns g c =
     let name = c.args.name.now in
     let items = c.deref-error-items.result.now in
-    let forest = c.in_ok-noted.noted.forest in
-    let each : length (map note_of items) ≡ forest.errors =
-    length-map items note_of ∙ ap length c.deref-error-items.ensures.value ∙ c.in_ok-noted.ensures.all in
-    let verdict : c.verdict_of.result ≡ (if forest.errors == 0 then Fine else Errors) =
+    let verdict : c.verdict_of.result ≡ (if c.args.noted.now.forest.errors == 0 then Fine else Errors) =
     c.verdict_of.ensures ∙ ap (λ n. if n == 0 then Fine else Errors) c.error_count.ensures in (
       error_lines name (map note_of items),
-      rw verdict (listed _ name _ forest (map note_of items) c.in_ok-noted.ensures.ok each),
+      (ap (λ errors. error_lines name (map note_of errors)) c.deref-error-items.ensures.value, verdict),
       rw (take_all c.loop-error.error-index items c.loop-error-test.false) at c.loop-error.invariant,
     )

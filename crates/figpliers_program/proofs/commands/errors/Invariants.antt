@@ -1,7 +1,6 @@
 use Rattle.std.proofs.Common.{◌≡◌, map, take}
 use Rattle.figpliers.specs.Puts.{told_by, with_bytes}
-use Rattle.figpliers_program.specs.Pages.{error_lines}
-use Rattle.figpliers_program.proofs.Notes.{note_of}
+use Rattle.figpliers_program.specs.Pages.{error_lines, note_of}
 use Rattle.figpliers_program.proofs.commands.errors.Given as goal
 
 -- the lines of the errors so far were written

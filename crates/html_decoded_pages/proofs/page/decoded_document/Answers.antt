@@ -1,7 +1,8 @@
-use Rattle.std.proofs.Common.{sym}
+use Rattle.std.proofs.Common.{false, sym}
 use Rattle.std.specs.Option.{option_copied}
+use Rattle.html_pages.specs.Pages.{IsPage}
 use Rattle.html_decoded_pages.specs.DecodedPages.{IsDecodedDocument, unmarked}
-use Rattle.html_decoded_pages.proofs.Settled.{certain-document, of-all, of-found, text-of-all}
+use Rattle.html_decoded_pages.proofs.Settled.{of-all, of-certain, of-found, text-of-all}
 use Rattle.html_decoded_pages.proofs.page.decoded_document.Goals as goal
 
 pub tentative_document-requires-clause-text : goal.tentative_document-requires-clause-text
@@ -19,5 +20,5 @@ returns-clause-ok c =
     let found = c.in_ok-decoded.sniffed in
     of-found c.args.bytes.now (option_copied c.args.label) c.args.fallback found c.in_ok-decoded.ensures.sniffed
     (IsDecodedDocument c.args.references) _
-    (certain-document c.args.references found (unmarked found c.args.bytes.now) c.in_ok-decoded.decoded c.in_ok-decoded.ensures.text
-    c.in_ok-forest.forest (sym c.if-is_tentative.ensures) c.in_ok-forest.ensures.ok)
+    (of-certain (IsPage c.args.references false) c.args.references found (unmarked found c.args.bytes.now) c.in_ok-decoded.decoded
+    c.in_ok-decoded.ensures.text c.in_ok-forest.forest (sym c.if-is_tentative.ensures) c.in_ok-forest.ensures.ok)

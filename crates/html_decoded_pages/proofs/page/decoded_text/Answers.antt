@@ -1,7 +1,7 @@
-use Rattle.std.proofs.Common.{sym}
+use Rattle.std.proofs.Common.{refl, sym}
 use Rattle.std.specs.Option.{option_copied}
-use Rattle.html_decoded_pages.specs.DecodedPages.{IsDecodedText, unmarked}
-use Rattle.html_decoded_pages.proofs.Settled.{certain-text, of-all, of-found, text-of-all}
+use Rattle.html_decoded_pages.specs.DecodedPages.{IsDecodedText, IsTextOf, unmarked}
+use Rattle.html_decoded_pages.proofs.Settled.{of-all, of-certain, of-found, text-of-all}
 use Rattle.html_decoded_pages.proofs.page.decoded_text.Goals as goal
 
 pub tentative_text-requires-clause-text : goal.tentative_text-requires-clause-text
@@ -19,5 +19,5 @@ returns-clause-ok c =
     let found = c.in_ok-decoded.sniffed in
     of-found c.args.bytes.now (option_copied c.args.label) c.args.fallback found c.in_ok-decoded.ensures.sniffed
     (IsDecodedText c.args.references.now) _
-    (certain-text c.args.references.now found (unmarked found c.args.bytes.now) c.in_ok-decoded.decoded c.in_ok-decoded.ensures.text
-    (sym c.if-is_tentative.ensures))
+    (of-certain IsTextOf c.args.references.now found (unmarked found c.args.bytes.now) c.in_ok-decoded.decoded
+    c.in_ok-decoded.ensures.text c.in_ok-decoded.decoded.text (sym c.if-is_tentative.ensures) refl)

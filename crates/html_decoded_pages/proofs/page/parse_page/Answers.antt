@@ -1,6 +1,7 @@
-use Rattle.std.proofs.Common.{refl}
+use Rattle.std.proofs.Common.{false, refl}
 use Rattle.std.proofs.lemmas.Str.{IsUtf8-string_bytes}
 use Rattle.std.specs.String.{string_bytes}
+use Rattle.markup.specs.Forest.{Forest}
 use Rattle.html_pages.proofs.Parsed.{on-ok}
 use Rattle.html_decoded_pages.proofs.Parsed.{page-copied}
 use Rattle.html_decoded_pages.proofs.page.parse_page.Goals as goal
@@ -8,5 +9,6 @@ use Rattle.html_decoded_pages.proofs.page.parse_page.Goals as goal
 pub returns-clause-ok : goal.returns-clause-ok
 returns-clause-ok c =
     on-ok c.parse.result c.parse.ensures.ok
-    (λ parsed is. page-copied _ (λ sink out gives. gives) refl c.args.references.now c.in-Ok.table (string_bytes c.args.text)
-    c.args.encoding c.in_ok-forest.forest parsed c.in-Ok.ensures.ok c.in_ok-forest.ensures.ok (IsUtf8-string_bytes c.args.text) is)
+    (λ parsed is. page-copied _ (λ (f : Forest). f) (λ sink out gives. gives) refl false c.args.references.now c.in-Ok.table
+    (string_bytes c.args.text) c.args.encoding c.in_ok-forest.forest parsed c.in-Ok.ensures.ok c.in_ok-forest.ensures.ok
+    (IsUtf8-string_bytes c.args.text) is)
