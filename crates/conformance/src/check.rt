@@ -3,7 +3,7 @@
 use crate::headings::{Heading, line_of};
 use crate::rows::{Part, Row};
 use crate::settings::{HOWS, How};
-use crate::{tokens, trees, written};
+use crate::{attacks, tokens, trees, written};
 use markup::ParseFault;
 use std::alloc::{AllocError, Global};
 
@@ -26,6 +26,7 @@ fn seen(alloc: Global, row: &Row, heading: Heading, how: How) -> Result<String, 
         | Heading::CleanedDocument
         | Heading::Encoding
         | Heading::Fault => written::seen(alloc, row, heading, how),
+        Heading::Outside => attacks::seen(alloc, row, how),
         _ => trees::seen(alloc, row, heading, how),
     }
 }

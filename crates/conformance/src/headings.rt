@@ -52,6 +52,8 @@ pub enum Heading {
     /// What the ready policy leaves of a fragment, and of a document.
     Cleaned,
     CleanedDocument,
+    /// What is outside of a policy, of what it leaves of a fragment, where that is read again.
+    Outside,
     /// The encoding that the content of a `meta` element names.
     Encoding,
     /// The status of the program, and its words, where a table of references is none.
@@ -90,6 +92,7 @@ const HEADINGS: &[(&str, Heading)] = &[
     ("#report", Heading::Report),
     ("#cleaned", Heading::Cleaned),
     ("#cleaned-document", Heading::CleanedDocument),
+    ("#outside", Heading::Outside),
     ("#encoding", Heading::Encoding),
     ("#fault", Heading::Fault),
 ];
@@ -143,7 +146,7 @@ impl Heading {
     /// Whether it is compared in runs with exact errors, or in those without.
     pub fn is_expected_if(self, exact: bool) -> bool {
         match self {
-            Heading::Codes => !exact,
+            Heading::Codes | Heading::Outside => !exact,
             Heading::ExactCodes => exact,
             _ => true,
         }

@@ -6,6 +6,7 @@
 //! actual one, and exits with status 1; with 2 if a file can't be read or has no row.
 #![tactic(auto)]
 
+mod attacks;
 mod check;
 mod escapes;
 mod headings;

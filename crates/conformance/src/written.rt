@@ -52,22 +52,39 @@ fn normal(alloc: Global, row: &Row, heading: Heading, how: How) -> Result<String
     text_of(alloc, writer.written())
 }
 
-/// What the ready policy leaves of a row, as a document or as a fragment.
-fn cleaned(alloc: Global, row: &Row, heading: Heading, how: How) -> Result<String, ParseFault> {
-    let policy = Policy::text_and_links(alloc)?;
+/// What a policy leaves of a row, as a document or as a fragment.
+pub fn cleaned_by(
+    alloc: Global,
+    row: &Row,
+    is_document: bool,
+    how: How,
+    policy: &Policy,
+) -> Result<String, ParseFault> {
     let mut reader = reader(alloc, row, how.piece)?;
     let mut writer = VecWriter::new(alloc);
     let table = references(alloc, row)?;
     let exact = exactly(how.exact);
-    let answer = if heading == Heading::CleanedDocument {
-        clean(alloc, &mut reader, &mut writer, table, exact, &policy)
+    let answer = if is_document {
+        clean(alloc, &mut reader, &mut writer, table, exact, policy)
     } else {
-        clean_fragment(alloc, &mut reader, &mut writer, table, exact, &policy)
+        clean_fragment(alloc, &mut reader, &mut writer, table, exact, policy)
     };
     if answer.is_err() {
         return Err(ParseFault::Shape);
     }
     text_of(alloc, writer.written())
+}
+
+/// What the policy for text and links leaves of a row, as a document or as a fragment.
+fn cleaned(alloc: Global, row: &Row, heading: Heading, how: How) -> Result<String, ParseFault> {
+    let policy = Policy::text_and_links(alloc)?;
+    cleaned_by(
+        alloc,
+        row,
+        heading == Heading::CleanedDocument,
+        how,
+        &policy,
+    )
 }
 
 /// The encoding that the content of a `meta` element names.

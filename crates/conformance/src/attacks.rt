@@ -1,0 +1,461 @@
+//! What is outside of a policy, where an attack is cleaned by it, put into contexts and read again.
+
+use crate::lines::{put_line, without_last};
+use crate::rows::Row;
+use crate::settings::How;
+use crate::written::cleaned_by;
+use html_clean::Policy;
+use html_forest::{Forest, NodeData, NodeId};
+use html_normal::References;
+use html_pages::document;
+use markup::{Attribute, ParseFault};
+use std::alloc::{AllocError, Global};
+
+/// What a policy may keep.
+struct Kept {
+    policy: &'static str,
+    /// Elements without attributes of their own.
+    bare: &'static [&'static str],
+    /// Elements with attributes of their own, and others with more.
+    elements: &'static [(&'static str, &'static [&'static str])],
+    others: &'static [(&'static str, &'static [&'static str])],
+    /// Attributes of each of these elements.
+    everywhere: &'static [&'static str],
+}
+
+/// Where cleaned text is put: behind a text, which makes these elements.
+struct Context {
+    before: &'static str,
+    makes: &'static [&'static str],
+}
+
+const BARE: &[&str] = &[
+    "abbr",
+    "acronym",
+    "area",
+    "article",
+    "aside",
+    "b",
+    "bdi",
+    "br",
+    "caption",
+    "center",
+    "cite",
+    "code",
+    "data",
+    "dd",
+    "details",
+    "dfn",
+    "div",
+    "dl",
+    "dt",
+    "em",
+    "figcaption",
+    "figure",
+    "footer",
+    "h1",
+    "h2",
+    "h3",
+    "h4",
+    "h5",
+    "h6",
+    "header",
+    "hgroup",
+    "i",
+    "kbd",
+    "li",
+    "map",
+    "mark",
+    "nav",
+    "p",
+    "pre",
+    "rp",
+    "rt",
+    "rtc",
+    "ruby",
+    "s",
+    "samp",
+    "small",
+    "span",
+    "strike",
+    "strong",
+    "sub",
+    "summary",
+    "sup",
+    "time",
+    "tt",
+    "u",
+    "ul",
+    "var",
+    "wbr",
+];
+
+const LINKS: &[(&str, &[&str])] = &[
+    ("a", &["href", "hreflang"]),
+    ("bdo", &["dir"]),
+    ("blockquote", &["cite"]),
+    ("col", &["align", "char", "charoff", "span"]),
+    ("colgroup", &["align", "char", "charoff", "span"]),
+    ("del", &["cite", "datetime"]),
+    ("hr", &["align", "size", "width"]),
+    ("img", &["align", "alt", "height", "src", "width"]),
+    ("ins", &["cite", "datetime"]),
+    ("ol", &["start"]),
+    ("q", &["cite"]),
+    ("table", &["align", "char", "charoff", "summary"]),
+    ("tbody", &["align", "char", "charoff"]),
+    ("td", CELL),
+    ("tfoot", &["align", "char", "charoff"]),
+    ("th", CELL),
+    ("thead", &["align", "char", "charoff"]),
+    ("tr", &["align", "char", "charoff"]),
+];
+
+const CELL: &[&str] = &[
+    "align", "char", "charoff", "colspan", "headers", "rowspan", "scope",
+];
+
+const USERS: &[(&str, &[&str])] = &[
+    ("a", &["rel"]),
+    ("code", &["class"]),
+    ("details", &["open"]),
+    ("input", &["checked", "disabled", "type"]),
+    ("li", &["value"]),
+    ("ol", &["reversed", "type"]),
+    ("section", &[]),
+    ("time", &["datetime"]),
+];
+
+const KEPT: &[Kept] = &[
+    Kept {
+        policy: "text alone",
+        bare: &[],
+        elements: &[],
+        others: &[],
+        everywhere: &[],
+    },
+    Kept {
+        policy: "text and links",
+        bare: BARE,
+        elements: LINKS,
+        others: &[],
+        everywhere: &["lang", "title"],
+    },
+    Kept {
+        policy: "user content",
+        bare: BARE,
+        elements: LINKS,
+        others: USERS,
+        everywhere: &["dir", "lang", "title"],
+    },
+];
+
+/// Elements that the parser makes by itself (HTML Standard, section 13.2.6).
+const IMPLIED: &[&str] = &["html", "head", "body", "tbody", "colgroup", "tr"];
+
+const CONTEXTS: &[Context] = &[
+    Context {
+        before: "",
+        makes: &[],
+    },
+    Context {
+        before: "<div><p>",
+        makes: &["div", "p"],
+    },
+    Context {
+        before: "<b><i><a><nobr>",
+        makes: &["b", "i", "a", "nobr"],
+    },
+    Context {
+        before: "<h1><button>",
+        makes: &["h1", "button"],
+    },
+    Context {
+        before: "<ul><li>",
+        makes: &["ul", "li"],
+    },
+    Context {
+        before: "<dl><dd>",
+        makes: &["dl", "dd"],
+    },
+    Context {
+        before: "<ruby><rt>",
+        makes: &["ruby", "rt"],
+    },
+    Context {
+        before: "<details><summary>",
+        makes: &["details", "summary"],
+    },
+    Context {
+        before: "<form><object>",
+        makes: &["form", "object"],
+    },
+    Context {
+        before: "<table>",
+        makes: &["table"],
+    },
+    Context {
+        before: "<table><caption>",
+        makes: &["table", "caption"],
+    },
+    Context {
+        before: "<table><colgroup>",
+        makes: &["table"],
+    },
+    Context {
+        before: "<table><tr>",
+        makes: &["table"],
+    },
+    Context {
+        before: "<table><tr><td>",
+        makes: &["table", "td"],
+    },
+    Context {
+        before: "<select>",
+        makes: &["select"],
+    },
+    Context {
+        before: "<select><option>",
+        makes: &["select", "option"],
+    },
+    Context {
+        before: "<template>",
+        makes: &["template"],
+    },
+    Context {
+        before: "<svg>",
+        makes: &["svg"],
+    },
+    Context {
+        before: "<svg><foreignObject>",
+        makes: &["svg", "foreignobject"],
+    },
+    Context {
+        before: "<svg><desc>",
+        makes: &["svg", "desc"],
+    },
+    Context {
+        before: "<math>",
+        makes: &["math"],
+    },
+    Context {
+        before: "<math><mtext><table>",
+        makes: &["math", "mtext", "table"],
+    },
+    Context {
+        before: "<math><annotation-xml>",
+        makes: &["math", "annotation-xml"],
+    },
+];
+
+/// Attributes whose values are URLs.
+const URLS: &[&str] = &[
+    "action",
+    "background",
+    "cite",
+    "data",
+    "formaction",
+    "href",
+    "longdesc",
+    "ping",
+    "poster",
+    "src",
+];
+
+/// What URLs of scripts, and of documents with their own text, begin with.
+const RUN: &[&str] = &["javascript:", "vbscript:", "data:"];
+
+/// How many nodes of a page are looked at.
+const MOST: usize = 100_000;
+
+fn has(names: &[&str], name: &str) -> bool {
+    for it in names {
+        if it.eq_ignore_ascii_case(name) {
+            return true;
+        }
+    }
+    false
+}
+
+/// Whether an element is among these.
+fn is_named(elements: &[(&str, &[&str])], element: &str) -> bool {
+    for (name, _) in elements {
+        if name.eq_ignore_ascii_case(element) {
+            return true;
+        }
+    }
+    false
+}
+
+/// Whether an element is among these, with this attribute.
+fn has_own(elements: &[(&str, &[&str])], element: &str, attribute: &str) -> bool {
+    for (name, attributes) in elements {
+        if name.eq_ignore_ascii_case(element) && has(*attributes, attribute) {
+            return true;
+        }
+    }
+    false
+}
+
+/// Whether a URL begins so once it is read: white space and control characters before it are skipped, and tabs and line feeds in it
+/// (URL Standard, section 4.4).
+fn begins(url: &str, front: &str) -> bool {
+    let mut front = front.as_bytes();
+    let mut has_begun = false;
+    for byte in url.as_bytes() {
+        let Some((first, rest)) = front.split_first() else {
+            return true;
+        };
+        let is_skipped = matches!(*byte, b'\t' | b'\n' | b'\r') || (!has_begun && *byte <= b' ');
+        if !is_skipped {
+            has_begun = true;
+            if byte.to_ascii_lowercase() != *first {
+                return false;
+            }
+            front = rest;
+        }
+    }
+    front.is_empty()
+}
+
+/// Whether a URL runs a script, or may.
+fn runs(url: &str) -> bool {
+    for front in RUN {
+        if begins(url, front) {
+            return true;
+        }
+    }
+    false
+}
+
+impl Kept {
+    /// The policy that it is of.
+    fn policy(&self, alloc: Global) -> Result<Policy, ParseFault> {
+        match self.policy {
+            "text alone" => Policy::text_alone(alloc),
+            "text and links" => Policy::text_and_links(alloc),
+            _ => Policy::user_content(alloc),
+        }
+    }
+
+    /// Whether an element may be kept.
+    fn has_element(&self, element: &str) -> bool {
+        has(self.bare, element)
+            || is_named(self.elements, element)
+            || is_named(self.others, element)
+    }
+
+    /// Whether an attribute of an element may be kept.
+    fn has_attribute(&self, element: &str, attribute: &str) -> bool {
+        has(self.everywhere, attribute)
+            || has_own(self.elements, element, attribute)
+            || has_own(self.others, element, attribute)
+    }
+}
+
+/// Adds a line for an attribute that is outside.
+fn put_attribute(
+    alloc: Global,
+    kept: &Kept,
+    context: &Context,
+    element: &str,
+    attribute: &Attribute,
+    lines: &mut String,
+) -> Result<(), AllocError> {
+    let name = attribute.name.local.as_str();
+    let value = attribute.value.as_str();
+    if kept.has_attribute(element, name) && !(has(URLS, name) && runs(value)) {
+        return Ok(());
+    }
+    let words = format!(in alloc;
+        "{}, after {}: <{element} {name}=\"{value}\">",
+        kept.policy, context.before
+    )?;
+    put_line(lines, words.as_str())
+}
+
+/// Adds a line for an element that is outside, and for each of its attributes that is.
+fn put_element(
+    alloc: Global,
+    kept: &Kept,
+    context: &Context,
+    element: &str,
+    attributes: &[Attribute],
+    lines: &mut String,
+) -> Result<(), AllocError> {
+    if !(kept.has_element(element) || has(IMPLIED, element) || has(context.makes, element)) {
+        let words = format!(in alloc; "{}, after {}: <{element}>", kept.policy, context.before)?;
+        put_line(lines, words.as_str())?;
+    }
+    for attribute in attributes {
+        put_attribute(alloc, kept, context, element, attribute, lines)?;
+    }
+    Ok(())
+}
+
+/// Adds a line for each element and attribute of a page that is outside.
+fn put_outside(
+    alloc: Global,
+    kept: &Kept,
+    context: &Context,
+    forest: &Forest,
+    lines: &mut String,
+) -> Result<(), AllocError> {
+    for number in 0..MOST {
+        match forest.node(NodeId::new(number)) {
+            Some(
+                NodeData::Element {
+                    name,
+                    attributes,
+                    ..
+                },
+            ) => put_element(
+                alloc,
+                kept,
+                context,
+                name.local.as_str(),
+                attributes.as_slice(),
+                lines,
+            )?,
+            Some(_) => {}
+            None => return Ok(()),
+        }
+    }
+    put_line(lines, "too many nodes")
+}
+
+/// The document of a cleaned text in a context.
+fn page(alloc: Global, context: &Context, text: &str) -> Result<Forest, ParseFault> {
+    let page = format!(in alloc; "{}{text}", context.before)?;
+    let table = References::five(alloc)?;
+    match document(alloc, table, page) {
+        Ok(forest) => Ok(forest),
+        Err(_) => Err(ParseFault::Memory),
+    }
+}
+
+/// Adds a line for each element and attribute that is outside of a policy.
+fn put_kept(
+    alloc: Global,
+    kept: &Kept,
+    row: &Row,
+    how: How,
+    lines: &mut String,
+) -> Result<(), ParseFault> {
+    let policy = kept.policy(alloc)?;
+    let text = cleaned_by(alloc, row, false, how, &policy)?;
+    for context in CONTEXTS {
+        let forest = page(alloc, context, text.as_str())?;
+        put_outside(alloc, kept, context, &forest, lines)?;
+    }
+    Ok(())
+}
+
+/// What of a row's text is outside of a policy.
+pub fn seen(alloc: Global, row: &Row, how: How) -> Result<String, ParseFault> {
+    let mut lines = String::new(alloc);
+    for kept in KEPT {
+        put_kept(alloc, kept, row, how, &mut lines)?;
+    }
+    Ok(without_last(alloc, lines.as_str())?)
+}
