@@ -2,11 +2,10 @@
 
 use crate::lines::{put_line, without_last};
 use crate::rows::Row;
-use crate::settings::How;
+use crate::settings::{How, five};
 use crate::written::cleaned_by;
 use html_clean::Policy;
 use html_forest::{Forest, NodeData, NodeId};
-use html_normal::References;
 use html_pages::document;
 use markup::{Attribute, ParseFault};
 use std::alloc::{AllocError, Global};
@@ -403,18 +402,12 @@ fn put_outside(
 ) -> Result<(), AllocError> {
     for number in 0..MOST {
         match forest.node(NodeId::new(number)) {
-            Some(
-                NodeData::Element {
-                    name,
-                    attributes,
-                    ..
-                },
-            ) => put_element(
+            Some(NodeData::Element { name, attrs, .. }) => put_element(
                 alloc,
                 kept,
                 context,
                 name.local.as_str(),
-                attributes.as_slice(),
+                attrs.as_slice(),
                 lines,
             )?,
             Some(_) => {}
@@ -427,7 +420,7 @@ fn put_outside(
 /// The document of a cleaned text in a context.
 fn page(alloc: Global, context: &Context, text: &str) -> Result<Forest, ParseFault> {
     let page = format!(in alloc; "{}{text}", context.before)?;
-    let table = References::five(alloc)?;
+    let table = five(alloc)?;
     match document(alloc, table, page) {
         Ok(forest) => Ok(forest),
         Err(_) => Err(ParseFault::Memory),

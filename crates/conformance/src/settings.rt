@@ -82,7 +82,7 @@ fn standard_table(alloc: Global) -> Result<References, ParseFault> {
 }
 
 /// The five names of references that a written text needs.
-fn five(alloc: Global) -> Result<References, ParseFault> {
+pub fn five(alloc: Global) -> Result<References, ParseFault> {
     let Ok(table) = References::five(alloc) else {
         return Err(ParseFault::Memory);
     };

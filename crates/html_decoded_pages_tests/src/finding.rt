@@ -3,9 +3,7 @@
 ghost use Rattle.std.specs.Prelude.{◌<◌};
 
 use devices::MemReader;
-use html_decoded_pages::{
-    Encoding, Why, decoded_document, decoded_noted_document, decoded_text,
-};
+use html_decoded_pages::{Encoding, Why, decoded_document, decoded_noted_document, decoded_text};
 use html_decoded_source::DecodedSource;
 use html_extracts::shown_text;
 use html_normal::{Exact, References, read_document};
