@@ -1,13 +1,13 @@
 //! What is outside of a policy, where an attack is cleaned by it, put into contexts and read again.
 
 use crate::lines::{put_line, without_last};
-use crate::rows::Row;
-use crate::settings::{How, five};
+use crate::settings::five;
 use crate::written::cleaned_by;
 use html_clean::Policy;
 use html_forest::{Forest, NodeData, NodeId};
 use html_pages::document;
 use markup::{Attribute, ParseFault};
+use row_format::{How, Row};
 use std::alloc::{AllocError, Global};
 
 /// What a policy may keep.

@@ -1,18 +1,10 @@
-//! Running rows, and telling which of them differ.
+//! Running rows, and reporting those that differ.
 
-use crate::headings::{Heading, line_of};
-use crate::rows::{Part, Row};
-use crate::settings::{HOWS, How};
 use crate::{attacks, tokens, trees, written};
 use markup::ParseFault;
+use row_format::headings::line_of;
+use row_format::{Counts, HOWS, Heading, How, Part, Row, is_as_expected};
 use std::alloc::{AllocError, Global};
-
-/// How many rows there are, and how many of them differ.
-#[derive(Drop)]
-pub struct Counts {
-    pub rows: u64,
-    pub different: u64,
-}
 
 /// What is seen of a row, under a heading.
 fn seen(alloc: Global, row: &Row, heading: Heading, how: How) -> Result<String, ParseFault> {
@@ -54,7 +46,7 @@ fn first_other(
     for &how in HOWS {
         if heading.is_expected_if(how.exact) {
             let seen = seen_or_fault(alloc, row, heading, how)?;
-            if seen.as_str() != wanted {
+            if !is_as_expected(wanted, seen.as_str()) {
                 return Ok(Some((how, seen)));
             }
         }
@@ -62,8 +54,8 @@ fn first_other(
     Ok(None)
 }
 
-/// Tells that a row differs under a heading.
-fn tell(
+/// Reports to standard error that a row differs under a heading, where a merge shows it.
+fn report(
     rt: &HostRuntime,
     file: &str,
     row: &Row,
@@ -76,8 +68,8 @@ fn tell(
     let line = row.line;
     let heading = line_of(heading);
     let words = how.words();
-    let _ = println!(rt; "{file}:{line}: {heading} differs, {words}");
-    let _ = println!(rt; "input:\n{data}\nexpected:\n{wanted}\nseen:\n{seen}\n");
+    let _ = eprintln!(rt; "{file}:{line}: {heading} differs, {words}");
+    let _ = eprintln!(rt; "input:\n{data}\nexpected:\n{wanted}\nseen:\n{seen}\n");
     Ok(())
 }
 
@@ -89,7 +81,7 @@ fn differs_in(rt: &HostRuntime, file: &str, row: &Row, part: &Part) -> Result<bo
     let Some((how, seen)) = first_other(alloc, row, part.heading, wanted)? else {
         return Ok(false);
     };
-    tell(rt, file, row, part.heading, wanted, how, seen.as_str())?;
+    report(rt, file, row, part.heading, wanted, how, seen.as_str())?;
     Ok(true)
 }
 
@@ -109,33 +101,21 @@ fn is_vain(rt: &HostRuntime, file: &str, row: &Row) -> bool {
     let is_vain = !row.expects();
     if is_vain {
         let line = row.line;
-        let _ = println!(rt; "{file}:{line}: nothing is expected");
+        let _ = eprintln!(rt; "{file}:{line}: nothing is expected");
     }
     is_vain
 }
 
-impl Counts {
-    pub fn new() -> Counts {
-        Counts {
-            rows: 0,
-            different: 0,
-        }
+/// Runs the rows of a file, and reports those that differ.
+pub fn run_rows(
+    rt: &HostRuntime,
+    counts: &mut Counts,
+    file: &str,
+    rows: &[Row],
+) -> Result<(), AllocError> {
+    for row in rows {
+        let is_other = is_vain(rt, file, row) || differs(rt, file, row)?;
+        counts.count(is_other);
     }
-
-    /// Counts a row.
-    fn count(&mut self, is_other: bool) {
-        self.rows = self.rows.saturating_add(1);
-        if is_other {
-            self.different = self.different.saturating_add(1);
-        }
-    }
-
-    /// Runs the rows of a file, and reports those that differ.
-    pub fn run(&mut self, rt: &HostRuntime, file: &str, rows: &[Row]) -> Result<(), AllocError> {
-        for row in rows {
-            let is_other = is_vain(rt, file, row) || differs(rt, file, row)?;
-            self.count(is_other);
-        }
-        Ok(())
-    }
+    Ok(())
 }

@@ -1,25 +1,23 @@
 //! Runs rows of files on the public calls of the parser, and says how many of them differ: `conformance FILE|FOLDER..`. A folder stands
 //! for the files in it whose names end in `.dat`.
 //!
-//! A file is one of html5lib's, or has the headings of `headings.rt`. Each row is run whole, in pieces of one and of three characters,
-//! with exact errors and without. For a row that differs the program prints the file, the line, the input, the expected output and the
-//! actual one, and exits with status 1; with 2 if a file can't be read or has no row.
+//! A file is one of html5lib's, or has the headings of `row_format`. Each row is run whole, in pieces of one and of three characters,
+//! with exact errors and without. For a row that differs the program prints to standard error the file, the line, the input, the
+//! expected output and the actual one, and exits with status 1; with 2 if a file can't be read or has no row.
 #![tactic(auto)]
 
 mod attacks;
 mod check;
-mod escapes;
-mod headings;
 mod lines;
-mod rows;
+mod listing;
 mod settings;
 mod tokens;
 mod trees;
 mod words;
 mod written;
 
-use crate::check::Counts;
-use crate::rows::rows_of;
+use crate::check::run_rows;
+use row_format::{Counts, rows_of};
 use std::process::ExitCode;
 use std::{env, fs, io};
 
@@ -58,7 +56,7 @@ fn run_file(rt: &HostRuntime, counts: &mut Counts, file: &str) -> io::Result<()>
     let bytes = fs::read(rt, file)?;
     let text = String::from_utf8_lossy(rt.alloc(), bytes.as_slice())?;
     let rows = rows_of(rt.alloc(), text.as_str())?;
-    counts.run(rt, file, rows.as_slice())?;
+    run_rows(rt, counts, file, rows.as_slice())?;
     Ok(())
 }
 
@@ -70,24 +68,14 @@ fn run_all(rt: &HostRuntime, counts: &mut Counts) -> io::Result<()> {
     Ok(())
 }
 
-/// The status after all files. Where there is no row, none was named.
-fn status(counts: &Counts) -> u8 {
-    if counts.rows == 0 {
-        2
-    } else if counts.different > 0 {
-        1
-    } else {
-        0
-    }
-}
-
 fn main(rt: HostRuntime) -> ExitCode {
     let mut counts = Counts::new();
     if let Err(error) = run_all(&rt, &mut counts) {
         let _ = eprintln!(rt; "fault: {error}");
         return ExitCode::from(2);
     }
+    let status = counts.status();
     let Counts { rows, different } = counts;
     let _ = println!(rt; "{rows} rows, {different} differ");
-    ExitCode::from(status(&counts))
+    ExitCode::from(status)
 }

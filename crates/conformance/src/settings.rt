@@ -1,9 +1,7 @@
-//! How a row is run, by its settings.
+//! What the settings of a row say.
 ghost use Rattle.std.specs.Prelude.{◌≡◌, true, IfOk, IfSome, None};
 ghost use Rattle.html_tokens.specs.TextState.{is_text_state};
 
-use crate::headings::Heading;
-use crate::rows::Row;
 use devices::MemReader;
 use html_input::read_table;
 use html_parser::ParseOpts;
@@ -12,57 +10,8 @@ use html_tokenizer::states::RawKind;
 use html_tokenizer::{References, State, TokenizerOpts};
 use html_tree_builder::TreeBuilderOpts;
 use markup::{KnownNamespace, LocalName, Namespace, ParseFault, QualName, Text};
+use row_format::{Heading, Row};
 use std::alloc::Global;
-
-/// How a row is run: whether errors are exact, or those reported by default; and in pieces of how many characters, where 0 is the whole
-/// text at once.
-#[derive(Clone, Copy)]
-pub struct How {
-    pub exact: bool,
-    pub piece: usize,
-}
-
-impl How {
-    /// In words.
-    pub fn words(self) -> &'static str {
-        match (self.exact, self.piece) {
-            (false, 0) => "read whole",
-            (false, 1) => "read in single characters",
-            (false, _) => "read in threes",
-            (true, 0) => "read whole, with all errors",
-            (true, 1) => "read in single characters, with all errors",
-            (true, _) => "read in threes, with all errors",
-        }
-    }
-}
-
-/// Each way in which a row is run.
-pub const HOWS: &[How] = &[
-    How {
-        exact: false,
-        piece: 0,
-    },
-    How {
-        exact: false,
-        piece: 1,
-    },
-    How {
-        exact: false,
-        piece: 3,
-    },
-    How {
-        exact: true,
-        piece: 0,
-    },
-    How {
-        exact: true,
-        piece: 1,
-    },
-    How {
-        exact: true,
-        piece: 3,
-    },
-];
 
 /// The table of the lines of a file.
 fn table_of(alloc: Global, lines: &str) -> Result<References, ParseFault> {

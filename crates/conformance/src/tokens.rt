@@ -2,13 +2,12 @@
 ghost use Rattle.std.specs.Prelude.{IfOk};
 ghost use Rattle.html_tokenizer.specs.Calls.{IsReadyIf, refusal};
 
-use crate::headings::Heading;
 use crate::lines::yes_or_no;
-use crate::rows::Row;
-use crate::settings::{How, references, tokenizer_opts};
+use crate::settings::{references, tokenizer_opts};
 use crate::words::in_words;
 use html_tokenizer::{BufferQueue, Listed, TokenSink, Tokenizer};
 use markup::{ParseFault, TokenizerResult};
+use row_format::{Heading, How, Row};
 use std::alloc::Global;
 use text_pieces::pieces_of;
 

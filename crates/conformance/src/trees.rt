@@ -3,21 +3,37 @@ ghost use Rattle.html_tokenizer.specs.Calls.{IsReadyIf, refusal_of};
 ghost use Rattle.html_parser.specs.Documents.{builder};
 ghost use Rattle.html_parser.specs.Read.{stopped_by};
 
-use crate::headings::Heading;
 use crate::lines::{put_line, text_of, without_last, yes_or_no};
-use crate::rows::Row;
-use crate::settings::{How, context, parse_opts, references, scripting};
+use crate::listing::Listing;
+use crate::settings::{context, parse_opts, references, scripting};
 use devices::VecWriter;
 use html_extracts::{links_below, shown_text, write_tree};
 use html_forest::{Forest, ForestNode, NodeId};
-use html_pages::{Noted, NotedForest, is_read_back};
+use html_pages::{Noted, is_read_back};
 use html_parser::{Parser, parse_document, parse_fragment};
 use html_serialize::{SerializeOpts, serialize};
-use markup::{Attributes, ParseFault, QuirksMode, Text, TreeSink};
+use markup::{Attributes, ParseFault, QuirksMode, TreeSink};
+use row_format::{Heading, How, Row};
 use std::alloc::{AllocError, Global};
 use text_pieces::pieces_of;
 
-/// Has a parser take these pieces and the end.
+/// Has a parser take these pieces.
+fn feed_all<Sink: TreeSink>(
+    parser: &mut Parser<Sink>,
+    pieces: Vec<String>,
+) -> Result<(), ParseFault>
+    requires { IsReadyIf (builder Sink.TreeSink)
+        (stopped_by parser.old.has_failed (refusal_of parser.old.tokenizer)) parser.old.tokenizer }
+    ensures { IsReadyIf (builder Sink.TreeSink)
+        (stopped_by parser.new.has_failed (refusal_of parser.new.tokenizer)) parser.new.tokenizer }
+{
+    for piece in pieces {
+        parser.process(piece)?;
+    }
+    Ok(())
+}
+
+/// What a parser makes of these pieces. One that has failed refuses the end too.
 fn take_all<Sink: TreeSink + Drop>(
     parser: Parser<Sink>,
     pieces: Vec<String>,
@@ -25,9 +41,7 @@ fn take_all<Sink: TreeSink + Drop>(
     requires { IsReadyIf (builder Sink.TreeSink) (stopped_by parser.has_failed (refusal_of parser.tokenizer)) parser.tokenizer }
 {
     let mut parser = parser;
-    for piece in pieces {
-        parser.process(piece)?;
-    }
+    drop(feed_all(&mut parser, pieces));
     parser.finish()
 }
 
@@ -38,20 +52,20 @@ fn pieces(alloc: Global, row: &Row, how: How) -> Result<Vec<String>, AllocError>
 }
 
 /// The document of a row, with its errors.
-fn document(alloc: Global, row: &Row, how: How) -> Result<NotedForest, ParseFault> {
+fn document(alloc: Global, row: &Row, how: How) -> Result<Listing, ParseFault> {
     let pieces = pieces(alloc, row, how)?;
     let table = references(alloc, row)?;
-    let sink = NotedForest::new(alloc)?;
+    let sink = Listing::new(alloc)?;
     let parser = parse_document(alloc, sink, parse_opts(row, how.exact), table)?;
     take_all(parser, pieces)
 }
 
 /// The fragment of a row in an element that words name.
-fn fragment(alloc: Global, row: &Row, how: How, words: &str) -> Result<NotedForest, ParseFault> {
+fn fragment(alloc: Global, row: &Row, how: How, words: &str) -> Result<Listing, ParseFault> {
     let pieces = pieces(alloc, row, how)?;
     let table = references(alloc, row)?;
     let context = context(alloc, words)?;
-    let sink = NotedForest::new(alloc)?;
+    let sink = Listing::new(alloc)?;
     let opts = parse_opts(row, how.exact);
     let attributes = Attributes::new(alloc);
     let runs = scripting(row);
@@ -60,7 +74,7 @@ fn fragment(alloc: Global, row: &Row, how: How, words: &str) -> Result<NotedFore
 }
 
 /// The forest of a row, with its errors.
-fn page(alloc: Global, row: &Row, how: How) -> Result<NotedForest, ParseFault> {
+fn page(alloc: Global, row: &Row, how: How) -> Result<Listing, ParseFault> {
     match row.setting(alloc, Heading::Fragment)? {
         Some(words) => fragment(alloc, row, how, words.as_str()),
         None => document(alloc, row, how),
@@ -107,26 +121,48 @@ pub fn quirks_word(quirks: QuirksMode) -> &'static str {
     }
 }
 
-/// The lines and the codes of errors. Those that have no code have words of more than one.
-fn codes(alloc: Global, errors: &[Noted]) -> Result<String, AllocError> {
-    let mut lines = String::new(alloc);
-    for error in errors {
-        let message = error.message.as_str();
-        if !message.contains(' ') {
-            let words = format!(in alloc; "{} {message}", error.line)?;
-            put_line(&mut lines, words.as_str())?;
-        }
-    }
-    without_last(alloc, lines.as_str())
+/// The quirks mode of a forest.
+fn quirks(alloc: Global, forest: &Forest) -> Result<String, ParseFault> {
+    Ok(String::from_str(alloc, quirks_word(forest.quirks()))?)
 }
 
-/// Texts, one a line.
-fn in_lines(alloc: Global, texts: &[Text]) -> Result<String, AllocError> {
-    let mut lines = String::new(alloc);
-    for text in texts {
-        put_line(&mut lines, text.as_str())?;
+/// The line and the code of an error, if it has one. Those that have none have words of more than one.
+fn put_code(alloc: Global, lines: &mut String, error: &Noted) -> Result<(), AllocError> {
+    let message = error.message.as_str();
+    if message.contains(' ') {
+        return Ok(());
     }
-    without_last(alloc, lines.as_str())
+    let words = format!(in alloc; "{} {message}", error.line)?;
+    put_line(lines, words.as_str())
+}
+
+/// The lines and the codes of errors.
+fn codes(alloc: Global, errors: &[Noted]) -> Result<String, ParseFault> {
+    let mut lines = String::new(alloc);
+    for error in errors {
+        put_code(alloc, &mut lines, error)?;
+    }
+    Ok(without_last(alloc, lines.as_str())?)
+}
+
+/// The links below a node, one a line.
+fn links(alloc: Global, forest: &Forest, top: NodeId) -> Result<String, ParseFault> {
+    let links = links_below(alloc, forest, top)?;
+    let mut lines = String::new(alloc);
+    for link in &links {
+        put_line(&mut lines, link.as_str())?;
+    }
+    Ok(without_last(alloc, lines.as_str())?)
+}
+
+/// The calls that a sink got beside those that build the tree, one a line.
+fn hooks(alloc: Global, page: &Listing) -> Result<String, ParseFault> {
+    let calls = page.words(alloc)?;
+    let mut lines = String::new(alloc);
+    for call in &calls {
+        put_line(&mut lines, call.as_str())?;
+    }
+    Ok(without_last(alloc, lines.as_str())?)
 }
 
 /// Whether a forest is read back from what is written of it.
@@ -143,18 +179,19 @@ fn seen_of(
     alloc: Global,
     row: &Row,
     heading: Heading,
-    page: &NotedForest,
+    page: &Listing,
 ) -> Result<String, ParseFault> {
-    let forest = &page.forest;
+    let forest = &page.noted.forest;
     let top = top(forest, row);
     match heading {
         Heading::Document => tree(alloc, forest, top),
         Heading::Written => written(alloc, forest, top),
-        Heading::Quirks => Ok(String::from_str(alloc, quirks_word(forest.quirks()))?),
-        Heading::Links => Ok(in_lines(alloc, links_below(alloc, forest, top)?.as_slice())?),
+        Heading::Quirks => quirks(alloc, forest),
+        Heading::Hooks => hooks(alloc, page),
+        Heading::Links => links(alloc, forest, top),
         Heading::Shown => shown_text(alloc, forest, top),
         Heading::ReadBack => read_back(alloc, row, forest),
-        _ => Ok(codes(alloc, page.errors.as_slice())?),
+        _ => codes(alloc, page.noted.errors.as_slice()),
     }
 }
 

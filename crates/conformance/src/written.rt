@@ -1,9 +1,7 @@
 //! What is written of a text by one call: normal text, cleaned text, and the answers about a table and about a content.
 
-use crate::headings::Heading;
 use crate::lines::{text_of, yes_or_no};
-use crate::rows::Row;
-use crate::settings::{How, references};
+use crate::settings::references;
 use crate::trees::quirks_word;
 use devices::{MemReader, VecWriter};
 use html_clean::Policy;
@@ -12,6 +10,7 @@ use html_input::read_table;
 use html_names::extract_a_character_encoding_from_a_meta_element;
 use html_normal::{Exact, NormalFault, ProgramFault, Report, normalise};
 use markup::ParseFault;
+use row_format::{Heading, How, Row};
 use std::alloc::{AllocError, Global};
 
 /// A reader of a row's text, which reads so many bytes at once; the whole for 0.
@@ -88,10 +87,10 @@ fn cleaned(alloc: Global, row: &Row, heading: Heading, how: How) -> Result<Strin
 }
 
 /// The encoding that the content of a `meta` element names.
-fn encoding(alloc: Global, row: &Row) -> Result<String, AllocError> {
+fn encoding(alloc: Global, row: &Row) -> Result<String, ParseFault> {
     let data = row.data(alloc)?;
     let named = extract_a_character_encoding_from_a_meta_element(data.as_str());
-    String::from_str(alloc, named.unwrap_or("none"))
+    Ok(String::from_str(alloc, named.unwrap_or("none"))?)
 }
 
 /// The status of a fault, and its words.
@@ -100,13 +99,18 @@ fn fault_words(alloc: Global, fault: ProgramFault) -> Result<String, AllocError>
     format!(in alloc; "{status} {fault}")
 }
 
-/// Why a table of references is none.
-fn fault(alloc: Global, row: &Row, how: How) -> Result<String, AllocError> {
-    let mut reader = reader(alloc, row, how.piece)?;
-    match read_table(alloc, &mut reader) {
+/// The same of a table of references; that there is none.
+fn table_words(alloc: Global, reader: &mut MemReader) -> Result<String, AllocError> {
+    match read_table(alloc, reader) {
         Ok(_) => String::from_str(alloc, "none"),
         Err(fault) => fault_words(alloc, ProgramFault::from(fault)),
     }
+}
+
+/// Why a table of references is none.
+fn fault(alloc: Global, row: &Row, how: How) -> Result<String, ParseFault> {
+    let mut reader = reader(alloc, row, how.piece)?;
+    Ok(table_words(alloc, &mut reader)?)
 }
 
 /// What is seen of a row, under a heading.
@@ -114,7 +118,7 @@ pub fn seen(alloc: Global, row: &Row, heading: Heading, how: How) -> Result<Stri
     match heading {
         Heading::Normal | Heading::Report => normal(alloc, row, heading, how),
         Heading::Cleaned | Heading::CleanedDocument => cleaned(alloc, row, heading, how),
-        Heading::Encoding => Ok(encoding(alloc, row)?),
-        _ => Ok(fault(alloc, row, how)?),
+        Heading::Encoding => encoding(alloc, row),
+        _ => fault(alloc, row, how),
     }
 }

@@ -1,4 +1,6 @@
 //! Rows, as a file has them.
+ghost use Rattle.std.specs.Prelude.{◌≡◌};
+ghost use Rattle.std.specs.List.{list_any};
 
 use crate::escapes::without_escapes;
 use crate::headings::{Heading, heading_of};
@@ -58,8 +60,11 @@ impl Row {
     }
 
     /// Whether it has a part of this heading.
-    pub fn has(&self, heading: Heading) -> bool {
-        self.part(heading).is_some()
+    pub fn has(&self, heading: Heading) -> bool
+        ensures { result ≡ list_any (λ part. ⟦<Heading as PartialEq>⟧.eq part.heading heading) self.now.parts.items }
+    {
+        let parts = self.parts.as_slice();
+        parts.iter().any(|part| part.heading == heading)
     }
 
     /// Whether it expects any output.

@@ -31,6 +31,8 @@ pub enum Heading {
     Written,
     /// The quirks mode.
     Quirks,
+    /// The calls that a sink of trees gets beside those that build the tree, one a line.
+    Hooks,
     /// The lines and the codes of the errors; of all errors, where characters may be some too.
     Codes,
     ExactCodes,
@@ -79,6 +81,7 @@ const HEADINGS: &[(&str, Heading)] = &[
     ("#document", Heading::Document),
     ("#written", Heading::Written),
     ("#quirks", Heading::Quirks),
+    ("#hooks", Heading::Hooks),
     ("#codes", Heading::Codes),
     ("#exact-codes", Heading::ExactCodes),
     ("#links", Heading::Links),
