@@ -7,43 +7,41 @@ ghost use Rattle.html_parser.specs.Documents.{builder};
 ghost use Rattle.html_parser.specs.Read.{stopped_by};
 
 use crate::fragments::root_of;
-use crate::parsing::{assert_written, five};
+use crate::parsing::{five, is_written};
 use html_forest::Forest;
 use html_parser::{ParseOpts, Parser, parse_document, parse_fragment_for_element};
 use html_stack::create_element;
+use html_tokenizer::References;
 use markup::{
     Attributes, KnownNamespace, LocalName, Namespace, ParseFault, QualName, TokenizerResult,
     TreeSink,
 };
 use std::alloc::Global;
 use std::borrow::CowStr;
-use std::process::Abort;
-use std::test::Fail;
 
 /// Above the number of pauses in any text below.
 const PAUSES: u32 = 8;
 
-/// What is written of a document.
-fn assert_document(
-    rt: &impl Abort,
-    alloc: Global,
-    forest: Forest,
-    written: &str,
-) -> Result<(), ParseFault> {
-    let mut forest = forest;
-    let document = forest.get_document();
-    assert_written(rt, alloc, &forest, document, written, written)
+/// Whether options are those by default.
+fn are_default(opts: &ParseOpts) -> bool {
+    !opts.tokenizer.exact_errors
+        && opts.tokenizer.discard_bom
+        && !opts.tree_builder.exact_errors
+        && opts.tree_builder.scripting_enabled
+}
+
+/// Whether options are copied.
+fn are_copied(alloc: Global) -> Result<bool, ParseFault> {
+    let mut opts = ParseOpts::default();
+    opts.tree_builder.drop_doctype = true;
+    let copied = opts.copy(alloc)?;
+    Ok(are_default(&copied) && copied.tree_builder.drop_doctype)
 }
 
 #[test]
-fn options_are_copied(rt: HostRuntime) -> Result<(), Fail> {
-    let mut opts = ParseOpts::default();
-    assert!(rt; !opts.tokenizer.exact_errors && opts.tokenizer.discard_bom);
-    assert!(rt; !opts.tree_builder.exact_errors && opts.tree_builder.scripting_enabled);
-    opts.tree_builder.drop_doctype = true;
-    let copied = opts.copy(rt.alloc())?;
-    assert!(rt; copied.tree_builder.drop_doctype);
-    Ok(())
+fn options_are_copied(rt: HostRuntime) {
+    assert!(rt; are_default(&ParseOpts::default()));
+    assert!(rt; are_copied(rt.alloc()) == Ok(true));
 }
 
 /// A new form, which stands nowhere.
@@ -61,30 +59,34 @@ fn new_form<Sink: TreeSink>(alloc: Global, sink: &mut Sink) -> Result<Sink::Hand
     create_element(sink, name, attributes)
 }
 
-/// Parses what stands in a form, which is told that it does.
+/// Parses a text as the contents of a form, which is its form owner.
 fn parse_in_form<Sink: TreeSink + Drop>(
     alloc: Global,
     sink: Sink,
-    text: &str,
+    table: References,
+    text: String,
 ) -> Result<Sink::Output, ParseFault>
     requires { above_of (Sink.forest sink) 0 ≡ None }
 {
     let mut sink = sink;
     let form = new_form(alloc, &mut sink)?;
     let opts = ParseOpts::default();
-    let table = five(alloc)?;
-    let text = String::from_str(alloc, text)?;
     let parser = parse_fragment_for_element(alloc, sink, opts, form, true, Some(form), table)?;
     parser.one(text)
 }
 
+/// Whether a form in a form is left out.
+fn is_form_left_out(alloc: Global) -> Result<bool, ParseFault> {
+    let text = String::from_str(alloc, "<form><input>")?;
+    let table = five(alloc)?;
+    let forest = Forest::new(alloc)?;
+    let forest = parse_in_form(alloc, forest, table, text)?;
+    is_written(alloc, &forest, root_of(&forest), "<input>")
+}
+
 #[test]
-fn forms_stand_in_no_form(rt: HostRuntime) -> Result<(), Fail> {
-    let forest = Forest::new(rt.alloc())?;
-    let mut forest = parse_in_form(rt.alloc(), forest, "<form><input>")?;
-    let root = root_of(&mut forest);
-    assert_written(&rt, rt.alloc(), &forest, root, "<form><input>", "<input>")?;
-    Ok(())
+fn forms_stand_in_no_form(rt: HostRuntime) {
+    assert!(rt; is_form_left_out(rt.alloc()) == Ok(true));
 }
 
 /// Has a tokenizer take a text; at each script another is put before what follows.
@@ -115,31 +117,38 @@ fn feed_scripts<Sink: TreeSink>(
 fn parse_scripts<Sink: TreeSink + Drop>(
     alloc: Global,
     sink: Sink,
-    text: &str,
+    table: References,
+    text: String,
     written: &str,
 ) -> Result<Sink::Output, ParseFault>
     requires { above_of (Sink.forest sink) 0 ≡ None }
 {
-    let text = String::from_str(alloc, text)?;
-    let table = five(alloc)?;
     let mut parser = parse_document(alloc, sink, ParseOpts::default(), table)?;
-    feed_scripts(alloc, &mut parser, text, written)?;
+    drop(feed_scripts(alloc, &mut parser, text, written));
     parser.finish()
 }
 
-#[test]
-fn scripts_write_into_the_text(rt: HostRuntime) -> Result<(), Fail> {
-    let forest = Forest::new(rt.alloc())?;
-    let text = "<!DOCTYPE html><p><script>1</script>b<script>2</script>c";
-    let forest = parse_scripts(rt.alloc(), forest, text, "<i>w</i>&am")?;
-    let written =
-        "<!DOCTYPE html><html><head></head><body><p><script>1</script><i>w</i>&amp;amb<script>2</script><i>w</i>&amp;amc</p></body></html>";
-    assert_document(&rt, rt.alloc(), forest, written)?;
-    Ok(())
+const SCRIPTS: &str = "<!DOCTYPE html><p><script>1</script>b<script>2</script>c";
+
+const WITH_WRITTEN: &str =
+    "<!DOCTYPE html><html><head></head><body><p><script>1</script><i>w</i>&amp;amb<script>2</script><i>w</i>&amp;amc</p></body></html>";
+
+/// Whether scripts write into the text.
+fn are_written_into(alloc: Global) -> Result<bool, ParseFault> {
+    let text = String::from_str(alloc, SCRIPTS)?;
+    let table = five(alloc)?;
+    let forest = Forest::new(alloc)?;
+    let forest = parse_scripts(alloc, forest, table, text, "<i>w</i>&am")?;
+    is_written(alloc, &forest, forest.document(), WITH_WRITTEN)
 }
 
-/// Tells a parser an error of its caller's own.
-fn tell_error<Sink: TreeSink>(parser: &mut Parser<Sink>)
+#[test]
+fn scripts_write_into_the_text(rt: HostRuntime) {
+    assert!(rt; are_written_into(rt.alloc()) == Ok(true));
+}
+
+/// Reports to a parser an error of its caller's own.
+fn report_error<Sink: TreeSink>(parser: &mut Parser<Sink>)
     requires { IsReadyIf (builder Sink.TreeSink) (stopped_by parser.old.has_failed (refusal_of parser.old.tokenizer)) parser.old.tokenizer }
     ensures { IsReadyIf (builder Sink.TreeSink) (stopped_by parser.new.has_failed (refusal_of parser.new.tokenizer)) parser.new.tokenizer }
 {
@@ -150,28 +159,32 @@ fn tell_error<Sink: TreeSink>(parser: &mut Parser<Sink>)
 fn parse_with_errors<Sink: TreeSink + Drop>(
     alloc: Global,
     sink: Sink,
-    first: &str,
-    second: &str,
+    table: References,
+    first: String,
+    second: String,
 ) -> Result<Sink::Output, ParseFault>
     requires { above_of (Sink.forest sink) 0 ≡ None }
 {
-    let first = String::from_str(alloc, first)?;
-    let second = String::from_str(alloc, second)?;
-    let table = five(alloc)?;
     let mut parser = parse_document(alloc, sink, ParseOpts::default(), table)?;
     // After a fault the last call is refused too.
     drop(parser.process(first));
-    tell_error(&mut parser);
-    tell_error(&mut parser);
+    report_error(&mut parser);
+    report_error(&mut parser);
     parser.one(second)
 }
 
-#[test]
-fn errors_are_told(rt: HostRuntime) -> Result<(), Fail> {
-    let forest = Forest::new(rt.alloc())?;
-    let forest = parse_with_errors(rt.alloc(), forest, "<!DOCTYPE html>a&am", "p;b")?;
-    assert!(rt; forest.error_count() == 2);
+/// Whether the errors of a caller are counted, and change nothing else.
+fn are_errors_counted(alloc: Global) -> Result<bool, ParseFault> {
+    let first = String::from_str(alloc, "<!DOCTYPE html>a&am")?;
+    let second = String::from_str(alloc, "p;b")?;
+    let table = five(alloc)?;
+    let forest = Forest::new(alloc)?;
+    let forest = parse_with_errors(alloc, forest, table, first, second)?;
     let written = "<!DOCTYPE html><html><head></head><body>a&amp;b</body></html>";
-    assert_document(&rt, rt.alloc(), forest, written)?;
-    Ok(())
+    Ok(forest.error_count() == 2 && is_written(alloc, &forest, forest.document(), written)?)
+}
+
+#[test]
+fn errors_are_told(rt: HostRuntime) {
+    assert!(rt; are_errors_counted(rt.alloc()) == Ok(true));
 }

@@ -1,14 +1,12 @@
 //! Deep and misnested pages, and text of a table in many pieces: whole and in single characters they make one document, in which each node
-//! stands under one parent at most.
+//! has one parent at most.
 
 use crate::parsing::document_of;
 use html_forest::{Forest, ForestNode, NodeId};
 use html_serialize::{SerializeOpts, serialize};
+use markup::ParseFault;
 use markup::devices::MemWriter;
-use markup::{ParseFault, TreeSink};
 use std::alloc::Global;
-use std::process::Abort;
-use std::test::Fail;
 use text_pieces::{as_given, in_characters, piece_of};
 
 /// How often a page repeats what is misnested.
@@ -24,53 +22,49 @@ const MISNESTED: &[&str] = &[
     "<svg><desc><b></svg>",
 ];
 
-/// Lists the children of a node, each of which stands under it.
-fn list_children(
-    rt: &impl Abort,
+/// Adds the children of a node to those that wait, where each names it as its parent.
+fn add_children(
     forest: &Forest,
     parent: NodeId,
-    nodes: &mut Vec<NodeId>,
-) -> Result<(), ParseFault> {
+    waiting: &mut Vec<NodeId>,
+) -> Result<bool, ParseFault> {
     for child in forest.children(parent) {
-        assert!(rt; forest.parent(child) == Some(parent));
-        nodes.push(child)?;
+        if forest.parent(child) != Some(parent) {
+            return Ok(false);
+        }
+        waiting.push(child)?;
     }
-    Ok(())
+    Ok(true)
 }
 
-/// Sees that each node below a document stands under just the node whose child it is.
-fn assert_one_parent(
-    rt: &impl Abort,
-    alloc: Global,
-    forest: &Forest,
-    document: NodeId,
-) -> Result<(), ParseFault> {
-    let mut nodes = Vec::new(alloc);
-    nodes.push(document)?;
-    for _ in 0..ROOM {
-        let Some(node) = nodes.pop() else {
-            return Ok(());
-        };
-        list_children(rt, forest, node, &mut nodes)?;
+/// Takes node by node of those that wait, of which there are no more than ROOM.
+fn take_waiting(forest: &Forest, waiting: &mut Vec<NodeId>) -> Result<bool, ParseFault> {
+    for _node in 0..ROOM {
+        match waiting.pop() {
+            Some(node) => {
+                if !add_children(forest, node, waiting)? {
+                    return Ok(false);
+                }
+            }
+            None => return Ok(true),
+        }
     }
-    // There are no more nodes than that.
-    assert!(rt; nodes.is_empty());
-    Ok(())
+    Ok(false)
 }
 
-/// What is written of the document of these pieces, in which each node has one parent at most.
-fn written_of(
-    rt: &impl Abort,
-    alloc: Global,
-    pieces: Vec<String>,
-) -> Result<MemWriter, ParseFault> {
-    let mut forest = document_of(alloc, pieces)?;
-    let id = forest.get_document();
-    assert_one_parent(rt, alloc, &forest, id)?;
+/// Whether each node below the document names as its parent the node that has it among its children.
+fn have_one_parent(alloc: Global, forest: &Forest) -> Result<bool, ParseFault> {
+    let mut waiting = Vec::new(alloc);
+    waiting.push(forest.document())?;
+    take_waiting(forest, &mut waiting)
+}
+
+/// What is written of a document.
+fn written(alloc: Global, forest: &Forest) -> Result<MemWriter, ParseFault> {
     let mut writer = MemWriter::new(alloc, ROOM, usize::MAX, None, false)?;
     let node = ForestNode {
-        forest: &forest,
-        id,
+        forest,
+        id: forest.document(),
     };
     match serialize(alloc, &mut writer, &node, SerializeOpts::default()) {
         Ok(()) => Ok(writer),
@@ -78,22 +72,42 @@ fn written_of(
     }
 }
 
-/// Sees that a text makes one document, whole and in single characters.
-fn assert_cut_alike(rt: &impl Abort, alloc: Global, text: &str) -> Result<(), ParseFault> {
-    let whole = written_of(rt, alloc, as_given(alloc, &[text])?)?;
-    let cut = written_of(rt, alloc, in_characters(alloc, text)?)?;
-    assert!(rt; whole.written() == cut.written(), "{text}");
-    assert!(rt; whole.written().len() > text.len());
-    Ok(())
+/// What is written of the document of these pieces. It is refused where a node has another parent.
+fn written_of(alloc: Global, pieces: Vec<String>) -> Result<MemWriter, ParseFault> {
+    let forest = document_of(alloc, pieces)?;
+    if have_one_parent(alloc, &forest)? {
+        written(alloc, &forest)
+    } else {
+        Err(ParseFault::Shape)
+    }
+}
+
+/// Whether two texts of bytes are the same, and longer than a text.
+fn are_alike(whole: &[u8], cut: &[u8], text: &str) -> bool {
+    whole == cut && whole.len() > text.len()
+}
+
+/// Whether a text makes one document, whole and in single characters.
+fn is_cut_alike(alloc: Global, text: &str) -> Result<bool, ParseFault> {
+    let whole = written_of(alloc, as_given(alloc, &[text])?)?;
+    let cut = written_of(alloc, in_characters(alloc, text)?)?;
+    Ok(are_alike(whole.written(), cut.written(), text))
+}
+
+/// The same of a text that is repeated.
+fn is_repeated_alike(alloc: Global, misnested: &str) -> Result<bool, ParseFault> {
+    let text = misnested.repeat(alloc, TIMES)?;
+    is_cut_alike(alloc, text.as_str())
 }
 
 #[test]
-fn misnested_pages_may_be_cut_anywhere(rt: HostRuntime) -> Result<(), Fail> {
-    for misnested in MISNESTED {
-        let text = misnested.repeat(rt.alloc(), TIMES)?;
-        assert_cut_alike(&rt, rt.alloc(), text.as_str())?;
+fn misnested_pages_may_be_cut_anywhere(rt: HostRuntime) {
+    for &misnested in MISNESTED {
+        assert!(rt;
+            is_repeated_alike(rt.alloc(), misnested) == Ok(true),
+            "{misnested}"
+        );
     }
-    Ok(())
 }
 
 /// The beginning of a table, so many pieces of one space, and a letter.
@@ -106,17 +120,28 @@ fn spaced_table(alloc: Global) -> Result<Vec<String>, ParseFault> {
     Ok(pieces)
 }
 
-#[test]
-fn text_of_a_table_is_kept_whole(rt: HostRuntime) -> Result<(), Fail> {
-    let alloc = rt.alloc();
-    let pieces = spaced_table(alloc)?;
-    let mut forest = document_of(alloc, pieces)?;
-    assert!(rt; forest.is_plain()?);
-    let written = written_of(&rt, alloc, spaced_table(alloc)?)?;
+/// Whether a document is plain.
+fn is_plain(alloc: Global, pieces: Vec<String>) -> Result<bool, ParseFault> {
+    let forest = document_of(alloc, pieces)?;
+    forest.is_plain()
+}
+
+/// Whether this is written of a document with so many spaces and a letter before its table.
+fn is_spaced(alloc: Global, written: &[u8]) -> Result<bool, ParseFault> {
     let spaces = " ".repeat(alloc, TIMES)?;
     let want = format!(in alloc;
         "<!DOCTYPE html><html><head></head><body>{spaces}x<table></table></body></html>"
     )?;
-    assert!(rt; written.written() == want.as_bytes());
-    Ok(())
+    Ok(written == want.as_bytes())
+}
+
+/// Whether the text of a table is kept whole, before the table.
+fn is_kept_whole(alloc: Global) -> Result<bool, ParseFault> {
+    let written = written_of(alloc, spaced_table(alloc)?)?;
+    Ok(is_spaced(alloc, written.written())? && is_plain(alloc, spaced_table(alloc)?)?)
+}
+
+#[test]
+fn text_of_a_table_is_kept_whole(rt: HostRuntime) {
+    assert!(rt; is_kept_whole(rt.alloc()) == Ok(true));
 }

@@ -1,16 +1,39 @@
-//! Tokens that no tokenizer tells there: what the tree builder answers where a caller tells them all the same.
+//! Tokens that no tokenizer emits there: what the tree builder answers where a caller emits them all the same.
 ghost use Rattle.std.specs.Prelude.{◌≡◌, false};
 
-use crate::parsing::assert_written;
-use html_forest::{Forest, NodeId};
+use crate::parsing::is_written;
+use html_forest::Forest;
 use html_tokenizer::states::RawKind;
 use html_tokenizer::{Doctype, Tag, TagKind, Token, TokenSink, TokenSinkResult};
 use html_tree_builder::{TreeBuilder, TreeBuilderOpts};
-use markup::{Attributes, LocalName, ParseFault, Text, TreeSink};
+use markup::{Attributes, LocalName, ParseFault, Text};
 use std::alloc::Global;
 use std::borrow::CowStr;
-use std::process::Abort;
 use std::test::Fail;
+
+/// A token.
+#[derive(Clone, Copy)]
+enum Given {
+    Start(&'static str),
+    End(&'static str),
+    Characters(&'static str),
+    Comment,
+    Null,
+    Error,
+    EndOfFile,
+    Doctype,
+}
+
+/// What a sink of tokens is to answer.
+#[derive(Clone, Copy)]
+enum Wanted {
+    /// That reading goes on.
+    GoOn,
+    /// That the text of a title follows.
+    TitleText,
+    /// That the token is refused so.
+    Refuse(ParseFault),
+}
 
 /// A tag without attributes.
 fn tag(alloc: Global, kind: TagKind, name: &str) -> Result<Token, ParseFault> {
@@ -23,15 +46,35 @@ fn tag(alloc: Global, kind: TagKind, name: &str) -> Result<Token, ParseFault> {
     }))
 }
 
-/// What a sink of tokens is asked for.
-#[derive(Clone, Copy)]
-enum Wanted {
-    /// That reading goes on.
-    GoOn,
-    /// That the text of a title follows.
-    TitleText,
-    /// That the token is refused so.
-    Refuse(ParseFault),
+fn characters(alloc: Global, text: &str) -> Result<Token, ParseFault> {
+    Ok(Token::CharacterTokens(Text::from_str(alloc, text)?))
+}
+
+fn comment(alloc: Global) -> Result<Token, ParseFault> {
+    Ok(Token::CommentToken(Text::from_str(alloc, "a")?))
+}
+
+/// A doctype without a name.
+fn doctype() -> Token {
+    Token::DoctypeToken(Doctype {
+        name: None,
+        public_id: None,
+        system_id: None,
+        force_quirks: false,
+    })
+}
+
+fn token_of(alloc: Global, given: Given) -> Result<Token, ParseFault> {
+    match given {
+        Given::Start(name) => tag(alloc, TagKind::StartTag, name),
+        Given::End(name) => tag(alloc, TagKind::EndTag, name),
+        Given::Characters(text) => characters(alloc, text),
+        Given::Comment => comment(alloc),
+        Given::Null => Ok(Token::NullCharacterToken),
+        Given::Error => Ok(Token::ParseError(CowStr::Borrowed("an error"))),
+        Given::EndOfFile => Ok(Token::EOFToken),
+        Given::Doctype => Ok(doctype()),
+    }
 }
 
 /// Whether a sink of tokens answers a token so.
@@ -47,90 +90,83 @@ fn answers<S: TokenSink>(sink: &mut S, token: Token, wanted: Wanted) -> bool
     }
 }
 
-/// Tokens that a title does not take.
-fn strange_tokens(alloc: Global) -> Result<Vec<Token>, ParseFault> {
-    let mut tokens = Vec::new(alloc);
-    tokens.push(Token::CommentToken(Text::from_str(alloc, "a")?))?;
-    tokens.push(Token::NullCharacterToken)?;
-    tokens.push(tag(alloc, TagKind::StartTag, "b")?)?;
-    Ok(tokens)
-}
-
-/// One token of each kind.
-fn every_token(alloc: Global) -> Result<Vec<Token>, ParseFault> {
-    let mut tokens = strange_tokens(alloc)?;
-    tokens.push(tag(alloc, TagKind::EndTag, "title")?)?;
-    tokens.push(Token::CharacterTokens(Text::from_str(alloc, "a")?))?;
-    tokens.push(Token::CharacterTokens(Text::empty(alloc)))?;
-    tokens.push(Token::ParseError(CowStr::Borrowed("an error")))?;
-    tokens.push(Token::EOFToken)?;
-    tokens.push(Token::DoctypeToken(Doctype {
-        name: None,
-        public_id: None,
-        system_id: None,
-        force_quirks: false,
-    }))?;
-    Ok(tokens)
-}
-
-/// Sees that a sink of tokens refuses each of these so.
-fn assert_refused<S: TokenSink>(
-    rt: &impl Abort,
+/// Whether a sink of tokens answers this token so.
+fn takes<S: TokenSink>(
+    alloc: Global,
     sink: &mut S,
-    tokens: Vec<Token>,
-    fault: ParseFault,
-)
+    given: Given,
+    wanted: Wanted,
+) -> Result<bool, ParseFault>
     requires { S.has_failed sink.old ≡ false → S.is_sound (S.view sink.old) }
     ensures { S.has_failed sink.new ≡ false → S.is_sound (S.view sink.new) }
 {
-    for token in tokens {
-        let is_refused = answers(sink, token, Wanted::Refuse(fault));
-        assert!(rt; is_refused);
-    }
+    let token = token_of(alloc, given)?;
+    Ok(answers(sink, token, wanted))
 }
 
-/// Sees that the title of a page stands there with this text, and how many errors were told.
-fn assert_title(
-    rt: &impl Abort,
+/// Whether a sink of tokens refuses each of these so.
+fn refuses_each<S: TokenSink>(
     alloc: Global,
-    forest: &Forest,
-    document: NodeId,
-    text: &str,
-) -> Result<(), ParseFault> {
-    // there is no doctype
-    assert!(rt; forest.error_count() == 1, "{text}");
+    sink: &mut S,
+    tokens: &[Given],
+    fault: ParseFault,
+) -> Result<bool, ParseFault>
+    requires { S.has_failed sink.old ≡ false → S.is_sound (S.view sink.old) }
+    ensures { S.has_failed sink.new ≡ false → S.is_sound (S.view sink.new) }
+{
+    for given in tokens {
+        if !takes(alloc, sink, *given, Wanted::Refuse(fault))? {
+            return Ok(false);
+        }
+    }
+    Ok(true)
+}
+
+/// Tokens that a title does not take.
+const STRANGE: &[Given] = &[Given::Comment, Given::Null, Given::Start("b")];
+
+/// One token of each kind.
+const EVERY: &[Given] = &[
+    Given::Comment,
+    Given::Null,
+    Given::Start("b"),
+    Given::End("title"),
+    Given::Characters("a"),
+    Given::Characters(""),
+    Given::Error,
+    Given::EndOfFile,
+    Given::Doctype,
+];
+
+/// Whether the title of a page has this text, and one error was reported, since there is no doctype.
+fn has_title(alloc: Global, forest: &Forest, text: &str) -> Result<bool, ParseFault> {
     let written = format!(in alloc; "<html><head><title>{text}</title></head></html>")?;
-    assert_written(rt, alloc, forest, document, text, written.as_str())
+    let is_right = is_written(alloc, forest, forest.document(), written.as_str())?;
+    Ok(is_right && forest.error_count() == 1)
+}
+
+/// Whether nothing was built, and no error was reported.
+fn is_empty(alloc: Global, forest: &Forest) -> Result<bool, ParseFault> {
+    let is_right = is_written(alloc, forest, forest.document(), "")?;
+    Ok(is_right && forest.error_count() == 0)
 }
 
 #[test]
 fn titles_refuse_what_is_no_text(rt: HostRuntime) -> Result<(), Fail> {
     let alloc = rt.alloc();
-    let mut forest = Forest::new(alloc)?;
-    let document = forest.get_document();
+    let forest = Forest::new(alloc)?;
     let mut builder = TreeBuilder::new(alloc, forest, TreeBuilderOpts::default());
-    let title = tag(alloc, TagKind::StartTag, "title")?;
-    assert!(rt; answers(&mut builder, title, Wanted::TitleText));
-    assert_title(&rt, alloc, &builder.sink, document, "")?;
-    assert_refused(
-        &rt,
-        &mut builder,
-        strange_tokens(alloc)?,
-        ParseFault::TokenInText,
-    );
-    assert_title(&rt, alloc, &builder.sink, document, "")?;
-    let text = Token::CharacterTokens(Text::from_str(alloc, "a")?);
-    assert!(rt; answers(&mut builder, text, Wanted::GoOn));
-    assert_refused(
-        &rt,
-        &mut builder,
-        strange_tokens(alloc)?,
-        ParseFault::TokenInText,
-    );
-    assert_title(&rt, alloc, &builder.sink, document, "a")?;
-    let end = tag(alloc, TagKind::EndTag, "title")?;
-    assert!(rt; answers(&mut builder, end, Wanted::GoOn));
-    assert_title(&rt, alloc, &builder.sink, document, "a")?;
+    let fault = ParseFault::TokenInText;
+    let title = Given::Start("title");
+    assert!(rt; takes(alloc, &mut builder, title, Wanted::TitleText) == Ok(true));
+    assert!(rt; has_title(alloc, &builder.sink, "") == Ok(true));
+    assert!(rt; refuses_each(alloc, &mut builder, STRANGE, fault) == Ok(true));
+    assert!(rt; has_title(alloc, &builder.sink, "") == Ok(true));
+    assert!(rt; takes(alloc, &mut builder, Given::Characters("a"), Wanted::GoOn) == Ok(true));
+    assert!(rt; refuses_each(alloc, &mut builder, STRANGE, fault) == Ok(true));
+    assert!(rt; has_title(alloc, &builder.sink, "a") == Ok(true));
+    assert!(rt; takes(alloc, &mut builder, Given::End("title"), Wanted::GoOn) == Ok(true));
+    assert!(rt; has_title(alloc, &builder.sink, "a") == Ok(true));
     Ok(())
 }
 
@@ -139,23 +175,21 @@ fn titles_end_with_the_text(rt: HostRuntime) -> Result<(), Fail> {
     let alloc = rt.alloc();
     let forest = Forest::new(alloc)?;
     let mut builder = TreeBuilder::new(alloc, forest, TreeBuilderOpts::default());
-    let title = tag(alloc, TagKind::StartTag, "title")?;
-    assert!(rt; answers(&mut builder, title, Wanted::TitleText));
-    assert!(rt; answers(&mut builder, Token::EOFToken, Wanted::GoOn));
+    let title = Given::Start("title");
+    assert!(rt; takes(alloc, &mut builder, title, Wanted::TitleText) == Ok(true));
+    assert!(rt; takes(alloc, &mut builder, Given::EndOfFile, Wanted::GoOn) == Ok(true));
     builder.end();
-    assert_refused(&rt, &mut builder, every_token(alloc)?, ParseFault::Ended);
+    assert!(rt; refuses_each(alloc, &mut builder, EVERY, ParseFault::Ended) == Ok(true));
     Ok(())
 }
 
 #[test]
 fn every_token_is_refused_after_the_end(rt: HostRuntime) -> Result<(), Fail> {
     let alloc = rt.alloc();
-    let mut forest = Forest::new(alloc)?;
-    let document = forest.get_document();
+    let forest = Forest::new(alloc)?;
     let mut builder = TreeBuilder::new(alloc, forest, TreeBuilderOpts::default());
     builder.end();
-    assert_refused(&rt, &mut builder, every_token(alloc)?, ParseFault::Ended);
-    assert!(rt; builder.sink.error_count() == 0);
-    assert_written(&rt, alloc, &builder.sink, document, "", "")?;
+    assert!(rt; refuses_each(alloc, &mut builder, EVERY, ParseFault::Ended) == Ok(true));
+    assert!(rt; is_empty(alloc, &builder.sink) == Ok(true));
     Ok(())
 }

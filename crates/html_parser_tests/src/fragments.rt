@@ -1,21 +1,18 @@
 //! Names of contexts, and the root of a fragment.
 use html_forest::{Forest, NodeId};
-use markup::{LocalName, Namespace, ParseFault, QualName, TreeSink};
+use markup::{KnownNamespace, LocalName, Namespace, ParseFault, QualName};
 use std::alloc::Global;
 
-pub(crate) const HTML: &str = "http://www.w3.org/1999/xhtml";
-
-/// A name in a namespace.
-pub(crate) fn name(alloc: Global, ns: &str, local: &str) -> Result<QualName, ParseFault> {
-    Ok(QualName::new(
-        None,
-        Namespace::new(String::from_str(alloc, ns)?),
-        LocalName::from_str(alloc, local)?,
-    ))
+/// The name of an element of HTML.
+pub(crate) fn html_name(alloc: Global, local: &str) -> Result<QualName, ParseFault> {
+    let html = Namespace::from_known(KnownNamespace::Html);
+    Ok(QualName::new(None, html, LocalName::from_str(alloc, local)?))
 }
 
 /// The first node that stands in the document, which is the root of a fragment, or else the document.
-pub(crate) fn root_of(forest: &mut Forest) -> NodeId {
-    let document = forest.get_document();
-    forest.children(document).next().unwrap_or(document)
+pub(crate) fn root_of(forest: &Forest) -> NodeId {
+    match forest.first_child(forest.document()) {
+        Some(root) => root,
+        None => forest.document(),
+    }
 }

@@ -1,7 +1,8 @@
-//! Tests of the parser and the tree builder: documents and fragments by public calls, what is written of their trees, and what a sink
-//! is told beside the tree.
+//! Tests of the parser and the tree builder that are no rows: calls that a page doesn't make, tokens that no tokenizer emits, pages too
+//! large for a row, and out of memory.
 //!
-//! They stand in a crate of their own since a crate is proved twice, without its tests and with them.
+//! They stand in a crate of their own since a crate is proved twice, without its tests and with them. No function owns a parser where it
+//! may return early, since each place that drops one takes long to prove.
 #![tactic(auto)]
 
 #[cfg(test)]
@@ -13,13 +14,7 @@ mod deep;
 #[cfg(test)]
 mod direct;
 #[cfg(test)]
-mod feeding;
-#[cfg(test)]
 mod fragments;
-#[cfg(test)]
-mod hooks;
-#[cfg(test)]
-mod listing;
 #[cfg(test)]
 mod memory;
 #[cfg(test)]

@@ -1,33 +1,29 @@
-//! Want of memory: what a parser answers then and after it.
+//! Out of memory: what a parser answers then and after it.
 ghost use Rattle.html_tokenizer.specs.Calls.{IsReadyIf, refusal_of};
 ghost use Rattle.html_parser.specs.Documents.{builder};
 ghost use Rattle.html_parser.specs.Read.{stopped_by};
 
-use crate::fragments::{HTML, name, root_of};
-use crate::parsing::{assert_written, five};
-use html_forest::{Forest, NodeId};
+use crate::fragments::{html_name, root_of};
+use crate::parsing::{five, is_written};
+use html_forest::Forest;
 use html_parser::{ParseOpts, Parser, parse_document, parse_fragment};
 use markup::{Attributes, ParseFault, TreeSink};
 use std::alloc::Global;
-use std::process::Abort;
-use std::test::Fail;
 
-/// Sees that a parser refuses all calls, since an earlier one failed.
-fn assert_failed<Sink: TreeSink + Drop>(rt: &impl Abort, alloc: Global, parser: Parser<Sink>)
+/// Whether a parser refuses all calls, since an earlier one failed.
+fn has_failed<Sink: TreeSink + Drop>(alloc: Global, parser: Parser<Sink>) -> bool
 where
     Sink::Output: Drop,
     requires { IsReadyIf (builder Sink.TreeSink) (stopped_by parser.has_failed (refusal_of parser.tokenizer)) parser.tokenizer }
 {
     let mut parser = parser;
-    let again = parser.process(String::new(alloc));
-    assert!(rt; matches!(again, Err(ParseFault::Failed)));
-    let is_failed = matches!(parser.finish(), Err(ParseFault::Failed));
-    assert!(rt; is_failed);
+    let refuses_text = parser.process(String::new(alloc)) == Err(ParseFault::Failed);
+    let refuses_end = matches!(parser.finish(), Err(ParseFault::Failed));
+    refuses_text && refuses_end
 }
 
-/// Has a parser take a text and the end. One that lacks memory for a text serves no more.
+/// Has a parser take a text and the end. One that is refused memory for a text is to have failed.
 fn take_or_fail<Sink: TreeSink + Drop>(
-    rt: &impl Abort,
     alloc: Global,
     parser: Parser<Sink>,
     text: String,
@@ -37,68 +33,58 @@ where
     requires { IsReadyIf (builder Sink.TreeSink) (stopped_by parser.has_failed (refusal_of parser.tokenizer)) parser.tokenizer }
 {
     let mut parser = parser;
-    match parser.process(text) {
-        Ok(()) => parser.finish(),
-        Err(fault) => {
-            assert_failed(rt, alloc, parser);
-            Err(fault)
-        }
+    let Err(fault) = parser.process(text) else {
+        return parser.finish();
+    };
+    if has_failed(alloc, parser) {
+        Err(fault)
+    } else {
+        Err(ParseFault::Shape)
     }
 }
 
 /// The document of a text.
-fn built(rt: &impl Abort, alloc: Global, text: &str) -> Result<Forest, ParseFault> {
+fn built(alloc: Global, text: &str) -> Result<Forest, ParseFault> {
     let text = String::from_str(alloc, text)?;
+    let table = five(alloc)?;
     let forest = Forest::new(alloc)?;
-    let parser = parse_document(alloc, forest, ParseOpts::default(), five(alloc)?)?;
-    take_or_fail(rt, alloc, parser, text)
+    let parser = parse_document(alloc, forest, ParseOpts::default(), table)?;
+    take_or_fail(alloc, parser, text)
 }
 
 /// The fragment of a text in a title.
-fn built_in_title(rt: &impl Abort, alloc: Global, text: &str) -> Result<Forest, ParseFault> {
+fn built_in_title(alloc: Global, text: &str) -> Result<Forest, ParseFault> {
     let text = String::from_str(alloc, text)?;
-    let forest = Forest::new(alloc)?;
-    let context = name(alloc, HTML, "title")?;
-    let attributes = Attributes::new(alloc);
-    let opts = ParseOpts::default();
     let table = five(alloc)?;
+    let context = html_name(alloc, "title")?;
+    let forest = Forest::new(alloc)?;
+    let opts = ParseOpts::default();
+    let attributes = Attributes::new(alloc);
     let parser = parse_fragment(alloc, forest, opts, context, attributes, true, table)?;
-    take_or_fail(rt, alloc, parser, text)
+    take_or_fail(alloc, parser, text)
 }
 
 /// A text, and what is written of its document, or of what stands in the root of its fragment.
 type Row = (&'static str, &'static str);
 
-/// Sees that this is written of a node of a forest, or that memory was refused.
-fn assert_written_or_memory(
-    rt: &impl Abort,
-    alloc: Global,
-    built: Result<(Forest, NodeId), ParseFault>,
-    row: Row,
-) {
-    let (text, written) = row;
-    let answer = match built {
-        Ok((forest, id)) => assert_written(rt, alloc, &forest, id, text, written),
-        Err(fault) => Err(fault),
-    };
-    assert!(rt;
-        answer.is_ok() || matches!(answer, Err(ParseFault::Memory)),
-        "{text}"
-    );
+/// Whether a row is right.
+fn is_document(alloc: Global, row: &Row) -> Result<bool, ParseFault> {
+    let forest = built(alloc, row.0)?;
+    is_written(alloc, &forest, forest.document(), row.1)
 }
 
-/// A forest with its document.
-fn with_document(forest: Forest) -> (Forest, NodeId) {
-    let mut forest = forest;
-    let document = forest.get_document();
-    (forest, document)
+/// Whether a row of a fragment in a title is right.
+fn is_in_title(alloc: Global, row: &Row) -> Result<bool, ParseFault> {
+    let forest = built_in_title(alloc, row.0)?;
+    is_written(alloc, &forest, root_of(&forest), row.1)
 }
 
-/// A forest with the root of its fragment.
-fn with_root(forest: Forest) -> (Forest, NodeId) {
-    let mut forest = forest;
-    let root = root_of(&mut forest);
-    (forest, root)
+/// Whether a row is right, or memory was refused.
+fn is_right_or_memory(answer: Result<bool, ParseFault>) -> bool {
+    match answer {
+        Ok(is_right) => is_right,
+        Err(fault) => fault == ParseFault::Memory,
+    }
 }
 
 const ROWS: &[Row] = &[
@@ -140,22 +126,26 @@ const ROWS: &[Row] = &[
     ),
 ];
 
-const IN_TITLE: Row = ("<b>&lt;</title>", "&lt;b&gt;&lt;&lt;/title&gt;");
+const IN_TITLE: &[Row] = &[("<b>&lt;</title>", "&lt;b&gt;&lt;&lt;/title&gt;")];
 
 #[test]
-fn memory_may_want(rt: HostRuntime) -> Result<(), Fail> {
-    let alloc = rt.alloc();
+fn memory_may_want(rt: HostRuntime) {
     for row in ROWS {
-        let built = built(&rt, alloc, row.0).map(with_document);
-        assert_written_or_memory(&rt, alloc, built, *row);
+        assert!(rt;
+            is_right_or_memory(is_document(rt.alloc(), row)),
+            "{}",
+            row.0
+        );
     }
-    Ok(())
 }
 
 #[test]
-fn memory_may_want_in_a_fragment(rt: HostRuntime) -> Result<(), Fail> {
-    let alloc = rt.alloc();
-    let built = built_in_title(&rt, alloc, IN_TITLE.0).map(with_root);
-    assert_written_or_memory(&rt, alloc, built, IN_TITLE);
-    Ok(())
+fn memory_may_want_in_a_fragment(rt: HostRuntime) {
+    for row in IN_TITLE {
+        assert!(rt;
+            is_right_or_memory(is_in_title(rt.alloc(), row)),
+            "{}",
+            row.0
+        );
+    }
 }

@@ -10,7 +10,6 @@ use html_tokenizer::References;
 use markup::devices::MemWriter;
 use markup::{ParseFault, SerializeFault, TreeSink};
 use std::alloc::Global;
-use std::process::Abort;
 
 /// The table that escaping needs.
 pub(crate) fn five(alloc: Global) -> Result<References, ParseFault> {
@@ -20,42 +19,54 @@ pub(crate) fn five(alloc: Global) -> Result<References, ParseFault> {
     }
 }
 
-/// Has a parser take these pieces and the end.
-pub(crate) fn take_all<Sink: TreeSink + Drop>(
+/// Has a parser take these pieces.
+fn feed_all<Sink: TreeSink>(
+    parser: &mut Parser<Sink>,
+    pieces: Vec<String>,
+) -> Result<(), ParseFault>
+    requires { IsReadyIf (builder Sink.TreeSink)
+        (stopped_by parser.old.has_failed (refusal_of parser.old.tokenizer)) parser.old.tokenizer }
+    ensures { IsReadyIf (builder Sink.TreeSink)
+        (stopped_by parser.new.has_failed (refusal_of parser.new.tokenizer)) parser.new.tokenizer }
+{
+    for piece in pieces {
+        parser.process(piece)?;
+    }
+    Ok(())
+}
+
+/// What a parser makes of these pieces. One that has failed refuses the end too.
+fn take_all<Sink: TreeSink + Drop>(
     parser: Parser<Sink>,
     pieces: Vec<String>,
 ) -> Result<Sink::Output, ParseFault>
     requires { IsReadyIf (builder Sink.TreeSink) (stopped_by parser.has_failed (refusal_of parser.tokenizer)) parser.tokenizer }
 {
     let mut parser = parser;
-    for piece in pieces {
-        parser.process(piece)?;
-    }
+    drop(feed_all(&mut parser, pieces));
     parser.finish()
 }
 
 /// The document of these pieces.
 pub(crate) fn document_of(alloc: Global, pieces: Vec<String>) -> Result<Forest, ParseFault> {
+    let table = five(alloc)?;
     let forest = Forest::new(alloc)?;
-    let parser = parse_document(alloc, forest, ParseOpts::default(), five(alloc)?)?;
+    let parser = parse_document(alloc, forest, ParseOpts::default(), table)?;
     take_all(parser, pieces)
 }
 
-/// Sees that this is written of what stands in a node.
-pub(crate) fn assert_written(
-    rt: &impl Abort,
+/// Whether this is written of what stands in a node.
+pub(crate) fn is_written(
     alloc: Global,
     forest: &Forest,
     id: NodeId,
-    text: &str,
     written: &str,
-) -> Result<(), ParseFault> {
+) -> Result<bool, ParseFault> {
     let mut writer = MemWriter::new(alloc, 4_096, usize::MAX, None, false)?;
     let node = ForestNode { forest, id };
     let opts = SerializeOpts::default();
     if let Err(SerializeFault::Memory) = serialize(alloc, &mut writer, &node, opts) {
         return Err(ParseFault::Memory);
     }
-    assert!(rt; writer.written() == written.as_bytes(), "{text}");
-    Ok(())
+    Ok(writer.written() == written.as_bytes())
 }
