@@ -3,3 +3,5 @@ pub mod Turns
 pub mod Texts
 pub mod Places
 pub mod ReadBack
+pub mod Again
+pub mod ByText

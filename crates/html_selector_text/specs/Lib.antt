@@ -6,8 +6,8 @@ pub mod Nth
 pub mod Simples
 pub mod Meanings
 pub mod Trees
+pub mod Written
 pub mod Grammar
 pub mod Turns
-pub mod Written
 pub mod Readable
 pub mod Rows

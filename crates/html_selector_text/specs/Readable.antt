@@ -102,12 +102,12 @@ abbrev mutual
   IsTests (NthOfTest nth list others) depth in_has =
       (1 ≤ depth) × (IsNth nth × ((is_none list ≡ false) × (IsList list (depth - 1) in_has × IsTests others depth in_has)))
 
--- as parsing gives selectors
+-- as the grammar gives selectors
 pub record IsParsed (list : ListTree) : Type 0 where
   pub some : is_none list ≡ false
   pub parts : IsList list 32 false
 
--- and their text has at most 8,192 tokens
+-- and their text has at most 8,192 tokens, without the end: as parsing gives selectors
 pub record IsReadable (list : ListTree) : Type 0 where
   pub parsed : IsParsed list
   pub short : length (tokens (written list)) ≤ 8193

@@ -137,7 +137,12 @@ class_rows =
     (":ROOT", compound (Root ∷ []))
     ∷ (":scope", compound (Scope ∷ []))
     ∷ (":last-of-type", compound (NthOfType (places 1 0 false true) ∷ []))
-    ∷ (":only-child", compound (NthChild (places 1 0 false false) ∷ NthChild (places 1 0 false true) ∷ []))
+    ∷ []
+
+-- pseudo-classes that are two simple selectors
+abbrev pub only_rows : List Row
+only_rows =
+    (":only-child", compound (NthChild (places 1 0 false false) ∷ NthChild (places 1 0 false true) ∷ []))
     ∷ []
 
 -- pseudo-classes with selectors in them
@@ -190,11 +195,16 @@ nth_sign_rows =
     ∷ (":nth-child(4N- 7)", child (places 1 4 false false))
     ∷ []
 
--- An+B from the end, and with selectors
+-- An+B from the end
 abbrev pub nth_of_rows : List Row
 nth_of_rows =
     (":nth-last-of-type(n-2", compound (NthOfType (places 0 1 false true) ∷ []))
-    ∷ (":nth-child(1 of a)", tested (NthOfTest (places 1 0 false false) (only (typed "a")) NoTests))
+    ∷ []
+
+-- An+B with selectors
+abbrev pub nth_selectors_rows : List Row
+nth_selectors_rows =
+    (":nth-child(1 of a)", tested (NthOfTest (places 1 0 false false) (only (typed "a")) NoTests))
     ∷ []
 
 -- what is no An+B

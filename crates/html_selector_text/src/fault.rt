@@ -38,6 +38,8 @@ pub enum SyntaxFault {
     TooDeep,
     /// There are more than 8,192 tokens.
     TooLong,
+    /// The selectors have a text of more than 8,192 tokens.
+    WrittenTooLong,
 }
 
 /// Why no selector came of a text.
@@ -70,6 +72,7 @@ fn words(fault: SyntaxFault) -> &'static str {
         SyntaxFault::HasInHas => "`:has()` stands in `:has()`",
         SyntaxFault::TooDeep => "more than 32 parentheses stand in one another",
         SyntaxFault::TooLong => "there are more than 8,192 tokens",
+        SyntaxFault::WrittenTooLong => "the selectors, written out, have more than 8,192 tokens",
     }
 }
 

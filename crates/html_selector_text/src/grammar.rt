@@ -1,5 +1,5 @@
 //! Tokens to selectors (Selectors Level 4, sections 3.1, 4 and 18).
-ghost use Rattle.std.specs.Prelude.{◌≡◌, ◌++◌, ◌<◌, [], Option, Some, None, Ok, IfOk, IfErr, OnOk, length, option_map};
+ghost use Rattle.std.specs.Prelude.{◌≡◌, ◌++◌, ◌<◌, [], true, Option, Some, None, Ok, Err, IfOk, IfErr, OnOk, length, option_map};
 ghost use Rattle.std.specs.Str.{chars};
 ghost use Rattle.markup.specs.declared.fault.ParseFault.TheVariants.{Memory};
 ghost use Rattle.html_selector_text.specs.Grammar as defined;
@@ -16,7 +16,7 @@ use crate::simples::{ListKind, Meaning, Part, Test, next_part, type_selector};
 use crate::tokens::{Token, TokenKind};
 use crate::trees::{LeftPart, asking_has, joined, with_one, with_right, with_simple, with_test};
 use markup::ParseFault;
-use selectors::{Combinator, Complex, Compound, Relative, Selectors, Tests};
+use selectors::{Combinator, Complex, Compound, Relative, Selectors, Simple, Tests};
 use std::alloc::Global;
 
 // COMBINATORS
@@ -128,6 +128,40 @@ fn is_final(fault: SyntaxFault) -> bool
     }
 }
 
+// What a list that forgives makes of a selector and what follows it.
+fn kept_or_left_out<'a>(
+    alloc: Global,
+    one: Complex,
+    rest: &'a [Token],
+    tokens: &'a [Token],
+) -> Result<(Option<Complex>, &'a [Token]), SelectorError>
+    ensures { Gives (λ x. (option_map complex_tree x.0, x.1.now)) result
+        (defined.forgiven (Ok (complex_tree one, rest.now)) tokens.now) }
+{
+    if ends(rest) {
+        Ok((Some(one), rest))
+    } else {
+        Ok((None, past_values(alloc, tokens)?))
+    }
+}
+
+// What a list that forgives makes of a fault.
+fn fault_or_left_out<'a>(
+    alloc: Global,
+    fault: SyntaxFault,
+    at: usize,
+    tokens: &'a [Token],
+) -> Result<(Option<Complex>, &'a [Token]), SelectorError>
+    ensures { Gives (λ x. (option_map complex_tree x.0, x.1.now)) result
+        (defined.forgiven (Err (record { fault = fault; at = at })) tokens.now) }
+{
+    if is_final(fault) {
+        Err(SelectorError::Syntax { fault, at })
+    } else {
+        Ok((None, past_values(alloc, tokens)?))
+    }
+}
+
 // What a list that forgives makes of what was read of a selector.
 fn forgiven<'a>(
     alloc: Global,
@@ -138,21 +172,9 @@ fn forgiven<'a>(
         → Gives (λ x. (option_map complex_tree x.0, x.1.now)) result (defined.forgiven expected tokens.now) }
 {
     match read {
-        Ok((one, rest)) => {
-            if ends(rest) {
-                Ok((Some(one), rest))
-            } else {
-                Ok((None, past_values(alloc, tokens)?))
-            }
-        }
+        Ok((one, rest)) => kept_or_left_out(alloc, one, rest, tokens),
         Err(SelectorError::Memory) => Err(SelectorError::Memory),
-        Err(SelectorError::Syntax { fault, at }) => {
-            if is_final(fault) {
-                Err(SelectorError::Syntax { fault, at })
-            } else {
-                Ok((None, past_values(alloc, tokens)?))
-            }
-        }
+        Err(SelectorError::Syntax { fault, at }) => fault_or_left_out(alloc, fault, at, tokens),
     }
 }
 
@@ -227,6 +249,59 @@ fn meant(
     }
 }
 
+// A compound selector with a simple selector more, and what follows.
+fn with_one_more(
+    so_far: Compound,
+    simple: Simple,
+    rest: &[Token],
+) -> Result<(bool, Compound, &[Token]), SelectorError>
+    ensures { Gives turn_seen result (defined.turned true (defined.with_simple (compound_tree so_far) simple) rest.now) }
+{
+    Ok((true, with_simple(so_far, simple)?, rest))
+}
+
+// A compound selector with a test more, and what follows.
+fn with_one_test<'a>(
+    alloc: Global,
+    test: Test,
+    selectors: Selectors,
+    so_far: Compound,
+    rest: &'a [Token],
+) -> Result<(bool, Compound, &'a [Token]), SelectorError>
+    ensures { Gives turn_seen result
+        (defined.turned true (defined.tested test (list_tree selectors) (compound_tree so_far)) rest.now) }
+{
+    Ok((true, with_test(alloc, test, selectors, so_far)?, rest))
+}
+
+// A compound selector with a part, which begins at a place, if it is one; whether it is; and what follows.
+#[cycle(grammar)]
+fn with_part<'a>(
+    alloc: Global,
+    depth: u8,
+    in_has: bool,
+    so_far: Compound,
+    at: usize,
+    part: Part,
+    rest: &'a [Token],
+) -> Result<(bool, Compound, &'a [Token]), SelectorError>
+    ensures { Gives turn_seen result (defined.with_part (defined.list_at depth) in_has (compound_tree so_far) at part rest.now) }
+{
+    match part {
+        Part::Nothing => Ok((false, so_far, rest)),
+        Part::One(simple) => with_one_more(so_far, simple, rest),
+        Part::Two(simple, other) => with_one_more(with_simple(so_far, simple)?, other, rest),
+        Part::List(test, kind) => {
+            let (selectors, rest) = list(alloc, depth, in_has || is_relative(kind), kind, rest)?;
+            with_one_test(alloc, test, selectors, so_far, past_close(rest))
+        }
+        Part::Stands(meaning) => {
+            let selectors = meant(alloc, depth, in_has, at, meaning)?;
+            with_one_test(alloc, Test::Is, selectors, so_far, rest)
+        }
+    }
+}
+
 // A compound selector with one more part, if there is one, whether there was, and what follows.
 #[cycle(grammar)]
 #[tactic(auto, unfolding(crate::specs::Grammar::turn))]
@@ -240,24 +315,8 @@ fn turn<'a>(
     ensures { Gives turn_seen result (defined.turn (defined.list_at depth) in_has (compound_tree so_far) tokens.now) }
 {
     let (part, rest) = next_part(alloc, in_has, tokens)?;
-    match part {
-        Part::Nothing => Ok((false, so_far, rest)),
-        Part::One(simple) => Ok((true, with_simple(so_far, simple)?, rest)),
-        Part::Two(simple, other) => {
-            let so_far = with_simple(so_far, simple)?;
-            Ok((true, with_simple(so_far, other)?, rest))
-        }
-        Part::List(test, kind) => {
-            let (selectors, rest) = list(alloc, depth, in_has || is_relative(kind), kind, rest)?;
-            let compound = with_test(alloc, test, selectors, so_far)?;
-            Ok((true, compound, past_close(rest)))
-        }
-        Part::Stands(meaning) => {
-            let selectors = meant(alloc, depth, in_has, place(past(tokens, 1)), meaning)?;
-            let compound = with_test(alloc, Test::Is, selectors, so_far)?;
-            Ok((true, compound, rest))
-        }
-    }
+    let at = place(past(tokens, 1));
+    with_part(alloc, depth, in_has, so_far, at, part, rest)
 }
 
 // At most so many parts of a compound selector, behind its type.

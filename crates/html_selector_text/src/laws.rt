@@ -1,7 +1,7 @@
 //! What is written of selectors is read as the same.
 ghost use Rattle.std.specs.Prelude.{◌≡◌, ◌≤◌, ◌++◌, ℕ, List, Ok};
 ghost use Rattle.html_selector_text.specs.Grammar.{parsed};
-ghost use Rattle.html_selector_text.specs.Readable.{IsParsed, IsReadable};
+ghost use Rattle.html_selector_text.specs.Readable.{IsReadable};
 ghost use Rattle.html_selector_text.specs.Trees.{ListTree};
 ghost use Rattle.html_selector_text.specs.declared.tokens.TokenKind.TheVariants.{Str};
 ghost use Rattle.html_selector_text.specs.declared.nth.Term.{Term};
@@ -30,10 +30,10 @@ pub fn places_are_sums()
     ensures sums { (a b : Term) (k : ℕ) → 1 ≤ k → IsSum a b k → IsPlace (places a b) k }
 {}
 
-/// Selectors are read back from their text just where they are as parsing gives them and the text has at most 8,192 tokens. So what a
-/// text is parsed as is read back, unless it is written much longer.
+/// What any text is parsed as is read back from the text that is written of it. Of all selectors, just those are read back that are as
+/// parsing gives them.
 pub fn selectors_are_read()
+    ensures parsed { (text : List ℕ) (list : ListTree) → parsed text ≡ Ok list → parsed (written list) ≡ Ok list }
     ensures read_back { (list : ListTree) → IsReadable list → parsed (written list) ≡ Ok list }
     ensures these_alone { (list : ListTree) → parsed (written list) ≡ Ok list → IsReadable list }
-    ensures parsed { (text : List ℕ) (list : ListTree) → parsed text ≡ Ok list → IsParsed list }
 {}

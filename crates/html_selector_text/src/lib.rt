@@ -13,6 +13,7 @@ mod parsing;
 mod reading;
 pub mod rows;
 mod scanning;
+mod selector;
 mod simples;
 mod tokens;
 mod trees;
@@ -20,4 +21,5 @@ mod writing;
 
 pub use fault::{SelectorError, SyntaxFault};
 pub use parsing::parse;
+pub use selector::Selector;
 pub use writing::to_text;

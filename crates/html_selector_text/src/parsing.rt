@@ -1,6 +1,7 @@
 //! Texts to selectors.
-ghost use Rattle.std.specs.Prelude.{◌≡◌};
+ghost use Rattle.std.specs.Prelude.{◌≡◌, IfOk, Ok};
 ghost use Rattle.std.specs.Str.{chars};
+ghost use Rattle.std.specs.String.{string_bytes};
 ghost use Rattle.html_selector_text.specs.Grammar as defined;
 ghost use Rattle.html_selector_text.specs.Results.{Gives, PlacedIn};
 ghost use Rattle.html_selector_text.specs.Trees.{list_tree};
@@ -10,6 +11,7 @@ use crate::fault::{SelectorError, SyntaxFault};
 use crate::grammar::list;
 use crate::reading::{is_end, past, wrong};
 use crate::scanning::tokens;
+use crate::selector::{LONGEST, Selector};
 use crate::simples::ListKind;
 use crate::tokens::Token;
 use selectors::Selectors;
@@ -17,9 +19,6 @@ use std::alloc::Global;
 
 // How many parentheses may be opened in one another, and one more.
 const DEEPEST: u8 = 33;
-
-// How many tokens there may be, without the end.
-const LONGEST: usize = 8192;
 
 // A list of selectors up to the end.
 #[tactic(auto, unfolding(crate::specs::Grammar::selector_list))]
@@ -36,13 +35,14 @@ fn selector_list(alloc: Global, tokens: &[Token]) -> Result<Selectors, SelectorE
 
 // The same of not too many tokens.
 #[tactic(auto, unfolding(crate::specs::Grammar::limited))]
-fn limited(alloc: Global, tokens: &[Token]) -> Result<Selectors, SelectorError>
-    ensures { Gives list_tree result (defined.limited tokens.now) }
+fn limited(alloc: Global, tokens: &[Token]) -> Result<Selector, SelectorError>
+    ensures { Gives (λ s. list_tree s.selectors) result (defined.limited tokens.now) }
 {
     if tokens.len() > LONGEST + 1 {
         return Err(wrong(SyntaxFault::TooLong, past(tokens, LONGEST)));
     }
-    selector_list(alloc, tokens)
+    let selectors = selector_list(alloc, tokens)?;
+    Selector::new(alloc, selectors)
 }
 
 // An error with its place in the text as it was given.
@@ -58,19 +58,37 @@ fn placed_in(text: &[char], error: SelectorError) -> SelectorError
     }
 }
 
-/// The selectors that a text is (Selectors Level 4), with the namespaces that HTML's parser knows under their usual prefixes.
-///
-/// An error says what is wrong first, from the left, and how many characters stand before that place. The items of `:is()` and `:where()`
-/// that are no selectors are left out (section 18.1); all others are to be selectors.
+// The selectors that a text is.
 #[tactic(auto, unfolding(crate::specs::Grammar::parsed))]
-pub fn parse(alloc: Global, text: &str) -> Result<Selectors, SelectorError>
-    ensures { Gives list_tree result (defined.parsed (chars text.now)) }
+fn read(alloc: Global, text: &str) -> Result<Selector, SelectorError>
+    ensures { Gives (λ s. list_tree s.selectors) result (defined.parsed (chars text.now)) }
 {
     let given = characters(alloc, text)?;
     let chars = preprocessed(alloc, given.as_slice())?;
     let tokens = tokens(alloc, chars.as_slice())?;
     match limited(alloc, tokens.as_slice()) {
-        Ok(selectors) => Ok(selectors),
+        Ok(selector) => Ok(selector),
         Err(error) => Err(placed_in(given.as_slice(), error)),
     }
+}
+
+impl Selector {
+    /// The selectors that a text is (Selectors Level 4), with the namespaces that HTML's parser knows under their usual prefixes.
+    ///
+    /// An error says what is wrong first, from the left, and how many characters stand before that place. The items of `:is()` and
+    /// `:where()` that are no selectors are left out (section 18.1); all others are to be selectors.
+    pub fn parse(alloc: Global, text: &str) -> Result<Selector, SelectorError>
+        ensures exact { Gives (λ s. list_tree s.selectors) result (defined.parsed (chars text.now)) }
+        ensures read_back { IfOk result (λ s. defined.parsed (chars (string_bytes s.text)) ≡ Ok (list_tree s.selectors)) }
+    {
+        read(alloc, text)
+    }
+}
+
+/// The selectors of [`Selector::parse`], without their text.
+pub fn parse(alloc: Global, text: &str) -> Result<Selectors, SelectorError>
+    ensures { Gives list_tree result (defined.parsed (chars text.now)) }
+{
+    let selector = Selector::parse(alloc, text)?;
+    Ok(selector.into_selectors())
 }

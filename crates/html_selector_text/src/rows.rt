@@ -1,6 +1,7 @@
 //! Worked rows: what the definitions give for each text is computed by the check.
 ghost use Rattle.html_selector_text.specs.Rows.{AreParsed, token_rows, simple_rows, complex_rows, class_rows, class_fault_rows};
 ghost use Rattle.html_selector_text.specs.Rows.{argument_rows, relative_rows, nth_rows, nth_sign_rows, nth_of_rows};
+ghost use Rattle.html_selector_text.specs.Rows.{only_rows, nth_selectors_rows};
 ghost use Rattle.html_selector_text.specs.Rows.{AreWritten, nth_fault_rows, written_class_rows, written_nth_rows, written_rows};
 
 /// Names, escapes, strings and comments, read as the rows say.
@@ -21,6 +22,11 @@ pub fn complex_rows()
 /// Pseudo-classes without arguments, read as the rows say.
 pub fn class_rows()
     ensures { AreParsed class_rows }
+{}
+
+/// Pseudo-classes that are two simple selectors, read as the rows say.
+pub fn only_rows()
+    ensures { AreParsed only_rows }
 {}
 
 /// Pseudo-classes that are at fault, read as the rows say.
@@ -48,9 +54,14 @@ pub fn nth_sign_rows()
     ensures { AreParsed nth_sign_rows }
 {}
 
-/// An+B from the end and with selectors, read as the rows say.
+/// An+B from the end, read as the rows say.
 pub fn nth_of_rows()
     ensures { AreParsed nth_of_rows }
+{}
+
+/// An+B with selectors, read as the rows say.
+pub fn nth_selectors_rows()
+    ensures { AreParsed nth_selectors_rows }
 {}
 
 /// What is no An+B, read as the rows say.

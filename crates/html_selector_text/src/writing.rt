@@ -498,6 +498,18 @@ fn is_has(selectors: &Selectors) -> bool
     !is_none(selectors) && all_ask_has(selectors)
 }
 
+// What stands before the selectors of `:nth-child(.. of ..)`.
+fn push_nth_opening(text: &mut Text, nth: Nth) -> Result<(), ParseFault>
+    ensures ok { OnOk result (text.new ≡ text.old
+        ++ (((defined.nth_name nth.from_end ++ codes "child(") ++ defined.nth_text nth) ++ codes " of ")) }
+    ensures fault { IfErr result (λ fault. fault ≡ Memory) }
+{
+    push_plain(text, nth_name(nth.from_end))?;
+    push_plain(text, "child(")?;
+    push_nth(text, nth)?;
+    push_plain(text, " of ")
+}
+
 #[cycle(writing)]
 fn push_compound(
     alloc: Global,
@@ -609,10 +621,7 @@ fn push_tests(alloc: Global, text: &mut Text, in_has: bool, tests: &Tests) -> Re
         }
         Tests::NthOf(nth, selectors, others) => {
             push_tests(alloc, text, false, others)?;
-            push_plain(text, nth_name(nth.from_end))?;
-            push_plain(text, "child(")?;
-            push_nth(text, *nth)?;
-            push_plain(text, " of ")?;
+            push_nth_opening(text, *nth)?;
             push_list(alloc, text, false, selectors)?;
             push_plain(text, ")")
         }

@@ -1,8 +1,8 @@
 -- The tokens of what is left of a text, one by one.
-use Rattle.std.proofs.Common.{◌≡◌, ◌∙◌, ℕ, zero, suc, ◌-◌, ◌≤◌, false, ◌&&◌}
-use Rattle.std.proofs.Common.{List, [], ◌∷◌, ◌++◌, length, refl, sym, ap, arith, append_assoc, inl, inr}
-use Rattle.std.specs.Prelude.{◌==◌, slice_index}
-use Rattle.std.proofs.lemmas.Bool.{cases_Bool, ne_eqb}
+use Rattle.std.proofs.Common.{◌≡◌, ◌∙◌, ℕ, zero, suc, ◌+◌, ◌-◌, ◌≤◌, false, ◌&&◌}
+use Rattle.std.proofs.Common.{List, [], ◌∷◌, ◌++◌, length, refl, sym, ap, arith, append_assoc, length-append, inl, inr}
+use Rattle.std.specs.Prelude.{◌==◌, nat_lt, slice_index}
+use Rattle.std.proofs.lemmas.Bool.{cases_Bool, le-ltb, ne_eqb}
 use Rattle.std.proofs.lemmas.List.{append-nil}
 use Rattle.html_selector_text.specs.declared.tokens.Token.{Token}
 use Rattle.html_selector_text.specs.declared.tokens.TokenKind.{TokenKind}
@@ -71,3 +71,39 @@ no_tokens total = refl
 pub all_tokens : (chars : List ℕ) → tokens chars ≡ tokens_of (length chars) chars
 unfolding tokens tokens_of
 all_tokens chars = refl
+
+-- HOW MANY THERE ARE
+
+one_at_most : (total c : ℕ) (rest : List ℕ) → length (one_token total (c ∷ rest)).tokens ≤ 1
+one_at_most total c rest = elim (cases_Bool ((c == 47) && (slice_index rest 0 == 42))) [
+  | inl is ↦ rw is (omega arith)
+  | inr is ↦ rw is (omega arith)
+]
+
+steps_few : (n total : ℕ) (chars : List ℕ) → length (token_steps n total [] chars) ≤ length chars
+steps_few zero total chars = omega arith
+steps_few (suc n) total [] = omega arith
+steps_few (suc n) total (c ∷ rest) =
+    let new = (one_token total (c ∷ rest)).tokens in
+    let left = (one_token total (c ∷ rest)).rest in
+    let some : (length (c ∷ rest) == 0) ≡ false = ne_eqb _ _ (omega arith) in
+    rw some (omega (
+      arith,
+      ap length (so_far_first n total ([] ++ new) left),
+      length-append ([] ++ new) (token_steps n total [] left),
+      steps_few n total left,
+      one_at_most total c rest,
+      one_shorter total c rest,
+    ))
+
+-- a text has at most as many tokens as characters, and the end
+few_tokens : (chars : List ℕ) → length (tokens chars) ≤ length chars + 1
+unfolding tokens
+few_tokens chars = omega (
+  arith,
+  length-append (token_steps (length chars) (length chars) [] chars) (placed End (length chars) ∷ []),
+  steps_few (length chars) (length chars) chars,
+)
+
+pub short_text : (text : List ℕ) → length text ≤ 8192 → nat_lt 8193 (length (tokens text)) ≡ false
+short_text text short = le-ltb 8193 (length (tokens text)) (omega (arith, few_tokens text))

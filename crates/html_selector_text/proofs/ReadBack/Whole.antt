@@ -1,5 +1,5 @@
 -- The text of selectors is read as these selectors.
-use Rattle.std.proofs.Common.{◌≡◌, ◌∙◌, ℕ, Bool, true, false, cond, Result, Ok, Err, List, [], ◌++◌, length, refl, ap, subst, inl, inr}
+use Rattle.std.proofs.Common.{◌≡◌, ◌∙◌, ◌≤◌, ℕ, Bool, true, false, cond, Result, Ok, Err, List, [], ◌++◌, length, refl, ap, subst, inl, inr}
 use Rattle.std.specs.Prelude.{nat_lt}
 use Rattle.std.proofs.lemmas.Bool.{le-ltb, ltb-false, cases_Bool, false≢true}
 use Rattle.std.proofs.lemmas.List.{append-nil}
@@ -10,14 +10,13 @@ use Rattle.html_selector_text.specs.declared.fault.SyntaxFault.TheVariants.{Unex
 use Rattle.html_selector_text.specs.Reading.{wrong, is_end, is_delim, past_spaces}
 use Rattle.html_selector_text.specs.Results.{Wrong}
 use Rattle.html_selector_text.specs.Scanning.{tokens}
-use Rattle.html_selector_text.specs.Grammar.{ListRead, list_at, selector_list, limited, placed_in, parsed}
+use Rattle.html_selector_text.specs.Grammar.{ListRead, list_at, selector_list, short, limited, placed_in, parsed}
 use Rattle.html_selector_text.specs.Trees.{ListTree}
 use Rattle.html_selector_text.specs.Written.{is_none, list_text, written}
-use Rattle.html_selector_text.specs.Readable.{IsList, IsParsed, IsReadable}
+use Rattle.html_selector_text.specs.Readable.{IsList, IsReadable}
 use Rattle.html_selector_text.proofs.ReadBack.Lexing.{tokens_of, no_tokens, all_tokens}
 use Rattle.html_selector_text.proofs.ReadBack.Lists.{whole_list}
 use Rattle.html_selector_text.proofs.ReadBack.Selectors.{lists}
-use Rattle.html_selector_text.proofs.ReadBack.Ends.{err≢ok}
 use Rattle.html_selector_text.proofs.ReadBack.Sound.{Sound, tokens_sound, preprocessed_zero}
 use Rattle.html_selector_text.proofs.ReadBack.Sounds.{Gives, bind}
 use Rattle.html_selector_text.proofs.ReadBack.Parsed.{ListSound, list_sound}
@@ -38,11 +37,15 @@ listed list is =
     ap (λ (x : List Token). list_at 33 false Plain x) (all_tokens text)
     ∙ whole_list 32 false Plain false list total [] (tokens_of total text) reads refl (end_no_comma total) spaces
 
+short_is : (list : ListTree) → length (tokens (written list)) ≤ 8193 → short list ≡ Ok list
+short_is list is = rw (le-ltb 8193 (length (tokens (written list))) is) refl
+
 pub read_back : (list : ListTree) → IsReadable list → parsed (written list) ≡ Ok list
 unfolding parsed limited selector_list written
 read_back list is =
     let text : List ℕ = list_text false list in
-    rw (clean_same text (list_clean list false), le-ltb 8193 (length (tokens text)) is.short, listed list is, no_tokens (length text)) refl
+    rw (clean_same text (list_clean list false), le-ltb 8193 (length (tokens text)) is.short, listed list is, no_tokens (length text))
+    (ap (λ (x : Result ListTree Wrong). placed_in text x) (short_is list is.short))
 
 -- WHAT IS PARSED
 
@@ -65,40 +68,39 @@ list_good ts h =
     (first_good (list_at 33 false Plain ts) (list_sound 33 false Plain ts (λ is. absurd (false≢true is)) h))
     (λ list good. end_good (is_end list.1) list.0 (wrong Unexpected list.1) good)
 
-limited_good : (ts : List Token) → Sound ts → Gives IsGood (limited ts)
+-- and it is short enough
+abbrev IsShort : ListTree → Type 0
+IsShort list = IsGood list × (length (tokens (written list)) ≤ 8193)
+
+short_good : (list : ListTree) → IsGood list → Gives IsShort (short list)
+short_good list good = elim (cases_Bool (nat_lt 8193 (length (tokens (written list))))) [
+  | inl is ↦ rw is tt
+  | inr is ↦ rw is (good, ltb-false 8193 (length (tokens (written list))) is)
+]
+
+limited_good : (ts : List Token) → Sound ts → Gives IsShort (limited ts)
 unfolding limited
 limited_good ts h = elim (cases_Bool (nat_lt 8193 (length ts))) [
   | inl is ↦ rw is tt
-  | inr is ↦ rw is (list_good ts h)
+  | inr is ↦ rw is (bind IsGood IsShort (selector_list ts) short (list_good ts h) short_good)
 ]
 
-placed_good : (text : List ℕ) (r : Result ListTree Wrong) → Gives IsGood r → Gives IsGood (placed_in text r)
+placed_good : (text : List ℕ) (r : Result ListTree Wrong) → Gives IsShort r → Gives IsShort (placed_in text r)
 placed_good text (Ok x) h = h
 placed_good text (Err e) h = tt
 
-parsed_good : (text : List ℕ) → Gives IsGood (parsed text)
+parsed_good : (text : List ℕ) → Gives IsShort (parsed text)
 unfolding parsed
 parsed_good text = placed_good text (limited (tokens (preprocessed text)))
     (limited_good (tokens (preprocessed text)) (tokens_sound (preprocessed text) (preprocessed_zero text)))
 
-pub parsed_is : (text : List ℕ) (list : ListTree) → parsed text ≡ Ok list → IsParsed list
+pub parsed_is : (text : List ℕ) (list : ListTree) → parsed text ≡ Ok list → IsReadable list
 parsed_is text list h =
-    let good : IsGood list = subst (Gives IsGood) h (parsed_good text) in
-    record { some = good.0; parts = good.1 }
-
--- no longer text is read
-too_long : (text : List ℕ) (ts : List Token) (list : ListTree) → nat_lt 8193 (length ts) ≡ true → placed_in text (limited ts) ≡ Ok list → ⊥
-unfolding limited
-too_long text ts list is h = err≢ok _ list _ refl (rw is at h)
+    let good : IsShort list = subst (Gives IsShort) h (parsed_good text) in
+    record { parsed = record { some = good.0.0; parts = good.0.1 }; short = good.1 }
 
 pub these_alone : (list : ListTree) → parsed (written list) ≡ Ok list → IsReadable list
-unfolding parsed written
-these_alone list h =
-    let text : List ℕ = list_text false list in
-    let same : preprocessed text ≡ text = clean_same text (list_clean list false) in
-    let read : placed_in text (limited (tokens text)) ≡ Ok list =
-    subst (λ (x : List ℕ). placed_in text (limited (tokens x)) ≡ Ok list) same h in
-    elim (cases_Bool (nat_lt 8193 (length (tokens text)))) [
-      | inl is ↦ absurd (too_long text (tokens text) list is read)
-      | inr is ↦ record { parsed = parsed_is text list h; short = ltb-false 8193 (length (tokens text)) is }
-    ]
+these_alone list h = parsed_is (written list) list h
+
+pub again : (text : List ℕ) (list : ListTree) → parsed text ≡ Ok list → parsed (written list) ≡ Ok list
+again text list h = read_back list (parsed_is text list h)

@@ -10,32 +10,35 @@ decreases-list l = l.depth * 10 * 2 ^ 64 + 0 * 2 ^ 64
 abbrev pub decreases-meant : goal.decreases-meant
 decreases-meant l = l.depth * 10 * 2 ^ 64 + 1 * 2 ^ 64
 
+abbrev pub decreases-with_part : goal.decreases-with_part
+decreases-with_part l = l.depth * 10 * 2 ^ 64 + 2 * 2 ^ 64
+
 abbrev pub decreases-turn : goal.decreases-turn
-decreases-turn l = l.depth * 10 * 2 ^ 64 + 2 * 2 ^ 64
+decreases-turn l = l.depth * 10 * 2 ^ 64 + 3 * 2 ^ 64
 
 abbrev pub decreases-parts : goal.decreases-parts
-decreases-parts l = l.depth * 10 * 2 ^ 64 + 3 * 2 ^ 64
+decreases-parts l = l.depth * 10 * 2 ^ 64 + 4 * 2 ^ 64
 
 abbrev pub decreases-compound : goal.decreases-compound
-decreases-compound l = l.depth * 10 * 2 ^ 64 + 4 * 2 ^ 64
+decreases-compound l = l.depth * 10 * 2 ^ 64 + 5 * 2 ^ 64
 
 abbrev pub decreases-beside : goal.decreases-beside
-decreases-beside l = l.depth * 10 * 2 ^ 64 + 5 * 2 ^ 64
+decreases-beside l = l.depth * 10 * 2 ^ 64 + 6 * 2 ^ 64
 
 abbrev pub decreases-relative_to : goal.decreases-relative_to
-decreases-relative_to l = l.depth * 10 * 2 ^ 64 + 5 * 2 ^ 64
+decreases-relative_to l = l.depth * 10 * 2 ^ 64 + 6 * 2 ^ 64
 
 abbrev pub decreases-complex : goal.decreases-complex
-decreases-complex l = l.depth * 10 * 2 ^ 64 + 6 * 2 ^ 64
+decreases-complex l = l.depth * 10 * 2 ^ 64 + 7 * 2 ^ 64
 
 abbrev pub decreases-relative : goal.decreases-relative
-decreases-relative l = l.depth * 10 * 2 ^ 64 + 6 * 2 ^ 64
+decreases-relative l = l.depth * 10 * 2 ^ 64 + 7 * 2 ^ 64
 
 abbrev pub decreases-item : goal.decreases-item
-decreases-item l = l.depth * 10 * 2 ^ 64 + 7 * 2 ^ 64
+decreases-item l = l.depth * 10 * 2 ^ 64 + 8 * 2 ^ 64
 
 abbrev pub decreases-items : goal.decreases-items
-decreases-items l = l.depth * 10 * 2 ^ 64 + 8 * 2 ^ 64
+decreases-items l = l.depth * 10 * 2 ^ 64 + 9 * 2 ^ 64
 
 abbrev pub invariant-parts-loop : goal.invariant-parts-loop
 invariant-parts-loop l = parts (list_at l.fn.depth) l.fn.in_has l.left (compound_tree l.fn.so_far) l.fn.tokens
