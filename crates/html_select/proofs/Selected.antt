@@ -1,13 +1,19 @@
 -- What selectors select is seen in their tree, so the rows are computed from the trees that their texts give.
-use Rattle.std.proofs.Common.{◌≡◌, ◌∙◌, ℕ, Bool, true, false, Result, Ok, Err, Option, Some, None, List, [], ◌∷◌, refl, ap, sym}
-use Rattle.std.specs.Prelude.{◌&&◌, ◌||◌, codes, filter, is_ok, map, not}
+use Rattle.std.proofs.Common.{◌≡◌, ◌∙◌, ℕ, Bool, true, false, cond, Result, Ok, Err, Option, Some, None, List, [], ◌∷◌, length, refl, ap, sym}
+use Rattle.std.proofs.Common.{inl, inr}
+use Rattle.std.specs.Prelude.{◌&&◌, ◌||◌, codes, filter, is_ok, map, nat_lt, not}
+use Rattle.std.proofs.lemmas.Bool.{cases_Bool, ltb-false}
 use Rattle.std.specs.List.{list_any}
 use Rattle.markup.specs.Forest.{Forest}
 use Rattle.html_nodes.specs.Below.{below}
 use Rattle.html_selector_matching.specs.Selects.{has, is_any, is_complex, is_nth_of, is_plain, left_of, passes, right_of, scope_of}
 use Rattle.html_selector_matching.specs.Simples.{is_nth, nodes_beside, place_of}
-use Rattle.html_selector_text.specs.Grammar.{parsed}
-use Rattle.html_selector_text.specs.Results.{Wrong}
+use Rattle.html_selector_text.specs.Characters.{preprocessed}
+use Rattle.html_selector_text.specs.Scanning.{tokens}
+use Rattle.html_selector_text.specs.Grammar.{selector_list, short, limited, placed_in, parsed}
+use Rattle.html_selector_text.specs.Results.{Wrong, ◌>>=◌}
+use Rattle.html_selector_text.specs.Written.{written}
+use Rattle.html_selector_text.proofs.ReadBack.Lexing.{short_text}
 use Rattle.html_selector_text.specs.Trees.{ListTree, NoSelectors, OrSelector, ComplexTree, AloneTree, BesideTree, RelativeTree}
 use Rattle.html_selector_text.specs.Trees.{ToTree, ThenTree, TestsTree, NoTests, IsTest, NotTest, HasTest, NthOfTest}
 use Rattle.html_selector_text.specs.Trees.{complex_tree, list_tree, relative_tree, tests_tree}
@@ -114,12 +120,39 @@ row text found h = record {
       (λ n. any-by s page (scope_of page 0) n) (below page 0) ∙ some-same (sym (ap selected_by e) ∙ h);
 }
 
+-- the same where the text that is written of the selectors is short, so that its tokens need not be counted
+abbrev pub short_selected : Result ListTree Wrong → Option (List ℕ)
+short_selected (Ok tree) = cond (nat_lt 8192 (length (written tree))) None (selected_by (Ok tree))
+short_selected (Err wrong) = None
+
+abbrev pub checked : List ℕ → Option (List ℕ)
+checked text = cond (nat_lt 8192 (length (preprocessed text))) None (short_selected (selector_list (tokens (preprocessed text))))
+
+none_some : {xs : List ℕ} → None ≡ Some xs → ⊥
+none_some h = cc
+
+short_is : (text : List ℕ) (r : Result ListTree Wrong) (found : List ℕ) → short_selected r ≡ Some found
+    → selected_by (placed_in text (r >>= short)) ≡ Some found
+short_is text (Ok tree) found h = elim (cases_Bool (nat_lt 8192 (length (written tree)))) [
+  | inl is ↦ absurd (none_some (rw is at h))
+  | inr is ↦ rw (short_text (written tree) (ltb-false 8192 (length (written tree)) is)) (rw is at h)
+]
+short_is text (Err wrong) found h = absurd (none_some h)
+
+checked_is : (text found : List ℕ) → checked text ≡ Some found → selected_by (parsed text) ≡ Some found
+unfolding parsed limited
+checked_is text found h = elim (cases_Bool (nat_lt 8192 (length (preprocessed text)))) [
+  | inl is ↦ absurd (none_some (rw is at h))
+  | inr is ↦ rw (short_text (preprocessed text) (ltb-false 8192 (length (preprocessed text)) is))
+      (short_is text (selector_list (tokens (preprocessed text))) found (rw is at h))
+]
+
 heads : {a b : Option (List ℕ)} {xs ys : List (Option (List ℕ))} → a ∷ xs ≡ b ∷ ys → a ≡ b
 heads h = cc
 
 tails : {a b : Option (List ℕ)} {xs ys : List (Option (List ℕ))} → a ∷ xs ≡ b ∷ ys → xs ≡ ys
 tails h = cc
 
-pub rows-by : (rows : List Row) → map (λ row. selected_by (parsed (codes row.0))) rows ≡ map (λ row. Some row.1) rows → AreSelected rows
+pub rows-by : (rows : List Row) → map (λ row. checked (codes row.0)) rows ≡ map (λ row. Some row.1) rows → AreSelected rows
 rows-by [] h = tt
-rows-by (one ∷ rows) h = (row (codes one.0) one.1 (heads h), rows-by rows (tails h))
+rows-by (one ∷ rows) h = (row (codes one.0) one.1 (checked_is (codes one.0) one.1 (heads h)), rows-by rows (tails h))

@@ -12,14 +12,14 @@ ghost use Rattle.html_selector_text.specs.Results.{Fails};
 pub mod rows;
 
 use html_forest::{Forest, NodeId};
-use html_selector_text::{SelectorError, parse};
+use html_selector_text::{Selector, SelectorError};
 use html_selectors::select_all;
 use std::alloc::Global;
 
 /// The elements below a node that a text of selectors selects (Selectors Level 4), in tree order, as `querySelectorAll` does. `:scope` is
 /// that node, or where it is no element the first element in it.
 ///
-/// A text that is used more than once is better parsed once ([`parse`]), and a page that is asked more than once has its
+/// A text that is used more than once is better parsed once ([`Selector::parse`]), and a page that is asked more than once has its
 /// [`Index`](html_selectors::Index).
 ///
 /// Errors: [`SelectorError::Syntax`] where the text is no selector, with the place; [`SelectorError::Memory`].
@@ -32,6 +32,6 @@ pub fn select(
     ensures ok { IfOk result (λ found. IsFound (chars text.now) forest.now top found.items) }
     ensures err { IfErr result (λ error. Fails error (parsed (chars text.now))) }
 {
-    let selectors = parse(alloc, text)?;
-    Ok(select_all(alloc, forest, top, &selectors)?)
+    let selector = Selector::parse(alloc, text)?;
+    Ok(select_all(alloc, forest, top, &selector)?)
 }
