@@ -2,7 +2,7 @@
 use html_forest::{Forest, NodeId};
 use html_nodes::attribute_of;
 use html_pages::document;
-use html_selector_text::parse;
+use html_selector_text::Selector;
 use html_selectors::{Index, select_all, select_first};
 use html_tokenizer::References;
 use selectors::Selectors;
@@ -153,14 +153,14 @@ fn first_wrong(alloc: Global, rows: &[(&str, &str)]) -> Option<usize> {
         return Some(0);
     };
     for (place, (text, wanted)) in rows.iter().enumerate() {
-        let Ok(selectors) = parse(alloc, text) else {
+        let Ok(selector) = Selector::parse(alloc, text) else {
             return Some(place);
         };
-        let Ok(found) = index.select_all(forest.document(), &selectors) else {
+        let Ok(found) = index.select_all(forest.document(), &selector) else {
             return Some(place);
         };
         if !have_ids(&forest, found.as_slice(), wanted)
-            || !agree(alloc, &index, &forest, &selectors, found.as_slice())
+            || !agree(alloc, &index, &forest, &selector, found.as_slice())
         {
             return Some(place);
         }

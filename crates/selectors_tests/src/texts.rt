@@ -1,6 +1,6 @@
 //! Which texts are selectors, and where the others are at fault.
 use html_forest::Forest;
-use html_selector_text::{parse, to_text};
+use html_selector_text::{Selector, parse, to_text};
 use html_selectors::select_all;
 use std::alloc::Global;
 use std::test::Fail;
@@ -104,7 +104,7 @@ const ROWS: [(&str, &str); 56] = [
 
 // Why a text is no selector, in words.
 fn fault_of(alloc: Global, text: &str) -> Result<String, Fail> {
-    match parse(alloc, text) {
+    match Selector::parse(alloc, text) {
         Ok(_) => Ok(String::new(alloc)),
         Err(error) => Ok(format!(in alloc; "{error}")?),
     }
@@ -124,8 +124,8 @@ fn texts_are_selectors_or_faulty(rt: HostRuntime) -> Result<(), Fail> {
 fn an_empty_document_has_no_elements(rt: HostRuntime) -> Result<(), Fail> {
     let alloc = rt.alloc();
     let forest = Forest::new(alloc)?;
-    let selectors = parse(alloc, "*")?;
-    let found = select_all(alloc, &forest, forest.document(), &selectors)?;
+    let selector = Selector::parse(alloc, "*")?;
+    let found = select_all(alloc, &forest, forest.document(), &selector)?;
     assert!(rt; found.is_empty());
     Ok(())
 }
@@ -147,7 +147,7 @@ fn repeated(
 }
 
 // Long texts: what is repeated how often between two texts, and the words of the error.
-const LONG: [(&str, &str, usize, &str, &str); 9] = [
+const LONG: [(&str, &str, usize, &str, &str); 11] = [
     ("", ".a", 4096, "", ""),
     (
         "",
@@ -157,10 +157,25 @@ const LONG: [(&str, &str, usize, &str, &str); 9] = [
         "at character 8192: there are more than 8,192 tokens",
     ),
     ("", "a ", 4095, "a", ""),
-    ("", "a,", 4095, "a", ""),
+    // The text that is written has a space behind each comma.
+    ("", "a,", 2730, "a", ""),
+    (
+        "",
+        "a,",
+        2731,
+        "a",
+        "at character 0: the selectors, written out, have more than 8,192 tokens",
+    ),
     (":has(", "a ", 4093, "a)", ""),
     ("", ":not(a)", 2047, "", ""),
-    (":not(", ":disabled", 1000, ")", ""),
+    (":not(", ":disabled", 40, ")", ""),
+    (
+        ":not(",
+        ":disabled",
+        1000,
+        ")",
+        "at character 0: the selectors, written out, have more than 8,192 tokens",
+    ),
     ("", ":is(", 32, "a", ""),
     (
         "",
@@ -182,10 +197,10 @@ fn long_texts_take_no_stack(rt: HostRuntime) -> Result<(), Fail> {
     Ok(())
 }
 
-// The text of the selectors that a text is.
+// The text that is displayed of the selectors that a text is.
 fn written(alloc: Global, text: &str) -> Result<String, Fail> {
-    let selectors = parse(alloc, text)?;
-    Ok(to_text(alloc, &selectors)?)
+    let selector = Selector::parse(alloc, text)?;
+    Ok(format!(in alloc; "{selector}")?)
 }
 
 // Texts, and the same as they are written.
@@ -238,14 +253,32 @@ fn selectors_are_written(rt: HostRuntime) -> Result<(), Fail> {
 }
 
 #[test]
-fn long_selectors_are_written(rt: HostRuntime) -> Result<(), Fail> {
+fn long_selectors_are_written_and_read_back(rt: HostRuntime) -> Result<(), Fail> {
     let alloc = rt.alloc();
     for (before, text, count, after, wanted) in LONG {
         if wanted.is_empty() {
             let whole = repeated(alloc, before, text, count, after)?;
             let once = written(alloc, whole.as_str())?;
             assert!(rt; !once.is_empty());
+            let twice = written(alloc, once.as_str())?;
+            assert!(rt; once == twice, "{before}{text}");
         }
     }
+    Ok(())
+}
+
+#[test]
+fn a_selector_has_a_text_and_a_tree(rt: HostRuntime) -> Result<(), Fail> {
+    let alloc = rt.alloc();
+    let selector = Selector::parse(alloc, "a>b")?;
+    assert!(rt; selector.as_str() == "a > b");
+    let padded = format!(in alloc; "{selector:>7}")?;
+    assert!(rt; padded.as_str() == "  a > b");
+    let text = to_text(alloc, &selector)?;
+    assert!(rt; text.as_str() == "a > b");
+    let text = to_text(alloc, &selector.into_selectors())?;
+    assert!(rt; text.as_str() == "a > b");
+    let text = to_text(alloc, &parse(alloc, "a>b")?)?;
+    assert!(rt; text.as_str() == "a > b");
     Ok(())
 }
