@@ -1,6 +1,6 @@
-//! The texts of the links of a page that lead elsewhere, by a selector.
+//! Elements by CSS selectors: a text of selectors that is asked once, and one that is parsed once and asked of many pages.
 
-use figpliers::{Forest, SelectorError, select, text_content};
+use figpliers::{Forest, ParseFault, Selector, SelectorError, select, select_first, text_content};
 use std::alloc::Global;
 
 /// The text of each link that leads to another host.
@@ -11,4 +11,16 @@ pub fn links_elsewhere(alloc: Global, forest: &Forest) -> Result<Vec<String>, Se
         texts.push(text_content(alloc, forest, id)?)?;
     }
     Ok(texts)
+}
+
+/// The text of the first element of a page that a selector selects, if it selects one.
+pub fn first_text(
+    alloc: Global,
+    forest: &Forest,
+    selector: &Selector,
+) -> Result<Option<String>, ParseFault> {
+    match select_first(alloc, forest, forest.document(), selector)? {
+        Some(id) => Ok(Some(text_content(alloc, forest, id)?)),
+        None => Ok(None),
+    }
 }

@@ -3,14 +3,14 @@ use examples::documents::normal;
 use examples::links::links;
 use examples::nodes::{count_children, title};
 use examples::outlines::outline;
-use examples::selecting::links_elsewhere;
+use examples::selectors::{first_text, links_elsewhere};
 use examples::tags::tags;
 use examples::templates::{Filling, Value, fill};
 use examples::texts::text;
 use examples::tokens::tokens;
 use examples::trees::tree;
 use figpliers::{
-    Forest, MemWriter, NodeId, QuirksMode, References, Report, Token, attribute_of,
+    Forest, MemWriter, NodeId, QuirksMode, References, Report, Selector, Token, attribute_of,
     first_unfaithful, is_html, nodes_below, standard, text_content,
 };
 use std::alloc::Global;
@@ -75,6 +75,17 @@ fn elements_are_selected(rt: HostRuntime) -> Result<(), Fail> {
         assert!(rt; text.as_str() == want);
     }
     assert!(rt; texts.len() == 2);
+    Ok(())
+}
+
+#[test]
+fn a_selector_is_asked_of_pages(rt: HostRuntime) -> Result<(), Fail> {
+    let alloc = rt.alloc();
+    let selector = Selector::parse(alloc, "h2, h1 > b")?;
+    let page = tree(alloc, table(alloc)?, page(alloc)?)?;
+    let empty = tree(alloc, table(alloc)?, String::new(alloc))?;
+    assert!(rt; first_text(alloc, &page, &selector)?.is_some_and(|text| text.as_str() == "and"));
+    assert!(rt; first_text(alloc, &empty, &selector)?.is_none());
     Ok(())
 }
 

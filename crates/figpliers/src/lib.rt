@@ -78,6 +78,7 @@ pub use html_parser::parse_document;
 pub use html_parser::parse_fragment;
 pub use html_parser::parse_fragment_for_element;
 pub use html_select::select;
+pub use html_selector_text::Selector;
 pub use html_selector_text::SelectorError;
 pub use html_selector_text::SyntaxFault;
 pub use html_selector_text::parse as parse_selectors;
