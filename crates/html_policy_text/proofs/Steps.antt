@@ -1,23 +1,22 @@
--- Lines, words and rules, one by one.
-use Rattle.std.proofs.Common.{◌≡◌, ◌∙◌, ℕ, ◌+◌, ◌<◌, Bool, true, false, List, [], ◌∷◌, ◌++◌, append_assoc, drop, get_or, length, map, take}
+-- Words and rules, one by one.
+use Rattle.std.proofs.Common.{◌≡◌, ◌∙◌, ℕ, ◌+◌, ◌<◌, Bool, true, false, List, [], ◌∷◌, ◌++◌, append_assoc, drop, get_or, length, map}
 use Rattle.std.proofs.Common.{Option, Result, Ok, Err, Some, None, ap, refl, subst, sym}
 use Rattle.std.specs.Prelude.{IsUtf8, OnOk, cond, nat_eq}
 use Rattle.std.specs.Char.{is_ascii_whitespace}
 use Rattle.std.specs.Str.{chars}
 use Rattle.std.proofs.Math.Utf8.{encode}
-use Rattle.std.proofs.lemmas.List.{at_drop_more, map-append, take_more}
+use Rattle.std.proofs.lemmas.List.{at_drop_more, map-append}
 use Rattle.std.proofs.lemmas.Str.{chars_past_char}
 use Rattle.html_clean.specs.Ready.{value_rule_parts}
-use Rattle.html_clean.specs.Values.{word_if, words_from, words_of}
+use Rattle.html_clean.specs.Values.{word_if, words_from}
 use Rattle.html_clean.specs.declared.policy.Allowed.{Allowed}
 use Rattle.html_clean.specs.declared.policy.Policy.{Policy}
 use Rattle.html_clean.specs.declared.policy.ValueRule.{ValueRule}
 use Rattle.markup.specs.declared.fault.ParseFault.{ParseFault}
-use Rattle.html_policy_text.specs.PolicyText.{AreLinesRefused, IsApplied, fault_at, or_memory, read_lines, then_lines, with_line}
+use Rattle.html_policy_text.specs.PolicyText.{IsApplied, or_memory}
 use Rattle.html_policy_text.specs.Rules.{Limit, Rules, after_mark, limit_of, limit_parts, rules_of}
 use Rattle.html_policy_text.specs.declared.rules.Problem.{Problem}
 use Rattle.html_policy_text.specs.declared.rules.RuleFault.{RuleFault}
-use Rattle.html_policy_text.specs.declared.rules.RuleFault.TheVariants.{Memory, Problem as OfProblem}
 
 -- WORDS
 
@@ -37,29 +36,6 @@ words-at made word cs n c b h e = at_drop_more (λ xs. made ++ words_from word x
 pub mark-some : (bs rest : List ℕ) (c : ℕ) → IsUtf8 bs → bs ≡ encode c ++ rest → nat_eq c 94 ≡ true
     → after_mark (chars bs) ≡ Some (chars rest)
 mark-some bs rest c u e same = ap after_mark (chars_past_char bs rest c u e) ∙ ap (λ b. cond b (Some (chars rest)) None) same
-
--- LISTS
-
--- one more of them
-pub taken-more : {A : Type 0} (front xs : List A) (n : ℕ) (d y : A) → n < length xs → y ≡ get_or xs n d
-    → (front ++ take n xs) ++ y ∷ [] ≡ front ++ take (n + 1) xs
-taken-more front xs n d y h e = append_assoc front (take n xs) (y ∷ [])
-    ∙ ap (λ l. front ++ l) (ap (λ y. take n xs ++ y ∷ []) e ∙ sym (take_more xs n d h))
-
--- LINES
-
--- a line that was taken
-pub line-taken : (number : ℕ) (rules next : Rules) (line : List ℕ) (lines : List (List ℕ))
-    → with_line rules (words_of (chars line)) ≡ Ok next → read_lines number rules (line ∷ lines) ≡ read_lines (number + 1) next lines
-line-taken number rules next line lines h = ap (λ r. then_lines number r (λ next. read_lines (number + 1) next lines)) h
-
--- a line that was refused
-pub line-refused : (number : ℕ) (rules : Rules) (line : List ℕ) (lines : List (List ℕ)) (fault : RuleFault)
-    → IsApplied {T = Unit {0}} (Err fault) rules (with_line rules (words_of (chars line)))
-    → AreLinesRefused (read_lines number rules (line ∷ lines)) (fault_at number fault)
-line-refused number rules line lines Memory h = tt
-line-refused number rules line lines (OfProblem problem) h =
-    ap (λ r. then_lines number r (λ next. read_lines (number + 1) next lines)) h
 
 -- LIMITS
 

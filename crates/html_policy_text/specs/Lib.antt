@@ -1,3 +1,6 @@
 pub mod Rules
 pub mod PolicyText
 pub mod Rows
+pub mod PolicyFile
+pub mod ReadyRules
+pub mod Written

@@ -1,7 +1,6 @@
 -- A policy as text, one rule a line.
 use Rattle.std.specs.Prelude.{◌≡◌, ℕ, ◌+◌, ◌==◌, Bool, cond, nat_eq, false, List, [], ◌∷◌, Result, Ok, Err}
 use Rattle.std.specs.List.{slice_split}
-use Rattle.std.specs.Str.{chars}
 use Rattle.html_clean.specs.Values.{words_of}
 use Rattle.html_policy_text.specs.Rules.{Rules, keyword_of, no_rules, with_rule}
 use Rattle.html_policy_text.specs.declared.reading.PolicyFault.{PolicyFault}
@@ -23,7 +22,7 @@ abbrev pub with_line : Rules → List (List ℕ) → Result Rules Problem
 with_line rules [] = Ok rules
 with_line rules (word ∷ words) = cond (is_comment word) (Ok rules) (with_rule (keyword_of word) rules words)
 
--- the lines of a text, as bytes
+-- the lines of a text
 abbrev pub lines_of : List ℕ → List (List ℕ)
 lines_of text = slice_split is_feed text
 
@@ -36,9 +35,9 @@ then_lines number (Err problem) next = Err (number, problem)
 abbrev pub read_lines : ℕ → Rules → List (List ℕ) → Result Rules (ℕ × Problem)
 read_lines number rules [] = Ok rules
 read_lines number rules (line ∷ lines) =
-    then_lines number (with_line rules (words_of (chars line))) (λ next. read_lines (number + 1) next lines)
+    then_lines number (with_line rules (words_of line)) (λ next. read_lines (number + 1) next lines)
 
--- what a text says: the rules, or the number of the first line that is refused, from 1 on, and why
+-- what the characters of a text say: the rules, or the number of the first line that is refused, from 1 on, and why
 abbrev pub policy_rules : List ℕ → Result Rules (ℕ × Problem)
 policy_rules text = read_lines 1 no_rules (lines_of text)
 

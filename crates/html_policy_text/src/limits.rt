@@ -26,7 +26,7 @@ fn target_of(word: &Text) -> Option<&str>
 }
 
 /// What follows "^" in front of a word.
-fn after_mark(word: &str) -> Option<&str>
+pub(crate) fn after_mark(word: &str) -> Option<&str>
     ensures some { IfSome result (λ rest. after_mark (chars word.now) ≡ Some (chars rest.now)) }
     ensures none { IfNone result (after_mark (chars word.now) ≡ None) }
 {
@@ -130,7 +130,7 @@ fn push_word(text: &mut Text, word: &Text) -> Result<(), ParseFault>
 }
 
 /// Words with a space between each two.
-fn joined(alloc: Global, words: &[Text]) -> Result<Text, ParseFault>
+pub(crate) fn joined(alloc: Global, words: &[Text]) -> Result<Text, ParseFault>
     ensures ok { IfOk result (λ text. text ≡ joined_after [] words.now) }
     ensures fault { IfErr result (λ fault. fault ≡ Memory) }
 {

@@ -47,7 +47,7 @@ fn nothing(alloc: Global) -> Policy
 
 /// The lines of a text.
 fn lines_of(alloc: Global, text: &str) -> Result<Vec<&str>, AllocError>
-    ensures { IfOk result (λ lines. map (λ line. line.now) lines.items ≡ lines_of text.now) }
+    ensures { IfOk result (λ lines. map (λ line. chars line.now) lines.items ≡ lines_of (chars text.now)) }
 {
     text.split('\n').collect(alloc)
 }
@@ -74,8 +74,8 @@ fn fault_at(line: usize, fault: RuleFault) -> PolicyFault
 
 /// Takes lines, the first of which is line 1.
 fn apply_lines(alloc: Global, policy: &mut Policy, lines: &[&str]) -> Result<(), PolicyFault>
-    ensures ok { OnOk result (read_lines 1 (rules_of policy.old) (map (λ line. line.now) lines.now) ≡ Ok (rules_of policy.new)) }
-    ensures err { IfErr result (AreLinesRefused (read_lines 1 (rules_of policy.old) (map (λ line. line.now) lines.now))) }
+    ensures ok { OnOk result (read_lines 1 (rules_of policy.old) (map (λ line. chars line.now) lines.now) ≡ Ok (rules_of policy.new)) }
+    ensures err { IfErr result (AreLinesRefused (read_lines 1 (rules_of policy.old) (map (λ line. chars line.now) lines.now))) }
 {
     for (i, line) in lines.iter().enumerate() {
         if let Err(fault) = apply_text(alloc, policy, line) {
@@ -91,8 +91,8 @@ fn apply_lines(alloc: Global, policy: &mut Policy, lines: &[&str]) -> Result<(),
 /// A line without words and one that begins with `#` say nothing. A text of no rule keeps nothing. Whether what is named can be kept at
 /// all is asked by [`Policy::checked`].
 pub fn read_policy(alloc: Global, text: &str) -> Result<Policy, PolicyFault>
-    ensures ok { IfOk result (λ policy. policy_rules text.now ≡ Ok (rules_of policy)) }
-    ensures err { IfErr result (AreLinesRefused (policy_rules text.now)) }
+    ensures ok { IfOk result (λ policy. policy_rules (chars text.now) ≡ Ok (rules_of policy)) }
+    ensures err { IfErr result (AreLinesRefused (policy_rules (chars text.now))) }
 {
     let mut policy = nothing(alloc);
     let Ok(lines) = lines_of(alloc, text) else {

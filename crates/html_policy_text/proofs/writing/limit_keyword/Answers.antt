@@ -1,0 +1,18 @@
+use Rattle.std.proofs.Common.{ap, sym}
+use Rattle.std.specs.Str.{chars}
+use Rattle.html_clean.specs.declared.policy.Allowed.{Allowed}
+use Rattle.html_policy_text.specs.Rules.{limit_of}
+use Rattle.html_policy_text.specs.Written.{limit_keyword}
+use Rattle.html_policy_text.proofs.writing.limit_keyword.Goals as goal
+
+pub returns-in-OneOf : goal.returns-in-OneOf
+unfolding chars
+returns-in-OneOf c = sym (ap (λ (a : Allowed). limit_keyword (limit_of a)) c.in-OneOf.is)
+
+pub returns-in-Words : goal.returns-in-Words
+unfolding chars
+returns-in-Words c = sym (ap (λ (a : Allowed). limit_keyword (limit_of a)) c.in-Words.is)
+
+pub returns-in-Number : goal.returns-in-Number
+unfolding chars
+returns-in-Number c = sym (ap (λ (a : Allowed). limit_keyword (limit_of a)) c.in-Number.is)
