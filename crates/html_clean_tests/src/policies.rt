@@ -4,7 +4,7 @@ use devices::{MemReader, MemWriter, VecWriter};
 use html_clean::{Allowed, Cleaned, Policy};
 use html_clean_document::{clean, clean_fragment, clean_fragment_in};
 use html_normal::{Exact, NormalFault, References};
-use html_policy_text::{PolicyFault, Problem, read_policy};
+use html_policy_text::{PolicyFault, Problem, Ready, WriteFault, read_policy, write_policy};
 use markup::{KnownNamespace, LocalName, Namespace, ParseFault, QualName, Text};
 use std::alloc::{AllocError, Global};
 use std::test::Fail;
@@ -267,6 +267,79 @@ fn a_policy_is_read_from_a_text(rt: HostRuntime) -> Result<(), Fail> {
     for (page, left) in &ARTICLES[..7] {
         assert!(rt; writes(alloc, &policy, page, left), "{}", page);
     }
+    Ok(())
+}
+
+/// The same, as it is written.
+const ARTICLES_WRITTEN: &str = "keep a href title
+keep bdo dir
+keep code class
+keep ol start
+keep li
+keep p
+beginning data-
+words code class note ^language-
+one-of * dir auto ltr rtl
+add a rel nofollow noopener
+relative
+";
+
+/// Whether a policy that a text says is written so.
+fn is_written(alloc: Global, text: &str, written: &str) -> bool {
+    let Ok(policy) = read_policy(alloc, text) else {
+        return false;
+    };
+    match write_policy(alloc, &policy) {
+        Ok(made) => made.as_str() == written,
+        Err(_) => false,
+    }
+}
+
+#[test]
+fn a_policy_is_written_and_read_again(rt: HostRuntime) -> Result<(), Fail> {
+    let alloc = rt.alloc();
+    assert!(rt; is_written(alloc, ARTICLES_TEXT, ARTICLES_WRITTEN));
+    assert!(rt; is_written(alloc, ARTICLES_WRITTEN, ARTICLES_WRITTEN));
+    assert!(rt; is_written(alloc, "", ""));
+    for name in ["text-alone", "text-and-links", "user-content"] {
+        let Some(ready) = Ready::named(name) else {
+            return Err(Fail::from("a ready policy has no name"));
+        };
+        let policy = ready.policy(alloc)?;
+        let Ok(text) = write_policy(alloc, &policy) else {
+            return Err(Fail::from("a ready policy is not written"));
+        };
+        assert!(rt; is_written(alloc, text.as_str(), text.as_str()));
+    }
+    Ok(())
+}
+
+/// Whether a policy can't be written as text.
+fn is_unwritable(alloc: Global, policy: &Policy) -> bool {
+    write_policy(alloc, policy).err() == Some(WriteFault::Unwritable)
+}
+
+#[test]
+fn a_policy_that_text_can_not_say(rt: HostRuntime) -> Result<(), Fail> {
+    let alloc = rt.alloc();
+    let mut spaced = Policy::text_alone(alloc)?;
+    spaced.keep(alloc, "a", &["b c"])?;
+    assert!(rt; is_unwritable(alloc, &spaced));
+    let mut empty = Policy::text_alone(alloc)?;
+    empty.keep_beginning(alloc, "")?;
+    assert!(rt; is_unwritable(alloc, &empty));
+    let mut starred = Policy::text_alone(alloc)?;
+    starred.limit(alloc, Some("*"), "a", Allowed::one_of(alloc, &["b"])?)?;
+    assert!(rt; is_unwritable(alloc, &starred));
+    let mut marked = Policy::text_alone(alloc)?;
+    marked.limit(alloc, None, "a", Allowed::words(alloc, &["^b"], &[])?)?;
+    assert!(rt; is_unwritable(alloc, &marked));
+    let mut numbered = Policy::text_alone(alloc)?;
+    numbered.limit(alloc, None, "a", Allowed::Number { least: 1, most: 2 })?;
+    assert!(rt; is_unwritable(alloc, &numbered));
+    let mut doubled = Policy::text_alone(alloc)?;
+    doubled.add(alloc, "a", "rel", "b  c")?;
+    assert!(rt; is_unwritable(alloc, &doubled));
     Ok(())
 }
 
