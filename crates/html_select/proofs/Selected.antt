@@ -1,6 +1,6 @@
 -- What selectors select is seen in their tree, so the rows are computed from the trees that their texts give.
-use Rattle.std.proofs.Common.{◌≡◌, ◌∙◌, ℕ, Bool, true, false, cond, Result, Ok, Err, Option, Some, None, List, [], ◌∷◌, length, refl, ap, sym}
-use Rattle.std.proofs.Common.{inl, inr}
+use Rattle.std.proofs.Common.{◌≡◌, ◌∙◌, ℕ, Bool, true, false, cond, Result, Ok, Err, Option, Some, None}
+use Rattle.std.proofs.Common.{List, [], ◌∷◌, length, refl, ap, sym, inl, inr}
 use Rattle.std.specs.Prelude.{◌&&◌, ◌||◌, codes, filter, is_ok, map, nat_lt, not}
 use Rattle.std.proofs.lemmas.Bool.{cases_Bool, ltb-false}
 use Rattle.std.specs.List.{list_any}

@@ -22,8 +22,8 @@ use std::ops::Deref;
 /// How many tokens a text may have, without the end.
 pub(crate) const LONGEST: usize = 8192;
 
-/// A list of selectors, parsed once and used many times: `&selector` serves where calls take `&Selectors`. It displays as its text, which is
-/// parsed as the same selectors.
+/// A list of selectors, parsed once and used many times: `&selector` serves where calls take `&Selectors`. It displays as its text, which
+/// is parsed as the same selectors.
 ///
 /// The text is as the CSSOM serializes selectors. What is parsed as the same is written the same: `:where()` as `:is()`, `:nth-child(1)` as
 /// `:first-child`, `*|a` as `a`, and `:enabled` and its kin as the selectors that they stand for.

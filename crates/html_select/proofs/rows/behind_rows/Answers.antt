@@ -20,7 +20,8 @@ use Rattle.html_select.proofs.Selected.{rows-by}
 use Rattle.html_select.proofs.rows.behind_rows.Goals as goal
 
 pub returns : goal.returns
-unfolding encode chars name_of prefix_of known_namespace below_within line_within is_nth_of is_nth preprocessed place_of at_escape at_name at_number
+unfolding encode chars name_of prefix_of known_namespace below_within line_within is_nth_of is_nth preprocessed place_of
+    at_escape at_name at_number
     hex escaped name string number numeric past_bad_url url ident_like token tokens places b_behind_sign b_behind_n suffix_of
     nth_behind nth_of_ident nth prefix type_selector operator_of compared attribute class_named nth_class function_named pseudo
     attribute_part next_part meaning_text meaning_tokens combinator_of past_combinator meant turn compound complex relative item
