@@ -1,12 +1,12 @@
-//! The program `html_clean`: reads HTML from standard input or from files, and writes what the ready policy keeps of it to standard output.
+//! The program `html_clean`: reads HTML from standard input or from files, and writes what a policy keeps of it to standard output.
 //!
 //! What it does is `html_clean_program`; here it gets its words, its files and its streams.
 #![tactic(auto)]
 
 use devices::{StdSource, StdTarget, Target};
 use gathered_writes::Gathered;
-use html_clean_program::{HostFiles, clean_pages, tell};
-use html_normal::{NormalFault, ProgramFault};
+use html_clean_program::{CleanFault, HostFiles, obey, tell};
+use html_normal::NormalFault;
 use std::env;
 use std::io::{self, ErrorKind};
 use std::process::ExitCode;
@@ -15,15 +15,15 @@ use std::process::ExitCode;
 const ROOM: usize = 32_768;
 
 /// Why the program's arguments could not be read: out of memory, or one of them is not UTF-8.
-fn words_fault(error: &io::Error) -> ProgramFault {
+fn words_fault(error: &io::Error) -> CleanFault {
     match error.kind() {
-        ErrorKind::OutOfMemory => ProgramFault::Normal(NormalFault::Memory),
-        _ => ProgramFault::Usage,
+        ErrorKind::OutOfMemory => CleanFault::Normal(NormalFault::Memory),
+        _ => CleanFault::Usage,
     }
 }
 
 /// The words after the program's name.
-fn words(rt: &HostRuntime) -> Result<Vec<String>, ProgramFault> {
+fn words(rt: &HostRuntime) -> Result<Vec<String>, CleanFault> {
     let arguments = match env::args(rt) {
         Ok(arguments) => arguments,
         Err(error) => return Err(words_fault(&error)),
@@ -31,20 +31,20 @@ fn words(rt: &HostRuntime) -> Result<Vec<String>, ProgramFault> {
     let mut words = Vec::new(rt.alloc());
     for word in arguments.skip(1) {
         let Ok(()) = words.push(word) else {
-            return Err(ProgramFault::Normal(NormalFault::Memory));
+            return Err(CleanFault::Normal(NormalFault::Memory));
         };
     }
     Ok(words)
 }
 
-/// Cleans what is asked for, and hands on what is still held, also where it ends with a fault.
-fn run<Errors: Target>(rt: &HostRuntime, errors: &mut Errors) -> Result<(), ProgramFault> {
+/// Does what the arguments ask for, and hands on what is still held, also where it ends with a fault.
+fn run<Errors: Target>(rt: &HostRuntime, errors: &mut Errors) -> Result<(), CleanFault> {
     let words = words(rt)?;
     let Ok(mut output) = Gathered::new(rt.alloc(), StdTarget::new(rt.stdout()), ROOM) else {
-        return Err(ProgramFault::Normal(NormalFault::Memory));
+        return Err(CleanFault::Normal(NormalFault::Memory));
     };
     let mut input = StdSource::new(rt.stdin());
-    let outcome = clean_pages(
+    let outcome = obey(
         rt.alloc(),
         words.as_slice(),
         &HostFiles::new(rt),
@@ -56,7 +56,7 @@ fn run<Errors: Target>(rt: &HostRuntime, errors: &mut Errors) -> Result<(), Prog
     outcome?;
     match flushed {
         Ok(()) => Ok(()),
-        Err(_) => Err(ProgramFault::Normal(NormalFault::Write)),
+        Err(_) => Err(CleanFault::Normal(NormalFault::Write)),
     }
 }
 

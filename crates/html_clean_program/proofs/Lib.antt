@@ -1,4 +1,6 @@
 mod Pages
+mod Printed
 mod Putting
 mod Requests
 mod Rules
+mod TwoWords

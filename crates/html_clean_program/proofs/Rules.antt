@@ -3,7 +3,7 @@ use Rattle.std.proofs.Common.{◌≡◌, ◌∙◌, ℕ, ◌<◌, List, [], ◌�
 use Rattle.std.proofs.lemmas.Bool.{le-ltb, lt-ltb}
 use Rattle.std.specs.List.{after_first, before_first, position_or_len, slice_split}
 use Rattle.std.specs.Str.{chars}
-use Rattle.html_clean_program.specs.Words.{is_colon, is_comma, rule_of}
+use Rattle.html_clean_program.specs.Policies.{is_colon, is_comma, rule_of}
 
 names-of : (parts : List (Bor (List ℕ))) → map (λ name. chars name.now) parts ≡ map chars (map (λ name. name.now) parts)
 names-of [] = refl

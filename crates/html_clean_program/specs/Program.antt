@@ -8,11 +8,14 @@ use Rattle.html_tokens.specs.Table.{Row}
 use Rattle.html_normal.specs.declared.fault.NormalFault.{NormalFault}
 use Rattle.html_normal.specs.declared.fault.NormalFault.TheVariants.{Memory, Read}
 use Rattle.html_normal.specs.declared.program.ProgramFault.{ProgramFault}
-use Rattle.html_normal.specs.declared.program.ProgramFault.TheVariants.{Normal, Table, Usage}
+use Rattle.html_normal.specs.declared.program.ProgramFault.TheVariants as program
 use Rattle.html_normal_program.specs.Program.{Files, HasNoTable, IsTable}
 use Rattle.html_normal_program.specs.Streams.{IsMissing, IsOpened, IsPut}
 use Rattle.html_clean_program.specs.Lines.{counts_line}
-use Rattle.html_clean_program.specs.Words.{AsksForRefused, HasPolicy, Request, asked_by, no_request, refused}
+use Rattle.html_clean_program.specs.Policies.{HasRules, LacksPolicy, NamesNeverKept, refused}
+use Rattle.html_clean_program.specs.Words.{Request, asked_by, no_request}
+use Rattle.html_clean_program.specs.declared.fault.CleanFault.{CleanFault}
+use Rattle.html_clean_program.specs.declared.fault.CleanFault.TheVariants.{NeverKept, Normal, Policy as Unread, Table, Usage}
 
 -- what is written to standard output or to standard error, where that is stated
 abbrev pub Stream : Type 0
@@ -87,32 +90,49 @@ pub record Wanted (files : Files) (words : List (List ℕ)) (P : Request → Pol
   pub policy : Policy
   pub table : List Row
   pub asks : asked_by None no_request words ≡ Some request
-  pub has : HasPolicy policy request
+  pub has : HasRules files request.policy request.extras policy
   pub allowed : refused request.document policy ≡ None
   pub named : IsTable files request.table table
   pub holds : P request policy table
 
--- what the words ask for has no table
-pub record WantsTable (files : Files) (words : List (List ℕ)) (fault : ProgramFault) : Type 0 where
+-- why there is no table of references
+abbrev pub LacksTable : Files → List (List ℕ) → CleanFault → Type 0
+LacksTable files names Usage = ⊥
+LacksTable files names (NeverKept word) = ⊥
+LacksTable files names (Unread spelled why) = ⊥
+LacksTable files names (Table why) = HasNoTable files names (program.Table why)
+LacksTable files names (Normal why) = why ≡ Memory
+
+-- a fault of the table that is named, and else out of memory
+abbrev pub table_fault_of : ProgramFault → CleanFault
+table_fault_of program.Usage = Normal Memory
+table_fault_of (program.Table why) = Table why
+table_fault_of (program.Normal why) = Normal Memory
+
+-- what the words ask for lacks something
+pub record Lacks (words : List (List ℕ)) (P : Request → Type 0) : Type 0 where
   pub request : Request
   pub asks : asked_by None no_request words ≡ Some request
-  pub lacks : HasNoTable files request.table fault
+  pub holds : P request
 
 -- why no page is read
-abbrev pub IsRefused : Files → List (List ℕ) → ProgramFault → Type 0
-IsRefused files words Usage = (asked_by None no_request words ≡ None) ⊎ AsksForRefused words
-IsRefused files words (Table fault) = WantsTable files words (Table fault)
-IsRefused files words (Normal fault) = fault ≡ Memory
+abbrev pub IsRefused : Files → List (List ℕ) → CleanFault → Type 0
+IsRefused files words Usage = asked_by None no_request words ≡ None
+IsRefused files words (NeverKept word) =
+    Lacks words (λ request. NamesNeverKept files request.policy request.extras request.document word)
+IsRefused files words (Unread spelled why) = Lacks words (λ request. LacksPolicy files request.policy spelled why)
+IsRefused files words (Table why) = Lacks words (λ request. HasNoTable files request.table (program.Table why))
+IsRefused files words (Normal why) = why ≡ Memory
 
 -- a page was not read, not cleaned or not written
-abbrev pub IsStopped : Files → List (List ℕ) → (left left' old new errors errors' : Stream) → ProgramFault → Type 0
+abbrev pub IsStopped : Files → List (List ℕ) → (left left' old new errors errors' : Stream) → CleanFault → Type 0
 IsStopped files words left left' old new errors errors' (Normal fault) = Wanted files words (λ request policy table.
     ArePagesEnded files (IsPageOf request.document table) policy request.files left left' old new errors errors' fault)
 IsStopped files words left left' old new errors errors' fault = ⊥
 
 -- The outcome of the program, by the files and the words, the bytes of standard input that are left before and after it, and those
 -- written to standard output and to standard error before and after it.
-abbrev pub IsOutcome : Files → List (List ℕ) → (left left' old new errors errors' : Stream) → Result (Unit {0}) ProgramFault → Type 0
+abbrev pub IsOutcome : Files → List (List ℕ) → (left left' old new errors errors' : Stream) → Result (Unit {0}) CleanFault → Type 0
 IsOutcome files words left left' old new errors errors' (Ok done) = Wanted files words (λ request policy table.
     ArePagesDone files (IsPageOf request.document table) policy request.files left left' old new errors errors')
 IsOutcome files words left left' old new errors errors' (Err fault) =

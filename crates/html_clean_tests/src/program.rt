@@ -3,15 +3,25 @@
 ghost use Rattle.std.specs.Prelude.{None};
 
 use devices::{MemReader, MemWriter};
-use html_clean_program::{Opener, clean_pages, tell};
+use html_clean_program::{Opener, obey, tell};
 use std::alloc::{AllocError, Global};
 
-/// The files on the disk: two pages, and a table of references.
+/// The files on the disk: two pages, tables of references, and policies.
 const FILES: &[(&str, &[u8])] = &[
     ("a", b"<p onclick=x>one<script>two</script>"),
     ("b", b"<!--three--><form>four</form>"),
     ("t", b"eacute; E9\n"),
     ("none", b"eacute;\n"),
+    (
+        "policy",
+        b"# links and code\nkeep a href\nkeep code class\ndrop script\nscheme https\nwords code class ^language-\nadd a rel nofollow\n",
+    ),
+    ("empty", b""),
+    ("unknown", b"keep a\nkepp b\n"),
+    ("short", b"\nadd a\n"),
+    ("unsafe", b"keep script"),
+    ("page", b"keep body"),
+    ("bytes", b"keep a\nkeep \xFF"),
 ];
 
 /// A disk with these files.
@@ -60,7 +70,7 @@ type Seen = (&'static str, &'static str, u8);
 const NOTHING: &str = "unwrapped=0 dropped=0 attributes=0 comments=0\n";
 
 const USAGE: &str =
-    "fault: usage: html_clean [--document] [--element NAME[:ATTRIBUTE,..]] [--attribute NAME] [--beginning TEXT] [--add ELEMENT:NAME=VALUE] [--scheme NAME] [--table FILE] [FILE]..\n";
+    "fault: usage: html_clean [--policy FILE] [--document] [--element NAME[:ATTRIBUTE,..]] [--attribute NAME] [--beginning TEXT] [--add ELEMENT:NAME=VALUE] [--scheme NAME] [--table FILE] [FILE].. | --print-policy NAME\n";
 
 const ROWS: &[(Run, Seen)] = &[
     (
@@ -71,6 +81,17 @@ const ROWS: &[(Run, Seen)] = &[
         (
             "<p>one</p>",
             "unwrapped=0 dropped=1 attributes=1 comments=0\n",
+            0,
+        ),
+    ),
+    (
+        Run {
+            input: b"<p onclick=x>One <b>and</b> <a href=\"javascript:x\">two</a><script>alert(1)</script> &amp; <a href=three>three</a></p><!-- four -->",
+            ..PLAIN
+        },
+        (
+            "<p>One <b>and</b> <a>two</a> &amp; <a href=\"three\">three</a></p>",
+            "unwrapped=0 dropped=1 attributes=2 comments=1\n",
             0,
         ),
     ),
@@ -159,7 +180,166 @@ const ROWS: &[(Run, Seen)] = &[
     ),
 ];
 
+/// Runs with a policy of a file.
+const POLICIES: &[(Run, Seen)] = &[
+    (
+        Run {
+            words: &["--policy", "policy"],
+            input: b"<p><a href=https:b rel=me>c</a><a href=http:d>e</a><code class='f language-g'>h<script>i</script></code>",
+            ..PLAIN
+        },
+        (
+            "<a rel=\"nofollow\" href=\"https:b\">c</a><a rel=\"nofollow\">e</a><code class=\"language-g\">h</code>",
+            "unwrapped=1 dropped=1 attributes=2 comments=0\n",
+            0,
+        ),
+    ),
+    (
+        Run {
+            words: &["--policy", "empty"],
+            input: b"<p>a<script>b</script>",
+            ..PLAIN
+        },
+        ("ab", "unwrapped=2 dropped=0 attributes=0 comments=0\n", 0),
+    ),
+    (
+        Run {
+            words: &["--element", "b", "--policy", "empty", "--element", "i:id"],
+            input: b"<b>a</b><i id=c>d</i><u>e</u>",
+            ..PLAIN
+        },
+        (
+            "<b>a</b><i id=\"c\">d</i>e",
+            "unwrapped=1 dropped=0 attributes=0 comments=0\n",
+            0,
+        ),
+    ),
+    (
+        Run {
+            words: &[
+                "--policy",
+                "unknown",
+                "--policy",
+                "empty",
+                "--scheme",
+                "https",
+                "--add",
+                "p:lang=de",
+            ],
+            input: b"<p>a",
+            ..PLAIN
+        },
+        ("a", "unwrapped=1 dropped=0 attributes=0 comments=0\n", 0),
+    ),
+    (
+        Run {
+            words: &["--document", "--policy", "page"],
+            input: b"<body>a",
+            ..PLAIN
+        },
+        (
+            "<body>a</body>",
+            "unwrapped=2 dropped=0 attributes=0 comments=0\n",
+            0,
+        ),
+    ),
+];
+
+/// Runs that print a ready policy.
+const PRINTED: &[(Run, Seen)] = &[
+    (
+        Run {
+            words: &["--print-policy", "text-alone"],
+            input: b"not read",
+            ..PLAIN
+        },
+        (
+            "drop head iframe noembed noframes noscript script style template title\n",
+            "",
+            0,
+        ),
+    ),
+    (
+        Run {
+            words: &["--print-policy", "other"],
+            ..PLAIN
+        },
+        ("", USAGE, 2),
+    ),
+    (
+        Run {
+            words: &["--print-policy"],
+            ..PLAIN
+        },
+        ("", USAGE, 2),
+    ),
+    (
+        Run {
+            words: &["--print-policy", "text-alone", "a"],
+            ..PLAIN
+        },
+        ("", USAGE, 2),
+    ),
+    (
+        Run {
+            words: &["--print-policy", "user-content"],
+            output_fails: Some(1),
+            ..PLAIN
+        },
+        ("", "fault: write\n", 3),
+    ),
+];
+
 const FAULTS: &[(Run, Seen)] = &[
+    (
+        Run {
+            words: &["--policy"],
+            ..PLAIN
+        },
+        ("", USAGE, 2),
+    ),
+    (
+        Run {
+            words: &["--policy", "unknown", "a"],
+            ..PLAIN
+        },
+        ("", "unknown:2: no rule begins with this word\n", 2),
+    ),
+    (
+        Run {
+            words: &["--policy", "short", "a"],
+            ..PLAIN
+        },
+        ("", "short:2: the rule takes fewer words, or more\n", 2),
+    ),
+    (
+        Run {
+            words: &["--policy", "bytes", "a"],
+            ..PLAIN
+        },
+        ("", "bytes: not UTF-8 at byte 12\n", 2),
+    ),
+    (
+        Run {
+            words: &["--policy", "missing", "a"],
+            ..PLAIN
+        },
+        ("", "missing: cannot be read\n", 3),
+    ),
+    (
+        Run {
+            words: &["--policy", "unsafe", "a"],
+            ..PLAIN
+        },
+        ("", "fault: never kept: script\n", 2),
+    ),
+    (
+        Run {
+            words: &["--policy", "page", "a"],
+            ..PLAIN
+        },
+        ("", "fault: never kept: body\n", 2),
+    ),
     (
         Run {
             words: &["--unknown"],
@@ -179,28 +359,28 @@ const FAULTS: &[(Run, Seen)] = &[
             words: &["--element", "script"],
             ..PLAIN
         },
-        ("", USAGE, 2),
+        ("", "fault: never kept: script\n", 2),
     ),
     (
         Run {
             words: &["--add", "a:onclick=x"],
             ..PLAIN
         },
-        ("", USAGE, 2),
+        ("", "fault: never kept: onclick\n", 2),
     ),
     (
         Run {
             words: &["--add", "a"],
             ..PLAIN
         },
-        ("", USAGE, 2),
+        ("", "fault: never kept: \n", 2),
     ),
     (
         Run {
             words: &["--scheme", "javascript"],
             ..PLAIN
         },
-        ("", USAGE, 2),
+        ("", "fault: never kept: javascript\n", 2),
     ),
     (
         Run {
@@ -261,15 +441,19 @@ const FAULTS: &[(Run, Seen)] = &[
 ];
 
 /// Whether a run of the program is seen so.
-fn is_seen(alloc: Global, run: &Run, seen: &Seen) -> Result<bool, AllocError> {
+fn is_seen(alloc: Global, started: &Run, seen: &Seen) -> Result<bool, AllocError> {
     let mut words = Vec::new(alloc);
-    for &word in run.words {
+    for &word in started.words {
         words.push(String::from_str(alloc, word)?)?;
     }
-    let mut input = MemReader::new(Vec::from_slice(alloc, run.input)?, 3, run.input_fails);
-    let mut output = MemWriter::new(alloc, 400, 50, run.output_fails, false)?;
-    let mut errors = MemWriter::new(alloc, 400, 40, run.errors_fail, false)?;
-    let outcome = clean_pages(
+    let mut input = MemReader::new(
+        Vec::from_slice(alloc, started.input)?,
+        3,
+        started.input_fails,
+    );
+    let mut output = MemWriter::new(alloc, 400, 50, started.output_fails, false)?;
+    let mut errors = MemWriter::new(alloc, 400, 40, started.errors_fail, false)?;
+    let outcome = obey(
         alloc,
         words.as_slice(),
         &Disk { alloc },
@@ -287,9 +471,31 @@ fn is_seen(alloc: Global, run: &Run, seen: &Seen) -> Result<bool, AllocError> {
 
 #[test]
 fn pages_are_cleaned(rt: HostRuntime) {
-    for (run, seen) in ROWS {
+    for (started, seen) in ROWS {
         assert!(rt;
-            matches!(is_seen(rt.alloc(), run, seen), Ok(true)),
+            matches!(is_seen(rt.alloc(), started, seen), Ok(true)),
+            "{}",
+            seen.0
+        );
+    }
+}
+
+#[test]
+fn policies_are_read(rt: HostRuntime) {
+    for (started, seen) in POLICIES {
+        assert!(rt;
+            matches!(is_seen(rt.alloc(), started, seen), Ok(true)),
+            "{}",
+            seen.0
+        );
+    }
+}
+
+#[test]
+fn ready_policies_are_printed(rt: HostRuntime) {
+    for (started, seen) in PRINTED {
+        assert!(rt;
+            matches!(is_seen(rt.alloc(), started, seen), Ok(true)),
             "{}",
             seen.0
         );
@@ -298,9 +504,9 @@ fn pages_are_cleaned(rt: HostRuntime) {
 
 #[test]
 fn faults_of_the_program(rt: HostRuntime) {
-    for (run, seen) in FAULTS {
+    for (started, seen) in FAULTS {
         assert!(rt;
-            matches!(is_seen(rt.alloc(), run, seen), Ok(true)),
+            matches!(is_seen(rt.alloc(), started, seen), Ok(true)),
             "{}",
             seen.1
         );

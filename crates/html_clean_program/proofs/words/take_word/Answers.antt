@@ -1,13 +1,13 @@
 use Rattle.std.proofs.Common.{◌∙◌, ℕ, List, [], ◌∷◌, ◌++◌, Bor, ap, map, refl, sym, true}
 use Rattle.std.proofs.lemmas.List.{map-append}
-use Rattle.html_clean_program.proofs.Requests.{same-policy}
 use Rattle.html_clean_program.proofs.words.take_word.Goals as goal
 
 pub returns-then-eq-clause-ok : goal.returns-then-eq-clause-ok
 returns-then-eq-clause-ok c = λ request held. (
   record request { document = true },
   record {
-    policy = same-policy c.args.asked.now.policy request true request.files held.policy;
+    policy = held.policy;
+    extras = held.extras;
     document = refl;
     table = held.table;
     files = held.files;
@@ -20,7 +20,8 @@ returns-in-Ok-clause-ok c = λ request held.
     let now : Bor (List ℕ) → List ℕ = λ name. name.now in (
       record request { files = request.files ++ c.args.word.now ∷ [] },
       record {
-        policy = same-policy c.args.asked.now.policy request request.document (request.files ++ c.args.word.now ∷ []) held.policy;
+        policy = held.policy;
+        extras = held.extras;
         document = held.document;
         table = held.table;
         files = ap (map now) c.in-Ok.ensures.items ∙ map-append now c.args.asked.now.files.items (c.args.word ∷ [])

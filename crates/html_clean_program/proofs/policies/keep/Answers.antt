@@ -4,7 +4,7 @@ use Rattle.std.proofs.lemmas.Iterator.Splits.{YieldsList-from_str_split}
 use Rattle.std.proofs.lemmas.Str.Pattern.{split_once_first}
 use Rattle.std.specs.Str.{chars}
 use Rattle.html_clean_program.proofs.Rules.{rule-split}
-use Rattle.html_clean_program.proofs.words.keep.Goals as goal
+use Rattle.html_clean_program.proofs.policies.keep.Goals as goal
 
 pub returns-clause-ok : goal.returns-clause-ok
 returns-clause-ok c =
