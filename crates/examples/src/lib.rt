@@ -7,7 +7,7 @@ pub mod documents;
 pub mod links;
 pub mod nodes;
 pub mod outlines;
-pub mod selectors;
+pub mod selecting;
 pub mod tags;
 pub mod templates;
 pub mod texts;

@@ -3,7 +3,7 @@ use examples::documents::normal;
 use examples::links::links;
 use examples::nodes::{count_children, title};
 use examples::outlines::outline;
-use examples::selectors::{first_text, links_elsewhere};
+use examples::selecting::{first_text, links_elsewhere};
 use examples::tags::tags;
 use examples::templates::{Filling, Value, fill};
 use examples::texts::text;
