@@ -1,4 +1,12 @@
 //! The input, taken piece by piece.
+//!
+//! Each turn of `run` takes the front of the input by one of these ways, the quickest that fits. Each leaves the tokenizer, its sink and
+//! the input as the characters would, taken one by one:
+//!
+//! - in data: `move_by_tag`, else `move_by_reference`, else `move_by_lines`, else one run or one character;
+//! - in a tag where an attribute may begin: `move_in_tag` at `>`, `move_by_attribute` at a space, else as elsewhere;
+//! - in an attribute's value: `move_in_value` at a reference, else `move_by_piece`;
+//! - elsewhere: `move_ahead`, else `move_by_piece`, else `move_by_run`, else `move_by_one`.
 ghost use Rattle.std.specs.Prelude.{◌≡◌, false};
 ghost use Rattle.html_tokenizer.specs.Calls.{IsReady, Moves, Runs, answered};
 ghost use Rattle.html_tokenizer.specs.Fronts.{IsInTag, ReadsAhead, ReadsTags};

@@ -1,5 +1,21 @@
 //! The tokenizer: a machine that takes text in any pieces (HTML Standard, section 13.2.5).
 //!
+//! Where what [`Tokenizer`] does is found:
+//!
+//! | To find | Read |
+//! |---|---|
+//! | what callers call: `new`, `feed`, `end` | `calls.rt`; what a tokenizer holds between two characters is in `tokenizer.rt` |
+//! | the loop over the input, and which way is taken next | `feed.rt` |
+//! | one character in any state, with its line and its own errors | `step.rt`, `consume.rt` |
+//! | text and raw text | `text_states.rt`, `raw_states.rt`, `script_states.rt`, `cdata_states.rt` |
+//! | tags and attributes | `open_states.rt`, `tag_states.rt`, `attribute_states.rt` |
+//! | comments and doctypes | `declaration_states.rt`, `comment_states.rt`, `doctype_states.rt`, `doctype_keyword_states.rt` |
+//! | character references | `reference_states.rt` |
+//! | the end of the input in each state | `end_states.rt`, `end_markup_states.rt` |
+//! | how tokens and errors are emitted | `emit.rt` |
+//! | several characters at once, as they would be taken one by one | `text_runs.rt`, `whole_tags.rt`, `front_*.rt` |
+//! | laws over the calls | `laws.rt` |
+//!
 //! Tests: `html_tokenizer_tests`.
 #![tactic(auto)]
 

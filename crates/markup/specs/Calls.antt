@@ -6,8 +6,10 @@ use Rattle.markup.specs.Trees as trees
 use Rattle.markup.specs.Trees.{Trees, Nothing}
 use Rattle.markup.specs.declared.attributes.Attribute.{Attribute}
 use Rattle.markup.specs.declared.names.QualName.{QualName}
+use Rattle.markup.specs.declared.fault.ParseFault.{ParseFault}
+use Rattle.markup.specs.declared.fault.ParseFault.TheVariants as parse_fault
 use Rattle.markup.specs.declared.serializer.SerializeFault.{SerializeFault}
-use Rattle.markup.specs.declared.serializer.SerializeFault.TheVariants.{Memory}
+use Rattle.markup.specs.declared.serializer.SerializeFault.TheVariants.{Memory, Failed}
 
 pub data Call : Type 0 where
   StartElem : QualName → List Attribute → Call
@@ -87,3 +89,8 @@ pub record Stops {S : Type 0} (step : Step S) (refuses : Refuses S) (old : S) (c
 abbrev pub Walks : {S R : Type 0} → Step S → Refuses S → S → List Call → Result R SerializeFault → S → Type 0
 Walks step refuses old calls (Ok _) new = run step old calls ≡ Ok new
 Walks step refuses old calls (Err fault) new = Stops step refuses old calls fault new
+
+-- as what a serializer passes on why reading a tree gave up
+abbrev pub serialize_fault_of : ParseFault → SerializeFault
+serialize_fault_of parse_fault.Memory = Memory
+serialize_fault_of _ = Failed

@@ -50,6 +50,21 @@ impl<T: Drop> From<AllocFailed<T>> for SerializeFault {
     }
 }
 
+impl From<ParseFault> for SerializeFault {
+    ghost use Rattle.std.specs.Prelude.{◌≡◌};
+    ghost use Rattle.markup.specs.Calls.{serialize_fault_of};
+
+    ghost from_gives = { λ fault passed_on. passed_on ≡ serialize_fault_of fault };
+
+    /// For a tree whose reading may give up as parsing does: a fault other than `Memory` is passed on as `Failed`.
+    fn from(error: ParseFault) -> SerializeFault {
+        match error {
+            ParseFault::Memory => SerializeFault::Memory,
+            _ => SerializeFault::Failed,
+        }
+    }
+}
+
 /// What of a node is written.
 #[derive(Debug, Drop, PartialEq, Eq)]
 pub enum TraversalScope {
