@@ -1,5 +1,19 @@
 //! The stack of open elements and the list of active formatting elements (HTML Standard, sections 13.2.4.2 and 13.2.4.3).
 //!
+//! Where what [`Stack`] does is found:
+//!
+//! | To find | Read |
+//! |---|---|
+//! | elements in scope, the current node, elements that are popped | `stack.rt`, `walks.rt` |
+//! | elements that end tags close, implied end tags | `closing.rt` |
+//! | elements, text and comments that are inserted, and where | `inserting.rt`, `inserting/` |
+//! | the list of active formatting elements: listed, opened again, removed | `formatting/opening.rt`, `listing.rt`, `removal.rt` |
+//! | the adoption agency | `formatting/agency.rt`, and a turn of it in `turns.rt`, `adopting.rt`, `copies.rt`, `placing.rt` |
+//! | foreign content | `dispatching.rt`, `foreign.rt`, `foreign_end.rt` |
+//! | "reset the insertion mode appropriately" | `resetting.rt` |
+//! | what keeps questions about many open elements quick | `depths.rt`, `tops.rt`, `signs.rt`, `wanted.rt` |
+//! | what stack and list are made of | `entries.rt` |
+//!
 //! Tests: `html_stack_tests`.
 #![tactic(auto)]
 

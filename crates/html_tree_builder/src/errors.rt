@@ -47,11 +47,12 @@ fn name_of(mode: InsertionMode) -> &'static str {
     }
 }
 
-/// Writes the same, with the tag's name and the mode.
+/// Writes the same, with the tag's name, and the mode or that the token came in foreign content.
 fn write_exactly(
     message: &mut String,
     told: &NamedToken<'_>,
     mode: InsertionMode,
+    is_foreign: bool,
 ) -> Result<(), ParseFault> {
     message.push_str(unexpected(told))?;
     let name = told.name.as_str();
@@ -59,22 +60,31 @@ fn write_exactly(
         message.push_str(" ")?;
         message.push_str(name)?;
     }
+    if is_foreign {
+        message.push_str(" in foreign content")?;
+        return Ok(());
+    }
     message.push_str(" in the mode \"")?;
     message.push_str(name_of(mode))?;
     message.push_str("\"")?;
     Ok(())
 }
 
-/// What the sink is told of a token that was not expected; if `exact`, with the tag's name and the mode, where there is memory for that.
+/// The parse error that is reported for a token that was not expected: in the mode "initial", that the doctype is missing (HTML Standard,
+/// section 13.2.6.4.1); if `exact`, with the tag's name and where it came, where there is memory for that.
 pub(crate) fn of_token(
     alloc: Global,
     told: &NamedToken<'_>,
     mode: InsertionMode,
+    is_foreign: bool,
     exact: bool,
 ) -> CowStr<'static> {
+    if let InsertionMode::Initial = mode {
+        return CowStr::Borrowed("missing doctype");
+    }
     if exact {
         let mut message = String::new(alloc);
-        if let Ok(()) = write_exactly(&mut message, told, mode) {
+        if let Ok(()) = write_exactly(&mut message, told, mode, is_foreign) {
             return CowStr::Owned(message);
         }
     }

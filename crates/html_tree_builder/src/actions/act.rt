@@ -18,13 +18,28 @@ use html_rules::TagSet;
 use markup::{ParseFault, QuirksMode, TreeSink};
 
 impl<Sink: TreeSink> Construction<Sink> {
+    /// Whether the adjusted current node is no element of HTML (HTML Standard, section 13.2.6).
+    fn is_in_foreign_content(&self) -> bool {
+        match self.adjusted_current_node() {
+            Some(element) => !element.name.is_html(),
+            None => false,
+        }
+    }
+
     /// The sink is told that a token was not expected.
     #[tactic(auto, unfolding(html_rules::specs::Stack::parse_error))]
     #[inline(never)]
     pub(crate) fn report_unexpected(&self, sink: &mut Sink, told: &NamedToken<'_>)
         ensures { Performs parse_error self.now self.now (Sink.forest sink.old) (Sink.forest sink.new) }
     {
-        let message = errors::of_token(self.alloc, told, self.mode, self.opts.exact_errors);
+        let is_foreign = self.is_in_foreign_content();
+        let message = errors::of_token(
+            self.alloc,
+            told,
+            self.mode,
+            is_foreign,
+            self.opts.exact_errors,
+        );
         sink.parse_error(message);
     }
 
