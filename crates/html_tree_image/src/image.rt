@@ -1,5 +1,6 @@
 //! The image of a forest.
 ghost use Rattle.std.specs.Prelude.{◌≡◌, ◌++◌, ◌^◌, ◌||◌, true, false, nat_le, IfErr, IfOk, OnOk, length};
+ghost use Rattle.markup.specs.TreeLaws.{with_errors};
 ghost use Rattle.markup.specs.declared.quirks.QuirksMode;
 ghost use Rattle.html_tree_image.specs.Image.{attributes_of, header, image_of, is_too_large, nodes_of, quirks_number, texts_of};
 ghost use Rattle.html_tree_image.specs.declared.image.ImageFault.TheVariants.{TooLarge};
@@ -44,9 +45,14 @@ fn number_of(quirks: QuirksMode) -> usize
 }
 
 // The header of an image with these parts.
-fn push_header(image: &mut Vec<u8>, forest: &Forest, parts: &Parts) -> Result<(), AllocError>
+fn push_header(
+    image: &mut Vec<u8>,
+    parts: &Parts,
+    quirks: QuirksMode,
+    errors: u64,
+) -> Result<(), AllocError>
     ensures { OnOk result (image.new.items ≡ image.old.items ++ header (length parts.now.nodes.items) (length parts.now.attributes.items)
-        (length parts.now.texts.items) forest.now.quirks forest.now.errors) }
+        (length parts.now.texts.items) quirks errors) }
 {
     image.extend_from_slice(b"FIGT")?;
     let numbers = [
@@ -54,10 +60,10 @@ fn push_header(image: &mut Vec<u8>, forest: &Forest, parts: &Parts) -> Result<()
         parts.nodes.len(),
         parts.attributes.len(),
         parts.texts.len(),
-        number_of(forest.quirks()),
+        number_of(quirks),
     ];
     push_words(image, &numbers)?;
-    image.extend_from_slice(&forest.error_count().to_le_bytes())?;
+    image.extend_from_slice(&errors.to_le_bytes())?;
     Ok(())
 }
 
@@ -71,13 +77,18 @@ fn is_too_large(parts: &Parts) -> bool
 }
 
 // The header and the parts, one after the other.
-fn joined(alloc: Global, forest: &Forest, parts: &Parts) -> Result<Vec<u8>, AllocError>
+fn joined(
+    alloc: Global,
+    parts: &Parts,
+    quirks: QuirksMode,
+    errors: u64,
+) -> Result<Vec<u8>, AllocError>
     ensures { IfOk result (λ image. image.items ≡ header (length parts.now.nodes.items) (length parts.now.attributes.items)
-        (length parts.now.texts.items) forest.now.quirks forest.now.errors
+        (length parts.now.texts.items) quirks errors
         ++ (parts.now.nodes.items ++ (parts.now.attributes.items ++ parts.now.texts.items))) }
 {
     let mut image = Vec::new(alloc);
-    push_header(&mut image, forest, parts)?;
+    push_header(&mut image, parts, quirks, errors)?;
     image.extend_from_slice(parts.nodes.as_slice())?;
     image.extend_from_slice(parts.attributes.as_slice())?;
     image.extend_from_slice(parts.texts.as_slice())?;
@@ -92,9 +103,22 @@ pub fn tree_image(alloc: Global, forest: &Forest) -> Result<Vec<u8>, ImageFault>
     ensures fits { IfOk result (λ _. is_too_large forest.now ≡ false) }
     ensures fault { IfErr result (λ fault. fault ≡ TooLarge → is_too_large forest.now ≡ true) }
 {
+    tree_image_with_errors(alloc, forest, forest.error_count())
+}
+
+/// The same with another number of parse errors in the header.
+pub fn tree_image_with_errors(
+    alloc: Global,
+    forest: &Forest,
+    errors: u64,
+) -> Result<Vec<u8>, ImageFault>
+    ensures image { IfOk result (λ image. image.items ≡ image_of (with_errors errors forest.now)) }
+    ensures fits { IfOk result (λ _. is_too_large forest.now ≡ false) }
+    ensures fault { IfErr result (λ fault. fault ≡ TooLarge → is_too_large forest.now ≡ true) }
+{
     let parts = parts_of(alloc, forest)?;
     if is_too_large(&parts) {
         return Err(ImageFault::TooLarge);
     }
-    Ok(joined(alloc, forest, &parts)?)
+    Ok(joined(alloc, &parts, forest.quirks(), errors)?)
 }

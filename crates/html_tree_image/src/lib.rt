@@ -8,5 +8,5 @@ mod image;
 mod nodes;
 mod words;
 
-pub use image::{ImageFault, tree_image};
+pub use image::{ImageFault, tree_image, tree_image_with_errors};
 pub use words::node_words;
