@@ -11,7 +11,7 @@ use Rattle.markup.specs.declared.namespaces.KnownNamespace.TheVariants.{Html}
 use Rattle.html_nodes.specs.Below.{below}
 use Rattle.html_nodes.specs.Looks.{attribute_of}
 use Rattle.html_extracts.specs.Links.{has_href, has_source, is_in_line}
-use Rattle.html_listings.specs.Srcset.{candidates}
+use Rattle.html_srcset.specs.Srcset.{candidates}
 use Rattle.html_listings.specs.declared.links.Link.{Link}
 use Rattle.html_listings.specs.declared.links.LinkKind.{LinkKind}
 use Rattle.html_listings.specs.declared.links.LinkKind.TheVariants.{Href, Src, Srcset, Action, Data, Poster}

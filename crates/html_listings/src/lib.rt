@@ -8,7 +8,6 @@ mod json;
 mod links;
 mod listing;
 mod selected;
-mod srcset;
 mod writing;
 
 pub use links::{Link, LinkKind, links_below};

@@ -6,10 +6,10 @@ ghost use Rattle.markup.specs.declared.fault.ParseFault.TheVariants.{Memory};
 ghost use Rattle.html_listings.specs.Links as spec;
 ghost use Rattle.html_listings.specs.Links.{in_one_line, kinds, leads, link, links_at, links_of, urls_in, word_of};
 
-use crate::srcset::candidates;
 use html_extracts::{has_href, has_source, without_breaks};
 use html_forest::{Forest, NodeId};
 use html_nodes::{attribute_of, element_name, nodes_below};
+use html_srcset::candidates;
 use markup::{KnownNamespace, ParseFault, Text};
 use std::alloc::Global;
 

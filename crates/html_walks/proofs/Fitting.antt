@@ -1,9 +1,9 @@
 -- A node has fewer nodes below it than its parent, and none has more than there are nodes.
 use Rattle.std.proofs.Common.{◌≡◌, ◌∙◌, ◌==◌, ◌<◌, ◌≤◌, ◌+◌, ℕ, zero, suc, Bool, true, false, cond, List, [], ◌∷◌, Option, Some, None}
-use Rattle.std.proofs.Common.{length, arith, refl, sym, eqb}
+use Rattle.std.proofs.Common.{length, arith, inl, inr, refl, sym, eqb}
 use Rattle.std.specs.Prelude.{◌||◌}
 use Rattle.std.specs.List.{AllByRecursion, IsDistinct, list_any}
-use Rattle.std.proofs.lemmas.Bool.{eqb-true, or_parts}
+use Rattle.std.proofs.lemmas.Bool.{eqb-true, false_from_ne_true, or_cases, or_parts}
 use Rattle.std.proofs.lemmas.Map.Steps.{length-le_from_distinct_below}
 use Rattle.markup.specs.Forest.{Forest, IsForest, children_of, is_among, node_count, parent_of}
 use Rattle.markup.specs.Forest as forest
@@ -41,6 +41,20 @@ distinct (n ∷ ns) d = (apart-all n ns (among-any n ns ∙ d.0), distinct ns d.
 pub fits : (f : Forest) → IsForest f → (n : ℕ) → length (below f n) ≤ node_count f
 fits f is n = length-le_from_distinct_below (below f n) (node_count f) (distinct (below f n) (below-distinct f is n))
     (λ m among. below-IsNode f is n m (among-below f is n m (sym (among-any m (below f n)) ∙ among)))
+
+-- nor has a node as many below it as there are
+pub fits-more : (f : Forest) → IsForest f → (n : ℕ) → n < node_count f → length (below f n) < node_count f
+unfolding IsDistinct
+fits-more f is n there =
+    let apart : list_any (eqb n) (below f n) ≡ false = false_from_ne_true (list_any (eqb n) (below f n)) (λ among.
+    below-other f is n n (among-below f is n n (sym (among-any n (below f n)) ∙ among)) refl) in
+    let all : length (n ∷ below f n) ≤ node_count f = length-le_from_distinct_below (n ∷ below f n) (node_count f)
+    (apart-all n (below f n) apart, distinct (below f n) (below-distinct f is n))
+    (λ m among. elim (or_cases (eqb m n) (list_any (eqb m) (below f n)) among) [
+      | inl same ↦ rw (eqb-true m n same) there
+      | inr later ↦ below-IsNode f is n m (among-below f is n m (sym (among-any m (below f n)) ∙ later))
+    ]) in
+    omega (arith, all)
 
 pub parent-more : (f : Forest) → IsForest f → (n p : ℕ) → parent_of f n ≡ Some p → length (below f n) < length (below f p)
 parent-more f is n p e =

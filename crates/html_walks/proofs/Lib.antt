@@ -1,3 +1,4 @@
 mod Fitting
 mod Stepping
 mod Entering
+mod Levels

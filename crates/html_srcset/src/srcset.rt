@@ -2,9 +2,9 @@
 ghost use Rattle.std.specs.Prelude.{◌≡◌, ◌∷◌, ◌++◌, ℕ, [], IfErr, IfOk, List, OnOk};
 ghost use Rattle.std.specs.Str.{chars};
 ghost use Rattle.markup.specs.declared.fault.ParseFault.TheVariants.{Memory};
-ghost use Rattle.html_listings.specs.Srcset as spec;
-ghost use Rattle.html_listings.specs.Srcset.{before, is_between, spot_behind, spot_of, urls_from, within};
-ghost use Rattle.html_listings.specs.declared.srcset.Place.TheVariants.{Before, Within};
+ghost use Rattle.html_srcset.specs.Srcset as spec;
+ghost use Rattle.html_srcset.specs.Srcset.{before, is_between, spot_behind, spot_of, urls_from, within};
+ghost use Rattle.html_srcset.specs.declared.srcset.Place.TheVariants.{Before, Within};
 
 use markup::{ParseFault, Text};
 use std::alloc::Global;
@@ -149,7 +149,7 @@ impl Reading {
 }
 
 /// The URLs of a `srcset`, in their order; what is said of them is passed over.
-pub(crate) fn candidates(alloc: Global, value: &str) -> Result<Vec<Text>, ParseFault>
+pub fn candidates(alloc: Global, value: &str) -> Result<Vec<Text>, ParseFault>
     ensures ok { IfOk result (λ found. found.items ≡ spec.candidates (chars value.now)) }
     ensures fault { IfErr result (λ fault. fault ≡ Memory) }
 {

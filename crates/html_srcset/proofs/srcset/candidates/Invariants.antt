@@ -1,6 +1,6 @@
 use Rattle.std.proofs.Common.{◌≡◌, ◌++◌, ℕ, List}
-use Rattle.html_listings.specs.Srcset.{candidates, spot_of, urls_from}
-use Rattle.html_listings.proofs.srcset.candidates.Given as goal
+use Rattle.html_srcset.specs.Srcset.{candidates, spot_of, urls_from}
+use Rattle.html_srcset.proofs.srcset.candidates.Given as goal
 
 -- the URLs so far, and those of whatever follows, are those of all
 abbrev pub invariant-loop-c : goal.invariant-loop-c

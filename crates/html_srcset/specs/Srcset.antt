@@ -1,8 +1,8 @@
 -- The URLs of a `srcset` (HTML Standard, section 4.8.4.2.1, "parse a srcset attribute").
 use Rattle.std.specs.Prelude.{ℕ, ◌==◌, ◌&&◌, ◌||◌, Bool, true, false, not, List, [], ◌∷◌, ◌++◌, if◌then◌else◌}
 use Rattle.std.specs.Char.{is_ascii_whitespace}
-use Rattle.html_listings.specs.declared.srcset.Place.{Place}
-use Rattle.html_listings.specs.declared.srcset.Place.TheVariants.{Before, Within, Behind}
+use Rattle.html_srcset.specs.declared.srcset.Place.{Place}
+use Rattle.html_srcset.specs.declared.srcset.Place.TheVariants.{Before, Within, Behind}
 
 -- where a character stands: before a URL; in one, behind these characters and then these commas, which are not part of it where it ends
 -- with them; or in its description, in parentheses or not

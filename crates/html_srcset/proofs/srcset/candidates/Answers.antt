@@ -3,8 +3,8 @@ use Rattle.std.specs.Str.{chars}
 use Rattle.std.proofs.lemmas.Iterator.{YieldsList-from_chars}
 use Rattle.std.proofs.lemmas.Iterator.Consumers.{YieldsList-end}
 use Rattle.std.proofs.lemmas.Result.{IfOk-weaker}
-use Rattle.html_listings.specs.Srcset.{before, candidates, urls_from}
-use Rattle.html_listings.proofs.srcset.candidates.Goals as goal
+use Rattle.html_srcset.specs.Srcset.{before, candidates, urls_from}
+use Rattle.html_srcset.proofs.srcset.candidates.Goals as goal
 
 pub loop-c-init : goal.loop-c-init
 unfolding candidates
