@@ -161,3 +161,11 @@ module _ {T : Type 0} (Is : List ℕ → T → Type 0) (table : List Row) (text 
       → settled encoding (named_in table text) ≡ other
   unfolding IsParsedPage
   changes other is = is
+
+-- a parsed page is one by any definition that each document meets which was made of the text
+pub parsed-as : {T : Type 0} (Is Is' : List ℕ → T → Type 0) (table : List Row) (text : List ℕ) (encoding : Encoding) (parsed : Parsed T)
+    → ((made : T) → Is text made → Is' text made) → IsParsedPage Is table text encoding parsed
+    → IsParsedPage Is' table text encoding parsed
+unfolding IsParsedPage
+parsed-as Is Is' table text encoding (Whole made) fits is = (fits made is.0, is.1)
+parsed-as Is Is' table text encoding (Other other) fits is = is

@@ -11,15 +11,9 @@ use crate::page::DecodedPage;
 use crate::parsing::{Parsed, parse};
 use html_encodings::{Decoded, Encoding, Sniffed};
 use html_encodings_multibyte::{decode, decode_page};
-use html_normal::{Exact, NormalFault, References};
-use html_pages::{NotedForest, noted_document};
+use html_normal::{NormalFault, References};
+use html_pages::{NotedForest, exact_for, noted_document};
 use std::alloc::Global;
-
-// Somebody looks at the errors.
-const ALL_ERRORS: Exact = Exact {
-    tokenizer: true,
-    tree_builder: true,
-};
 
 /// The document of a text that was decoded by an encoding; or the other encoding in which it is to be read.
 fn parse_noted(
@@ -35,7 +29,8 @@ fn parse_noted(
         return Err(NormalFault::Memory);
     };
     let forest = NotedForest::new(alloc)?;
-    parse(alloc, forest, ALL_ERRORS, table, text, encoding)
+    let exact = exact_for(text.as_str());
+    parse(alloc, forest, exact, table, text, encoding)
 }
 
 /// The document of a page whose encoding was found, which may give way to another.

@@ -1,2 +1,4 @@
 pub mod Parsed
 mod Again
+mod Leads
+pub mod Emitted

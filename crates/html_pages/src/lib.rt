@@ -3,10 +3,12 @@
 //! Tests: `pages_tests`.
 #![tactic(auto)]
 
+mod forbidden;
 mod noted;
 mod read_back;
 mod reading;
 
+pub use forbidden::exact_for;
 pub use html_normal::{Exact, NormalFault, References, read_document};
 pub use noted::{Noted, NotedForest};
 pub use read_back::is_read_back;

@@ -14,7 +14,8 @@ use std::borrow::CowStr;
 /// A parse error of a page (HTML Standard, section 13.2.2).
 #[derive(Debug, Drop)]
 pub struct Noted {
-    /// The line of the token with which it was told, counted from 1.
+    /// The line on which it was found, counted from 1: of a tag or a comment the one on which that ends, of a text the one on which that
+    /// begins. In a page with control characters or noncharacters each character of a text has its own.
     pub line: u64,
     /// The Standard's code of it where it has one, else words, which may change.
     pub message: CowStr<'static>,

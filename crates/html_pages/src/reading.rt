@@ -10,6 +10,7 @@ ghost use Rattle.html_rules.specs.State.{State};
 ghost use Rattle.html_tokenizer.specs.Calls.{IsReadyIf, refusal_of};
 ghost use Rattle.html_pages.specs.Pages.{IsFragment, IsPage, html_name};
 
+use crate::forbidden::exact_for;
 use crate::noted::NotedForest;
 use html_forest::Forest;
 use html_normal::{Exact, NormalFault, References, options};
@@ -21,12 +22,6 @@ use std::alloc::Global;
 const FEW_ERRORS: Exact = Exact {
     tokenizer: false,
     tree_builder: false,
-};
-
-// Somebody does.
-const ALL_ERRORS: Exact = Exact {
-    tokenizer: true,
-    tree_builder: true,
 };
 
 // What a parser that has begun makes of a whole text.
@@ -113,7 +108,8 @@ pub fn noted_document(
     ensures fault { IfErr result (λ fault. fault ≡ Memory) }
 {
     let forest = NotedForest::new(alloc)?;
-    let parser = parse_document(alloc, forest, options(ALL_ERRORS), references)?;
+    let exact = exact_for(page.as_str());
+    let parser = parse_document(alloc, forest, options(exact), references)?;
     let made = whole(parser, page)?;
     if !made.is_complete() {
         return Err(NormalFault::Memory);
