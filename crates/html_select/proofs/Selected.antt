@@ -120,30 +120,30 @@ row text found h = record {
       (λ n. any-by s page (scope_of page 0) n) (below page 0) ∙ some-same (sym (ap selected_by e) ∙ h);
 }
 
--- the same where the text that is written of the selectors is short, so that its tokens need not be counted
+-- the same where the text that is written of the selectors is short, so that its parts need not be counted
 abbrev pub short_selected : Result ListTree Wrong → Option (List ℕ)
-short_selected (Ok tree) = cond (nat_lt 8192 (length (written tree))) None (selected_by (Ok tree))
+short_selected (Ok tree) = cond (nat_lt 4095 (length (written tree))) None (selected_by (Ok tree))
 short_selected (Err wrong) = None
 
 abbrev pub checked : List ℕ → Option (List ℕ)
-checked text = cond (nat_lt 8192 (length (preprocessed text))) None (short_selected (selector_list (tokens (preprocessed text))))
+checked text = cond (nat_lt 4095 (length (preprocessed text))) None (short_selected (selector_list (tokens (preprocessed text))))
 
 none_some : {xs : List ℕ} → None ≡ Some xs → ⊥
 none_some h = cc
 
 short_is : (text : List ℕ) (r : Result ListTree Wrong) (found : List ℕ) → short_selected r ≡ Some found
     → selected_by (placed_in text (r >>= short)) ≡ Some found
-short_is text (Ok tree) found h = elim (cases_Bool (nat_lt 8192 (length (written tree)))) [
+short_is text (Ok tree) found h = elim (cases_Bool (nat_lt 4095 (length (written tree)))) [
   | inl is ↦ absurd (none_some (rw is at h))
-  | inr is ↦ rw (short_text (written tree) (ltb-false 8192 (length (written tree)) is)) (rw is at h)
+  | inr is ↦ rw (short_text (written tree) (ltb-false 4095 (length (written tree)) is)) (rw is at h)
 ]
 short_is text (Err wrong) found h = absurd (none_some h)
 
 checked_is : (text found : List ℕ) → checked text ≡ Some found → selected_by (parsed text) ≡ Some found
 unfolding parsed limited
-checked_is text found h = elim (cases_Bool (nat_lt 8192 (length (preprocessed text)))) [
+checked_is text found h = elim (cases_Bool (nat_lt 4095 (length (preprocessed text)))) [
   | inl is ↦ absurd (none_some (rw is at h))
-  | inr is ↦ rw (short_text (preprocessed text) (ltb-false 8192 (length (preprocessed text)) is))
+  | inr is ↦ rw (short_text (preprocessed text) (ltb-false 4095 (length (preprocessed text)) is))
       (short_is text (selector_list (tokens (preprocessed text))) found (rw is at h))
 ]
 

@@ -9,7 +9,11 @@ use Rattle.html_selector_text.specs.Trees.{ListTree}
 use Rattle.html_selector_text.specs.Written.{written}
 use Rattle.html_selector_text.proofs.ReadBack.Lexing.{short_text}
 
-pub row_by : (text : List ℕ) (list : ListTree) → nat_lt 8193 (length (tokens (preprocessed text))) ≡ false
-    → selector_list (tokens (preprocessed text)) ≡ Ok list → nat_lt 8192 (length (written list)) ≡ false → parsed text ≡ Ok list
+pub row_by : (text : List ℕ) (list : ListTree) → nat_lt 4095 (length (preprocessed text)) ≡ false
+    → selector_list (tokens (preprocessed text)) ≡ Ok list → nat_lt 4095 (length (written list)) ≡ false → parsed text ≡ Ok list
 unfolding parsed limited
-row_by text list few reads short = rw (few, reads, short_text (written list) (ltb-false 8192 (length (written list)) short)) refl
+row_by text list few reads short = rw (
+  short_text (preprocessed text) (ltb-false 4095 (length (preprocessed text)) few),
+  reads,
+  short_text (written list) (ltb-false 4095 (length (written list)) short),
+) refl

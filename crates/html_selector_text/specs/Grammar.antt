@@ -6,7 +6,7 @@ use Rattle.selectors.specs.declared.selector.Combinator.{Combinator}
 use Rattle.selectors.specs.declared.selector.Combinator.TheVariants.{Descendant, Child, NextSibling, SubsequentSibling}
 use Rattle.selectors.specs.declared.selector.Simple.{Simple}
 use Rattle.html_selector_text.specs.declared.fault.SyntaxFault.{SyntaxFault}
-use Rattle.html_selector_text.specs.declared.fault.SyntaxFault.TheVariants.{NoSelector, Unexpected, TooDeep, TooLong, WrittenTooLong}
+use Rattle.html_selector_text.specs.declared.fault.SyntaxFault.TheVariants.{NoSelector, Unexpected, TooDeep, TooManyParts, TooManyPartsWritten}
 use Rattle.html_selector_text.specs.declared.simples.ListKind.{ListKind}
 use Rattle.html_selector_text.specs.declared.simples.ListKind.TheVariants.{Plain, Forgiving, Relative}
 use Rattle.html_selector_text.specs.declared.simples.Meaning.{Meaning}
@@ -26,6 +26,7 @@ use Rattle.html_selector_text.specs.Simples.{type_selector, next_part}
 use Rattle.html_selector_text.specs.Trees.{ListTree, NoSelectors, OrSelector, ComplexTree, AloneTree, BesideTree}
 use Rattle.html_selector_text.specs.Trees.{RelativeTree, ToTree, TestsTree, NoTests, IsTest, NotTest, HasTest, NthOfTest, CompoundTree}
 use Rattle.html_selector_text.specs.Trees.{LeftTree, joined}
+use Rattle.html_selector_text.specs.Parts.{beyond_limit}
 use Rattle.html_selector_text.specs.Written.{written}
 
 -- COMBINATORS (section 15)
@@ -203,7 +204,7 @@ past_values opened (t ∷ ts) =
 -- no list forgives that there is too much of something
 abbrev pub is_final : SyntaxFault → Bool
 is_final TooDeep = true
-is_final TooLong = true
+is_final TooManyParts = true
 is_final _ = false
 
 -- a selector of a list, if one is kept, and what is left
@@ -260,13 +261,13 @@ unfoldable pub selector_list : List Token → Result ListTree Wrong
 selector_list tokens = list_at 33 false Plain tokens
     >>= λ list. cond (is_end list.1) (Ok list.0) (Err (wrong Unexpected list.1))
 
--- selectors whose text has at most 8,192 tokens, without the end; if it has more, no place in the text that was given is at fault
+-- selectors whose text has at most 4,096 parts; if it has more, no place in the text that was given is at fault
 abbrev pub short : ListTree → Result ListTree Wrong
-short list = cond (nat_lt 8193 (length (tokens (written list)))) (Err (record { fault = WrittenTooLong; at = 0 })) (Ok list)
+short list = cond (length (beyond_limit (tokens (written list))) == 0) (Ok list) (Err (record { fault = TooManyPartsWritten; at = 0 }))
 
 -- the same limit for the text that was given and for the text of its selectors
 unfoldable pub limited : List Token → Result ListTree Wrong
-limited tokens = cond (nat_lt 8193 (length tokens)) (Err (wrong TooLong (drop 8192 tokens))) (selector_list tokens >>= short)
+limited tokens = cond (length (beyond_limit tokens) == 0) (selector_list tokens >>= short) (Err (wrong TooManyParts (beyond_limit tokens)))
 
 -- places are told as characters of the text as it was given
 abbrev pub placed_in : {A : Type 0} → List ℕ → Result A Wrong → Result A Wrong

@@ -3,6 +3,7 @@ pub mod Scanning
 pub mod Results
 pub mod Reading
 pub mod Nth
+pub mod Parts
 pub mod Simples
 pub mod Meanings
 pub mod Trees

@@ -1,11 +1,12 @@
 -- Selectors whose text is read back as the same selectors.
-use Rattle.std.specs.Prelude.{◌≡◌, ◌≤◌, ◌⊎◌, ℕ, ◌-◌, Bool, true, false, List, [], ◌∷◌, length}
+use Rattle.std.specs.Prelude.{◌≡◌, ◌≤◌, ◌⊎◌, ℕ, ◌-◌, Bool, true, false, List, [], ◌∷◌}
 use Rattle.selectors.specs.declared.selector.AttributeTest.{AttributeTest}
 use Rattle.selectors.specs.declared.selector.CaseSensitivity.TheVariants.{AsHtml}
 use Rattle.selectors.specs.declared.selector.Nth.{Nth}
 use Rattle.selectors.specs.declared.selector.Simple.{Simple}
 use Rattle.selectors.specs.declared.selector.Simple.TheVariants.{«Type», Namespace, Id, Class, Attribute, Root}
 use Rattle.selectors.specs.declared.selector.Simple.TheVariants.{Scope, Empty, NthChild, NthOfType}
+use Rattle.html_selector_text.specs.Parts.{beyond_limit}
 use Rattle.html_selector_text.specs.Scanning.{tokens}
 use Rattle.html_selector_text.specs.Trees.{ListTree, NoSelectors, OrSelector, ComplexTree, AloneTree, BesideTree}
 use Rattle.html_selector_text.specs.Trees.{RelativeTree, ToTree, ThenTree, TestsTree, NoTests, IsTest, NotTest, HasTest, NthOfTest}
@@ -107,7 +108,7 @@ pub record IsParsed (list : ListTree) : Type 0 where
   pub some : is_none list ≡ false
   pub parts : IsList list 32 false
 
--- and their text has at most 8,192 tokens, without the end: as parsing gives selectors
+-- and their text has at most 4,096 parts: as parsing gives selectors
 pub record IsReadable (list : ListTree) : Type 0 where
   pub parsed : IsParsed list
-  pub short : length (tokens (written list)) ≤ 8193
+  pub short : beyond_limit (tokens (written list)) ≡ []

@@ -195,12 +195,6 @@ nth_sign_rows =
     ∷ (":nth-child(4N- 7)", child (places 1 4 false false))
     ∷ []
 
--- An+B from the end
-abbrev pub nth_of_rows : List Row
-nth_of_rows =
-    (":nth-last-of-type(n-2", compound (NthOfType (places 0 1 false true) ∷ []))
-    ∷ []
-
 -- An+B with selectors
 abbrev pub nth_selectors_rows : List Row
 nth_selectors_rows =

@@ -36,10 +36,10 @@ pub enum SyntaxFault {
     HasInHas,
     /// More than 32 parentheses stand in one another.
     TooDeep,
-    /// There are more than 8,192 tokens.
-    TooLong,
-    /// The selectors have a text of more than 8,192 tokens.
-    WrittenTooLong,
+    /// There are more than 4,096 parts: type selectors, `*`, ids, classes, attribute selectors and pseudo-classes.
+    TooManyParts,
+    /// The text that is displayed of the selectors has more than 4,096 parts.
+    TooManyPartsWritten,
 }
 
 /// Why no selector came of a text.
@@ -71,8 +71,9 @@ fn words(fault: SyntaxFault) -> &'static str {
         SyntaxFault::NoNth => "this is no An+B, as `2n+1`",
         SyntaxFault::HasInHas => "`:has()` stands in `:has()`",
         SyntaxFault::TooDeep => "more than 32 parentheses stand in one another",
-        SyntaxFault::TooLong => "there are more than 8,192 tokens",
-        SyntaxFault::WrittenTooLong => "the selectors, written out, have more than 8,192 tokens",
+        SyntaxFault::TooManyParts => "there are more than 4,096 parts",
+        SyntaxFault::TooManyPartsWritten =>
+            "the selectors, written out, have more than 4,096 parts",
     }
 }
 

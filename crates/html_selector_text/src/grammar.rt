@@ -123,7 +123,7 @@ fn is_final(fault: SyntaxFault) -> bool
 {
     match fault {
         SyntaxFault::TooDeep => true,
-        SyntaxFault::TooLong => true,
+        SyntaxFault::TooManyParts => true,
         _ => false,
     }
 }

@@ -10,6 +10,7 @@ pub mod laws;
 mod meanings;
 mod nth;
 mod parsing;
+mod parts;
 mod reading;
 pub mod rows;
 mod scanning;

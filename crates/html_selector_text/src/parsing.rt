@@ -9,9 +9,10 @@ ghost use Rattle.html_selector_text.specs.Trees.{list_tree};
 use crate::characters::{characters, place_of, preprocessed};
 use crate::fault::{SelectorError, SyntaxFault};
 use crate::grammar::list;
-use crate::reading::{is_end, past, wrong};
+use crate::parts::beyond_limit;
+use crate::reading::{is_end, wrong};
 use crate::scanning::tokens;
-use crate::selector::{LONGEST, Selector};
+use crate::selector::Selector;
 use crate::simples::ListKind;
 use crate::tokens::Token;
 use selectors::Selectors;
@@ -33,13 +34,14 @@ fn selector_list(alloc: Global, tokens: &[Token]) -> Result<Selectors, SelectorE
     }
 }
 
-// The same of not too many tokens.
+// The same of not too many parts.
 #[tactic(auto, unfolding(crate::specs::Grammar::limited))]
 fn limited(alloc: Global, tokens: &[Token]) -> Result<Selector, SelectorError>
     ensures { Gives (λ s. list_tree s.selectors) result (defined.limited tokens.now) }
 {
-    if tokens.len() > LONGEST + 1 {
-        return Err(wrong(SyntaxFault::TooLong, past(tokens, LONGEST)));
+    let beyond = beyond_limit(tokens);
+    if !beyond.is_empty() {
+        return Err(wrong(SyntaxFault::TooManyParts, beyond));
     }
     let selectors = selector_list(alloc, tokens)?;
     Selector::new(alloc, selectors)

@@ -1,6 +1,6 @@
 //! Worked rows: what the definitions give for each text is computed by the check.
 ghost use Rattle.html_selector_text.specs.Rows.{AreParsed, token_rows, simple_rows, complex_rows, class_rows, class_fault_rows};
-ghost use Rattle.html_selector_text.specs.Rows.{argument_rows, relative_rows, nth_rows, nth_sign_rows, nth_of_rows};
+ghost use Rattle.html_selector_text.specs.Rows.{argument_rows, relative_rows, nth_rows, nth_sign_rows};
 ghost use Rattle.html_selector_text.specs.Rows.{only_rows, nth_selectors_rows};
 ghost use Rattle.html_selector_text.specs.Rows.{AreWritten, nth_fault_rows, written_class_rows, written_nth_rows, written_rows};
 
@@ -52,11 +52,6 @@ pub fn nth_rows()
 /// An+B with signs, read as the rows say.
 pub fn nth_sign_rows()
     ensures { AreParsed nth_sign_rows }
-{}
-
-/// An+B from the end, read as the rows say.
-pub fn nth_of_rows()
-    ensures { AreParsed nth_of_rows }
 {}
 
 /// An+B with selectors, read as the rows say.

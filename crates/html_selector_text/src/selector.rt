@@ -1,9 +1,10 @@
 //! Selectors that are parsed once and used many times.
-ghost use Rattle.std.specs.Prelude.{◌≡◌, IfErr, IfOk, length, nat_lt};
+ghost use Rattle.std.specs.Prelude.{◌≡◌, ◌==◌, IfErr, IfOk, length, not};
 ghost use Rattle.std.specs.Str.{chars};
 ghost use Rattle.std.specs.String.{string_bytes};
 ghost use Rattle.markup.specs.declared.fault.ParseFault.TheVariants.{Memory};
 ghost use Rattle.html_selector_text.specs.Grammar.{short};
+ghost use Rattle.html_selector_text.specs.Parts as parts;
 ghost use Rattle.html_selector_text.specs.Results.{Gives};
 ghost use Rattle.html_selector_text.specs.Scanning as scanning;
 ghost use Rattle.html_selector_text.specs.Trees.{list_tree};
@@ -11,6 +12,7 @@ ghost use Rattle.html_selector_text.specs.Written.{written};
 
 use crate::characters::characters;
 use crate::fault::{SelectorError, SyntaxFault};
+use crate::parts::{MOST_PARTS, beyond_limit};
 use crate::scanning::tokens;
 use crate::writing::to_text;
 use markup::ParseFault;
@@ -18,9 +20,6 @@ use selectors::Selectors;
 use std::alloc::Global;
 use std::fmt;
 use std::ops::Deref;
-
-/// How many tokens a text may have, without the end.
-pub(crate) const LONGEST: usize = 8192;
 
 /// A list of selectors, parsed once and used many times: `&selector` serves where calls take `&Selectors`. It displays as its text, which
 /// is parsed as the same selectors.
@@ -34,18 +33,18 @@ pub struct Selector {
     ghost as_written: { chars (string_bytes text) ≡ written (list_tree selectors) },
 }
 
-// Whether a text has too many tokens. Each has a character at least, so few texts are looked at.
+// Whether a text has too many parts. Each has a character at least, so few texts are read.
 #[tactic(auto, using(crate::proofs::ReadBack::Lexing::short_text))]
 fn is_too_long(alloc: Global, text: &str) -> Result<bool, ParseFault>
-    ensures ok { IfOk result (λ long. long ≡ nat_lt 8193 (length (scanning.tokens (chars text.now)))) }
+    ensures ok { IfOk result (λ long. long ≡ not (length (parts.beyond_limit (scanning.tokens (chars text.now))) == 0)) }
     ensures fault { IfErr result (λ fault. fault ≡ Memory) }
 {
     let chars = characters(alloc, text)?;
-    if chars.len() <= LONGEST {
+    if chars.len() < MOST_PARTS {
         return Ok(false);
     }
     let tokens = tokens(alloc, chars.as_slice())?;
-    Ok(tokens.len() > LONGEST + 1)
+    Ok(!beyond_limit(tokens.as_slice()).is_empty())
 }
 
 impl Selector {
@@ -56,7 +55,7 @@ impl Selector {
         let text = to_text(alloc, &selectors)?;
         if is_too_long(alloc, text.as_str())? {
             return Err(SelectorError::Syntax {
-                fault: SyntaxFault::WrittenTooLong,
+                fault: SyntaxFault::TooManyPartsWritten,
                 at: 0,
             });
         }

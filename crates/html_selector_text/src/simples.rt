@@ -425,7 +425,8 @@ fn class_named<'a>(name: &Name, tokens: &'a [Token]) -> Result<(Part, &'a [Token
     }
 }
 
-fn is_of(tokens: &[Token]) -> bool
+/// Whether `of` is the first of these tokens, in any case.
+pub(crate) fn is_of(tokens: &[Token]) -> bool
     ensures { result ≡ defined.is_of (ident_of tokens.now) }
 {
     match ident(tokens) {
@@ -469,7 +470,8 @@ fn nth_class(
     nth_behind(of_type, nth, past_spaces(rest))
 }
 
-fn function_of(name: &Name) -> Option<FunctionName>
+/// The pseudo-class with arguments of that name.
+pub(crate) fn function_of(name: &Name) -> Option<FunctionName>
     ensures { result ≡ defined.function_of name.now }
 {
     if is_word(name, "is") || is_word(name, "where") {

@@ -147,34 +147,44 @@ fn repeated(
 }
 
 // Long texts: what is repeated how often between two texts, and the words of the error.
-const LONG: [(&str, &str, usize, &str, &str); 11] = [
+const LONG: [(&str, &str, usize, &str, &str); 15] = [
     ("", ".a", 4096, "", ""),
     (
         "",
         ".a",
         4096,
         " a",
-        "at character 8192: there are more than 8,192 tokens",
+        "at character 8193: there are more than 4,096 parts",
     ),
     ("", "a ", 4095, "a", ""),
-    // The text that is written has a space behind each comma.
-    ("", "a,", 2730, "a", ""),
+    ("", "a,", 4095, "a", ""),
+    ("", "[svg|b = 'c' i]/**/", 4096, "", ""),
     (
         "",
-        "a,",
-        2731,
-        "a",
-        "at character 0: the selectors, written out, have more than 8,192 tokens",
+        "[a]",
+        4097,
+        "",
+        "at character 12288: there are more than 4,096 parts",
     ),
-    (":has(", "a ", 4093, "a)", ""),
-    ("", ":not(a)", 2047, "", ""),
-    (":not(", ":disabled", 40, ")", ""),
+    ("", "svg|*:nth-child(even of *|a) > ", 1365, "a", ""),
+    (
+        "",
+        "svg|*:nth-child(even of *|a) > ",
+        1365,
+        "#a.a",
+        "at character 42318: there are more than 4,096 parts",
+    ),
+    (":has(", "a ", 4094, "a)", ""),
+    ("", ":not(a)", 2048, "", ""),
+    (":is(", "!, ", 10000, "a)", ""),
+    // Each is written as 32 parts.
+    (":not(", ":disabled", 127, ")", ""),
     (
         ":not(",
         ":disabled",
-        1000,
+        128,
         ")",
-        "at character 0: the selectors, written out, have more than 8,192 tokens",
+        "at character 0: the selectors, written out, have more than 4,096 parts",
     ),
     ("", ":is(", 32, "a", ""),
     (
@@ -204,7 +214,7 @@ fn written(alloc: Global, text: &str) -> Result<String, Fail> {
 }
 
 // Texts, and the same as they are written.
-const WRITTEN: [(&str, &str); 30] = [
+const WRITTEN: [(&str, &str); 31] = [
     ("p", "p"),
     ("*", "*"),
     ("*.a", ".a"),
@@ -227,6 +237,7 @@ const WRITTEN: [(&str, &str); 30] = [
     (":only-child", ":first-child:last-child"),
     (":nth-of-type(odd)", ":nth-of-type(2n+1)"),
     (":nth-child(-N+ 3)", ":nth-child(-n+3)"),
+    (":nth-last-of-type(n-2", ":nth-last-of-type(n)"),
     (
         ":nth-last-child(3n - 4 of a, b)",
         ":nth-last-child(3n+2 of a, b)",

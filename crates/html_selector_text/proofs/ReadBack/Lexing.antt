@@ -1,12 +1,15 @@
 -- The tokens of what is left of a text, one by one.
 use Rattle.std.proofs.Common.{◌≡◌, ◌∙◌, ℕ, zero, suc, ◌+◌, ◌-◌, ◌≤◌, false, ◌&&◌}
 use Rattle.std.proofs.Common.{List, [], ◌∷◌, ◌++◌, length, refl, sym, ap, arith, append_assoc, length-append, inl, inr}
-use Rattle.std.specs.Prelude.{◌==◌, nat_lt, slice_index}
-use Rattle.std.proofs.lemmas.Bool.{cases_Bool, le-ltb, ne_eqb}
+use Rattle.std.specs.Prelude.{◌==◌, slice_index}
+use Rattle.std.proofs.lemmas.Bool.{cases_Bool, ne_eqb}
 use Rattle.std.proofs.lemmas.List.{append-nil}
 use Rattle.html_selector_text.specs.declared.tokens.Token.{Token}
 use Rattle.html_selector_text.specs.declared.tokens.TokenKind.{TokenKind}
 use Rattle.html_selector_text.specs.declared.tokens.TokenKind.TheVariants.{End}
+use Rattle.html_selector_text.specs.declared.parts.Zone.{Zone}
+use Rattle.html_selector_text.specs.declared.parts.Zone.TheVariants.{Compounds}
+use Rattle.html_selector_text.specs.Parts.{zone_after, is_part, from_part, beyond_limit}
 use Rattle.html_selector_text.specs.Scanning.{Read, read, token, placed, one_token, token_steps, tokens}
 use Rattle.html_selector_text.proofs.ReadBack.Shorter.{token_takes, comment_left}
 
@@ -105,5 +108,16 @@ few_tokens chars = omega (
   steps_few (length chars) (length chars) chars,
 )
 
-pub short_text : (text : List ℕ) → length text ≤ 8192 → nat_lt 8193 (length (tokens text)) ≡ false
-short_text text short = le-ltb 8193 (length (tokens text)) (omega (arith, few_tokens text))
+-- a list of few tokens has few parts
+none_from : (n : ℕ) (zone : Zone) (ts : List Token) → length ts ≤ n → from_part n zone ts ≡ []
+none_from n zone [] few = refl
+none_from n zone (t ∷ ts) few = elim (cases_Bool (is_part zone t.kind ts)) [
+  | inl is ↦
+      let some : (n == 0) ≡ false = ne_eqb _ _ (omega arith) in
+      rw (is, some) (none_from (n - 1) (zone_after zone (t ∷ ts)) ts (omega arith))
+  | inr is ↦ rw is (none_from n (zone_after zone (t ∷ ts)) ts (omega arith))
+]
+
+pub short_text : (text : List ℕ) → length text ≤ 4095 → beyond_limit (tokens text) ≡ []
+unfolding beyond_limit
+short_text text short = none_from 4096 Compounds (tokens text) (omega (arith, few_tokens text))

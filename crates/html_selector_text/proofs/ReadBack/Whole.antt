@@ -1,7 +1,8 @@
 -- The text of selectors is read as these selectors.
-use Rattle.std.proofs.Common.{◌≡◌, ◌∙◌, ◌≤◌, ℕ, Bool, true, false, cond, Result, Ok, Err, List, [], ◌++◌, length, refl, ap, subst, inl, inr}
-use Rattle.std.specs.Prelude.{nat_lt}
-use Rattle.std.proofs.lemmas.Bool.{le-ltb, ltb-false, cases_Bool, false≢true}
+use Rattle.std.proofs.Common.{◌≡◌, ◌∙◌, ℕ, Bool, true, false, cond, Result, Ok, Err, List, [], ◌∷◌, ◌++◌}
+use Rattle.std.proofs.Common.{length, refl, sym, ap, arith, subst, inl, inr}
+use Rattle.std.specs.Prelude.{◌==◌}
+use Rattle.std.proofs.lemmas.Bool.{cases_Bool, false≢true, ne_eqb}
 use Rattle.std.proofs.lemmas.List.{append-nil}
 use Rattle.html_selector_text.specs.declared.simples.ListKind.TheVariants.{Plain}
 use Rattle.html_selector_text.specs.declared.tokens.Token.{Token}
@@ -9,6 +10,7 @@ use Rattle.html_selector_text.specs.Characters.{preprocessed}
 use Rattle.html_selector_text.specs.declared.fault.SyntaxFault.TheVariants.{Unexpected}
 use Rattle.html_selector_text.specs.Reading.{wrong, is_end, is_delim, past_spaces}
 use Rattle.html_selector_text.specs.Results.{Wrong}
+use Rattle.html_selector_text.specs.Parts.{beyond_limit}
 use Rattle.html_selector_text.specs.Scanning.{tokens}
 use Rattle.html_selector_text.specs.Grammar.{ListRead, list_at, selector_list, short, limited, placed_in, parsed}
 use Rattle.html_selector_text.specs.Trees.{ListTree}
@@ -37,14 +39,14 @@ listed list is =
     ap (λ (x : List Token). list_at 33 false Plain x) (all_tokens text)
     ∙ whole_list 32 false Plain false list total [] (tokens_of total text) reads refl (end_no_comma total) spaces
 
-short_is : (list : ListTree) → length (tokens (written list)) ≤ 8193 → short list ≡ Ok list
-short_is list is = rw (le-ltb 8193 (length (tokens (written list))) is) refl
+short_is : (list : ListTree) → beyond_limit (tokens (written list)) ≡ [] → short list ≡ Ok list
+short_is list is = rw is refl
 
 pub read_back : (list : ListTree) → IsReadable list → parsed (written list) ≡ Ok list
 unfolding parsed limited selector_list written
 read_back list is =
     let text : List ℕ = list_text false list in
-    rw (clean_same text (list_clean list false), le-ltb 8193 (length (tokens text)) is.short, listed list is, no_tokens (length text))
+    rw (clean_same text (list_clean list false), is.short, listed list is, no_tokens (length text))
     (ap (λ (x : Result ListTree Wrong). placed_in text x) (short_is list is.short))
 
 -- WHAT IS PARSED
@@ -68,21 +70,27 @@ list_good ts h =
     (first_good (list_at 33 false Plain ts) (list_sound 33 false Plain ts (λ is. absurd (false≢true is)) h))
     (λ list good. end_good (is_end list.1) list.0 (wrong Unexpected list.1) good)
 
+no_length : {A : Type 0} (xs : List A) → (length xs == 0) ≡ true → xs ≡ []
+no_length [] is = refl
+no_length (x ∷ xs) is =
+    let some : (length (x ∷ xs) == 0) ≡ false = ne_eqb _ _ (omega arith) in
+    absurd (false≢true (sym some ∙ is))
+
 -- and it is short enough
 abbrev IsShort : ListTree → Type 0
-IsShort list = IsGood list × (length (tokens (written list)) ≤ 8193)
+IsShort list = IsGood list × (beyond_limit (tokens (written list)) ≡ [])
 
 short_good : (list : ListTree) → IsGood list → Gives IsShort (short list)
-short_good list good = elim (cases_Bool (nat_lt 8193 (length (tokens (written list))))) [
-  | inl is ↦ rw is tt
-  | inr is ↦ rw is (good, ltb-false 8193 (length (tokens (written list))) is)
+short_good list good = elim (cases_Bool (length (beyond_limit (tokens (written list))) == 0)) [
+  | inl is ↦ rw is (good, no_length (beyond_limit (tokens (written list))) is)
+  | inr is ↦ rw is tt
 ]
 
 limited_good : (ts : List Token) → Sound ts → Gives IsShort (limited ts)
 unfolding limited
-limited_good ts h = elim (cases_Bool (nat_lt 8193 (length ts))) [
-  | inl is ↦ rw is tt
-  | inr is ↦ rw is (bind IsGood IsShort (selector_list ts) short (list_good ts h) short_good)
+limited_good ts h = elim (cases_Bool (length (beyond_limit ts) == 0)) [
+  | inl is ↦ rw is (bind IsGood IsShort (selector_list ts) short (list_good ts h) short_good)
+  | inr is ↦ rw is tt
 ]
 
 placed_good : (text : List ℕ) (r : Result ListTree Wrong) → Gives IsShort r → Gives IsShort (placed_in text r)

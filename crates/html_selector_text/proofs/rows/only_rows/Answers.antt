@@ -19,8 +19,8 @@ use Rattle.html_selector_text.proofs.rows.only_rows.Goals as goal
 abbrev tree : ListTree
 tree = rows.only (NthChild (rows.places 1 0 false false) ∷ NthChild (rows.places 1 0 false true) ∷ [])
 
-few : nat_lt 8193 (length (tokens (preprocessed (codes ":only-child")))) ≡ false
-unfolding preprocessed at_escape at_name at_number hex escaped name string number numeric past_bad_url url ident_like token tokens
+few : nat_lt 4095 (length (preprocessed (codes ":only-child"))) ≡ false
+unfolding preprocessed
 few = refl
 
 reads : selector_list (tokens (preprocessed (codes ":only-child"))) ≡ Ok tree
@@ -30,7 +30,7 @@ unfolding preprocessed place_of at_escape at_name at_number hex escaped name str
     past_combinator meant turn compound complex relative item list_at selector_list
 reads = refl
 
-short : nat_lt 8192 (length (written tree)) ≡ false
+short : nat_lt 4095 (length (written tree)) ≡ false
 unfolding identifier quoted decimal nth_text attribute_text written
 short = refl
 
