@@ -15,3 +15,4 @@ pub mod Noted
 pub mod PlainTexts
 pub mod ValueTexts
 pub mod UserContent
+pub mod Within

@@ -1,9 +1,12 @@
 -- Notes of a policy.
 use Rattle.std.proofs.Common.{◌≡◌, ◌∙◌, ℕ, zero, suc, Bool, true, false, List, [], ◌∷◌, ◌++◌, Option, None, replicate, take, refl, ap, subst, sym}
 use Rattle.std.specs.Prelude.{cond, slice_index_or, slice_set}
-use Rattle.std.proofs.Common.{◌<◌, Some, length, inl, inr, get_or-set_same, get_or-set_other}
+use Rattle.std.proofs.Common.{◌<◌, Some, eqb-true, length, inl, inr, nat_eq, nat_lt, arith, get_or-set_same, get_or-set_other}
 use Rattle.std.proofs.lemmas.Bool.{cases_eq}
-use Rattle.html_clean.specs.Notes.{AreNotes, IsElementAt, IsElementNote, IsVerdictNote}
+use Rattle.std.proofs.lemmas.List.{get_or_default}
+use Rattle.markup.specs.KnownNames.{IsNameAt}
+use Rattle.markup.specs.declared.known_names.KnownName.{KnownName}
+use Rattle.html_clean.specs.Notes.{AreNotes, IsElementAt, IsElementNote, IsVerdictNote, IsVerdictOn}
 use Rattle.html_clean.specs.declared.notes.Judged.{Judged}
 use Rattle.html_clean.specs.declared.notes.NotedVerdict.{NotedVerdict}
 use Rattle.html_clean.specs.declared.policy.Policy.{Policy}
@@ -59,3 +62,22 @@ element-noted policy elements verdicts place judged are within is = record {
       ];
   each_verdict = are.each_verdict;
 }
+
+below : (i n : ℕ) → true ≡ nat_lt i n → i < n
+below i n h = grind arith
+
+-- a verdict that is noted for the places of two names
+pub noted-verdict : (policy policy' : Policy) (verdicts items : List (Option NotedVerdict)) (slot : ℕ) (found : Option NotedVerdict)
+    (noted : NotedVerdict) (element name : KnownName) → ((slot : ℕ) → IsVerdictNote policy (slice_index_or verdicts slot None))
+    → items ≡ verdicts → true ≡ nat_lt slot (length items) → found ≡ slice_index_or items slot found → found ≡ Some noted
+    → policy ≡ policy'
+    → nat_eq noted.element.place element.place ≡ true → nat_eq noted.name.place name.place ≡ true
+    → IsVerdictOn policy' element name noted.verdict
+noted-verdict policy policy' verdicts items slot found noted element name are same within at is same_policy one two =
+    let here : slice_index_or verdicts slot None ≡ Some noted =
+    ap (λ (list : List (Option NotedVerdict)). slice_index_or list slot None) (sym same)
+    ∙ (get_or_default items slot None found (below slot (length items) within) ∙ (sym at ∙ is)) in
+    let on : IsVerdictOn policy noted.element noted.name noted.verdict = subst (IsVerdictNote policy) here (are slot) in
+    subst (λ (p : Policy). IsVerdictOn p element name noted.verdict) same_policy
+    (λ e n is_e is_n plain. on e n (subst (λ (place : ℕ). IsNameAt place e) (sym (eqb-true _ _ one)) is_e)
+    (subst (λ (place : ℕ). IsNameAt place n.local) (sym (eqb-true _ _ two)) is_n) plain)

@@ -1,17 +1,17 @@
 -- Values, read from the left.
-use Rattle.std.proofs.Common.{◌≡◌, ◌∙◌, ℕ, zero, suc, ◌+◌, ◌<◌, arith, Bool, true, false, ◌&&◌, ◌||◌, List, [], ◌∷◌, ◌++◌, length, get_or, drop}
-use Rattle.std.proofs.Common.{ap, refl, sym}
-use Rattle.std.specs.Prelude.{IsUtf8, cond, nat_eq, not}
+use Rattle.std.proofs.Common.{◌≡◌, ◌∙◌, ℕ, zero, suc, ◌+◌, ◌<◌, arith, Bool, true, false, ◌&&◌, List, [], ◌∷◌, ◌++◌}
+use Rattle.std.proofs.Common.{append_assoc, drop, get_or, length, ap, refl, sym, None, Some}
+use Rattle.std.specs.Prelude.{IsUtf8, cond, nat_eq}
 use Rattle.std.specs.Char.{is_ascii_whitespace}
 use Rattle.std.specs.List.{filter, list_all}
 use Rattle.std.specs.Str.{chars}
 use Rattle.std.proofs.Math.Utf8.{encode}
 use Rattle.std.proofs.lemmas.List.{at_drop_more}
-use Rattle.std.proofs.lemmas.List.Elements.{filter-append}
 use Rattle.std.proofs.lemmas.Str.{chars_past_char}
 use Rattle.html_round_trip.specs.Slices.Forms.{is_no_text}
 use Rattle.html_clean.proofs.KeptTexts.{empty-is}
-use Rattle.html_clean.specs.Values.{begins_with, joined_after, with_word, word_if, words_from}
+use Rattle.html_clean.specs.Values.{after_sign, begins_with, joined_after, with_word, word_if, words_from}
+use Rattle.html_clean.proofs.Mapped.{dropped-more}
 
 -- BEGINNINGS
 
@@ -43,50 +43,39 @@ not-all p (x ∷ xs) (suc n) c h e = right (p x) (list_all p xs) (not-all p xs n
   right true b k = k
   right false b k = refl
 
+-- SIGNS
+
+-- what follows the sign in front of a text
+pub sign-some : (sign : ℕ) (bs rest : List ℕ) (c : ℕ) → IsUtf8 bs → bs ≡ encode c ++ rest → nat_eq c sign ≡ true
+    → after_sign sign (chars bs) ≡ Some (chars rest)
+sign-some sign bs rest c u e same = ap (after_sign sign) (chars_past_char bs rest c u e) ∙ ap (λ b. cond b (Some (chars rest)) None) same
+
 -- WORDS
 
-pub joined-append : (text : List ℕ) (xs ys : List (List ℕ)) → joined_after text (xs ++ ys) ≡ joined_after (joined_after text xs) ys
-joined-append text [] ys = refl
-joined-append text (x ∷ xs) ys = joined-append (with_word text x) xs ys
+turned : (made : List (List ℕ)) (word : List ℕ) (c : ℕ) (cs : List ℕ) (b : Bool) → is_ascii_whitespace c ≡ b
+    → made ++ words_from word (c ∷ cs) ≡ cond b ((made ++ word_if word) ++ words_from [] cs) (made ++ words_from (word ++ c ∷ []) cs)
+turned made word c cs true h = rw h (sym (append_assoc made (word_if word) (words_from [] cs)))
+turned made word c cs false h = rw h refl
 
-module _ (p : List ℕ → Bool) where
-  -- what is made of a text, where so much was made and a word has begun
-  abbrev pub made_of : List ℕ → List ℕ → List ℕ → List ℕ
-  made_of made word cs = joined_after made (filter p (words_from word cs))
+-- at the character that is n characters after the front
+pub words-at : (made : List (List ℕ)) (word cs : List ℕ) (n c : ℕ) (b : Bool) → (n < length cs) × (c ≡ get_or cs n c)
+    → is_ascii_whitespace c ≡ b → made ++ words_from word (drop n cs)
+    ≡ cond b ((made ++ word_if word) ++ words_from [] (drop (n + 1) cs)) (made ++ words_from (word ++ c ∷ []) (drop (n + 1) cs))
+words-at made word cs n c b h e = at_drop_more (λ xs. made ++ words_from word xs) cs n c h.0
+    ∙ (ap (λ x. made ++ words_from word (x ∷ drop (n + 1) cs)) (sym h.1) ∙ turned made word c (drop (n + 1) cs) b e)
 
-  turned : (made word : List ℕ) (c : ℕ) (cs : List ℕ) (b : Bool) → is_ascii_whitespace c ≡ b
-      → made_of made word (c ∷ cs)
-      ≡ cond b (made_of (joined_after made (filter p (word_if word))) [] cs) (made_of made (word ++ c ∷ []) cs)
-  turned made word c cs true h = rw h (ap (joined_after made) (filter-append p (word_if word) (words_from [] cs))
-      ∙ joined-append made (filter p (word_if word)) (filter p (words_from [] cs)))
-  turned made word c cs false h = rw h refl
+-- with a word more, where it is allowed
+allowed-by : (p : List ℕ → Bool) (made new x : List ℕ) (xs : List (List ℕ)) (b : Bool) → p x ≡ b → new ≡ cond b (with_word made x) made
+    → joined_after new (filter p xs) ≡ joined_after made (filter p (x ∷ xs))
+allowed-by p made new x xs true h e = rw h (ap (λ text. joined_after text (filter p xs)) e)
+allowed-by p made new x xs false h e = rw h (ap (λ text. joined_after text (filter p xs)) e)
 
-  -- the same at the character that is n characters after the front
-  pub made-at : (made word cs : List ℕ) (n c : ℕ) (b : Bool) → (n < length cs) × (c ≡ get_or cs n c) → is_ascii_whitespace c ≡ b
-      → made_of made word (drop n cs)
-      ≡ cond b (made_of (joined_after made (filter p (word_if word))) [] (drop (n + 1) cs)) (made_of made (word ++ c ∷ []) (drop (n + 1) cs))
-  made-at made word cs n c b h e = at_drop_more (made_of made word) cs n c h.0
-      ∙ (ap (λ x. made_of made word (x ∷ drop (n + 1) cs)) (sym h.1) ∙ turned made word c (drop (n + 1) cs) b e)
-
-  one-by : (made word : List ℕ) (b : Bool) → p word ≡ b → not (is_no_text word) ≡ true
-      → joined_after made (filter p (word_if word)) ≡ cond b (with_word made word) made
-  one-by made [] b h k = absurd cc
-  one-by made (c ∷ cs) true h k = rw h refl
-  one-by made (c ∷ cs) false h k = rw h refl
-
-  -- an empty word is left out, and one that is not allowed
-  pub none-joined : (made word : List ℕ) → (is_no_text word || not (p word)) ≡ true → made ≡ joined_after made (filter p (word_if word))
-  none-joined made [] h = refl
-  none-joined made (c ∷ cs) h = sym (one-by made (c ∷ cs) (p (c ∷ cs)) refl refl ∙ left (p (c ∷ cs)) h)
-    where
-      left : (b : Bool) → not b ≡ true → cond b (with_word made (c ∷ cs)) made ≡ made
-      left true k = absurd cc
-      left false k = refl
-
-  pub one-joined : (made word : List ℕ) → is_no_text word ≡ false → p word ≡ true
-      → with_word made word ≡ joined_after made (filter p (word_if word))
-  one-joined made [] h k = absurd cc
-  one-joined made (c ∷ cs) h k = sym (one-by made (c ∷ cs) true k refl)
+-- the same for the word that is n words after the front
+pub allowed-at : (p : List ℕ → Bool) (made new x : List ℕ) (xs : List (List ℕ)) (n : ℕ) → n < length xs → x ≡ get_or xs n x
+    → new ≡ cond (p x) (with_word made x) made
+    → joined_after new (filter p (drop (n + 1) xs)) ≡ joined_after made (filter p (drop n xs))
+allowed-at p made new x xs n h is e = allowed-by p made new x (drop (n + 1) xs) (p x) refl e
+    ∙ sym (dropped-more (λ list. joined_after made (filter p list)) xs n x h is)
 
 pub word-first : (made word : List ℕ) → is_no_text made ≡ true → made ++ word ≡ with_word made word
 word-first [] word h = refl

@@ -1,10 +1,15 @@
 -- Which word of a policy is never kept.
-use Rattle.std.specs.Prelude.{ℕ, cond, ◌&&◌, not, List, [], ◌∷◌, Option, Some, None}
+use Rattle.std.specs.Prelude.{ℕ, Bool, false, cond, ◌&&◌, ◌||◌, not, List, [], ◌∷◌, Option, Some, None, codes}
+use Rattle.std.specs.Str.{bytes_eq}
 use Rattle.html_clean.specs.Names.{is_fragment_name, is_safe_attribute, is_safe_beginning, is_safe_name, is_safe_scheme}
+use Rattle.html_clean.specs.Pictures.{is_picture}
 use Rattle.html_clean.specs.Policies.{has_url}
 use Rattle.html_clean.specs.declared.policy.Addition.{Addition}
+use Rattle.html_clean.specs.declared.policy.Allowed.{Allowed}
+use Rattle.html_clean.specs.declared.policy.Allowed.TheVariants.{OneOf, Words, Number, Schemes, Prefixed}
 use Rattle.html_clean.specs.declared.policy.Policy.{Policy}
 use Rattle.html_clean.specs.declared.policy.Rule.{Rule}
+use Rattle.html_clean.specs.declared.policy.ValueRule.{ValueRule}
 
 abbrev pub or_else : Option (List ℕ) → Option (List ℕ) → Option (List ℕ)
 or_else None later = later
@@ -22,13 +27,35 @@ abbrev pub unsafe_in_rules : List Rule → Option (List ℕ)
 unsafe_in_rules [] = None
 unsafe_in_rules (rule ∷ rules) = or_else (unsafe_attribute rule.attributes.items) (unsafe_in_rules rules)
 
-abbrev pub unsafe_scheme : List (List ℕ) → Option (List ℕ)
-unsafe_scheme [] = None
-unsafe_scheme (scheme ∷ schemes) = cond (is_safe_scheme scheme) (unsafe_scheme schemes) (Some scheme)
+-- whether a scheme may be listed: among those of pictures also `data`
+abbrev pub may_be_listed : Bool → List ℕ → Bool
+may_be_listed pictures scheme = is_safe_scheme scheme || (pictures && bytes_eq scheme (codes "data"))
+
+abbrev pub unsafe_scheme : Bool → List (List ℕ) → Option (List ℕ)
+unsafe_scheme pictures [] = None
+unsafe_scheme pictures (scheme ∷ schemes) = cond (may_be_listed pictures scheme) (unsafe_scheme pictures schemes) (Some scheme)
 
 abbrev pub unsafe_beginning : List (List ℕ) → Option (List ℕ)
 unsafe_beginning [] = None
 unsafe_beginning (text ∷ texts) = cond (is_safe_beginning text) (unsafe_beginning texts) (Some text)
+
+-- the same of the schemes that rules for values list, for pictures or for others
+abbrev pub unsafe_in_limit : Bool → Allowed → Option (List ℕ)
+unsafe_in_limit pictures (OneOf texts) = None
+unsafe_in_limit pictures (Words words beginnings) = None
+unsafe_in_limit pictures (Number least most) = None
+unsafe_in_limit pictures (Schemes schemes) = unsafe_scheme pictures schemes.items
+unsafe_in_limit pictures (Prefixed form prefix) = None
+
+-- whether a rule is for the URLs of pictures alone
+abbrev pub is_of_pictures : Option (List ℕ) → List ℕ → Bool
+is_of_pictures None attribute = false
+is_of_pictures (Some element) attribute = is_picture element attribute
+
+abbrev pub unsafe_in_limits : List ValueRule → Option (List ℕ)
+unsafe_in_limits [] = None
+unsafe_in_limits (rule ∷ rules) =
+    or_else (unsafe_in_limit (is_of_pictures rule.element rule.attribute) rule.allowed) (unsafe_in_limits rules)
 
 -- the first name of an attribute that is never added
 abbrev pub unsafe_addition : Policy → List Addition → Option (List ℕ)
@@ -37,12 +64,13 @@ unsafe_addition policy (addition ∷ rest) =
     cond (is_safe_attribute addition.name && not (has_url policy addition.name)) (unsafe_addition policy rest) (Some addition.name)
 
 -- the first word that is never kept: of elements, then of attributes of rules, of attributes of all, of beginnings of their names, of
--- attributes that are added, then of schemes
+-- attributes that are added, of schemes, then of those that rules for values list
 abbrev pub never_kept : Policy → Option (List ℕ)
 never_kept policy = or_else (unsafe_element policy.kept.items)
     (or_else (unsafe_in_rules policy.kept.items) (or_else (unsafe_attribute policy.everywhere.items)
     (or_else (unsafe_beginning policy.beginnings.items)
-    (or_else (unsafe_addition policy policy.added.items) (unsafe_scheme policy.schemes.items)))))
+    (or_else (unsafe_addition policy policy.added.items)
+    (or_else (unsafe_scheme false policy.schemes.items) (unsafe_in_limits policy.values.items))))))
 
 -- the first rule's element that is one of the page itself
 abbrev pub page_element : List Rule → Option (List ℕ)

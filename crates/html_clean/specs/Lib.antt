@@ -11,7 +11,10 @@ pub mod Counts
 pub mod Filter
 pub mod Laws
 pub mod Written
+pub mod Bounds
 pub mod Ready
 pub mod Checks
 pub mod Rows
 pub mod Values
+pub mod Limits
+pub mod Pictures

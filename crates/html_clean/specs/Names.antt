@@ -45,11 +45,11 @@ abbrev pub are_first : (ℕ → Bool) → (ℕ → Bool) → Option (ℕ × ℕ)
 are_first p q None = false
 are_first p q (Some two) = p two.0 && q two.1
 
--- attributes whose values are scripts, styles, documents or several URLs; `code`, from which browsers load what an `embed` shows; and
--- `xmlns`, which has a namespace of its own in SVG and MathML
+-- attributes whose values are scripts, styles, documents or lists of URLs other than `srcset`; `code`, from which browsers load what an
+-- `embed` shows; and `xmlns`, which has a namespace of its own in SVG and MathML
 abbrev pub unsafe_attributes : List (List ℕ)
 unsafe_attributes =
-    codes "archive" ∷ codes "attributionsrc" ∷ codes "code" ∷ codes "imagesrcset" ∷ codes "ping" ∷ codes "srcdoc" ∷ codes "srcset" ∷
+    codes "archive" ∷ codes "attributionsrc" ∷ codes "code" ∷ codes "imagesrcset" ∷ codes "ping" ∷ codes "srcdoc" ∷
     codes "style" ∷ codes "xmlns" ∷ []
 
 -- as attributes do that have a script for an event
@@ -91,12 +91,12 @@ page_names = codes "body" ∷ codes "head" ∷ codes "html" ∷ []
 abbrev pub is_fragment_name : List ℕ → Bool
 is_fragment_name name = not (is_among name page_names)
 
--- attributes of HTML whose values are URLs, on whatever element
+-- attributes of HTML whose values are URLs, on whatever element; that of `srcset` is a list of them
 abbrev pub url_attributes : List (List ℕ)
 url_attributes =
     codes "action" ∷ codes "background" ∷ codes "cite" ∷ codes "classid" ∷ codes "codebase" ∷ codes "data" ∷ codes "dynsrc" ∷
     codes "formaction" ∷ codes "href" ∷ codes "icon" ∷ codes "longdesc" ∷ codes "lowsrc" ∷ codes "manifest" ∷ codes "poster" ∷
-    codes "profile" ∷ codes "src" ∷ []
+    codes "profile" ∷ codes "src" ∷ codes "srcset" ∷ []
 
 unfoldable pub is_url_attribute : List ℕ → Bool
 is_url_attribute name = is_among name url_attributes

@@ -4,8 +4,7 @@ use Rattle.markup.specs.KnownNames.{IsNameAt}
 use Rattle.markup.specs.declared.known_names.KnownName.{KnownName}
 use Rattle.markup.specs.declared.names.QualName.{QualName}
 use Rattle.html_round_trip.specs.Slices.Forms.{is_no_text}
-use Rattle.html_clean.specs.Policies.{has_url, html_fate, is_kept_kind, is_named_for, is_safe_attribute_name}
-use Rattle.html_clean.specs.Urls.{url_kind}
+use Rattle.html_clean.specs.Policies.{are_kept_urls, has_url, html_fate, is_named_for, is_safe_attribute_name}
 use Rattle.html_clean.specs.Names.{is_void}
 use Rattle.html_clean.specs.declared.notes.Judged.{Judged}
 use Rattle.html_clean.specs.declared.notes.NotedVerdict.{NotedVerdict}
@@ -28,11 +27,11 @@ abbrev pub verdict : Policy → List ℕ → QualName → Verdict
 verdict policy element name =
     verdict_by (is_safe_attribute_name name && is_named_for policy element name.local) (has_url policy name.local)
 
--- whether an attribute on which there is this verdict is kept with this value
-abbrev pub is_kept_value : Policy → Verdict → List ℕ → Bool
-is_kept_value policy Refused value = false
-is_kept_value policy Kept value = true
-is_kept_value policy KeptByUrl value = is_kept_kind policy (url_kind value)
+-- whether an attribute of an element on which there is this verdict is kept with this value
+abbrev pub is_kept_value : Policy → Verdict → List ℕ → List ℕ → List ℕ → Bool
+is_kept_value policy Refused element name value = false
+is_kept_value policy Kept element name value = true
+is_kept_value policy KeptByUrl element name value = are_kept_urls policy element name value
 
 -- what is noted of the HTML element of a name is what the policy says
 pub record IsJudged (policy : Policy) (name : List ℕ) (judged : Judged) : Type 0 where

@@ -1,15 +1,17 @@
 -- What a policy keeps.
-use Rattle.std.specs.Prelude.{ℕ, Bool, true, false, cond, ◌&&◌, ◌||◌, not, nat_eq, List, [], ◌∷◌, ◌++◌, None, is_none}
-use Rattle.std.specs.List.{filter, list_any}
+use Rattle.std.specs.Prelude.{ℕ, Bool, true, false, cond, ◌&&◌, ◌||◌, not, nat_eq, List, [], ◌∷◌, ◌++◌, None, codes, is_none}
+use Rattle.std.specs.List.{filter, list_all, list_any}
 use Rattle.std.specs.Str.{bytes_eq}
 use Rattle.markup.specs.Attributes.{has_local_name}
 use Rattle.markup.specs.Trees.{is_among, is_html}
 use Rattle.markup.specs.declared.attributes.Attribute.{Attribute}
 use Rattle.markup.specs.declared.names.QualName.{QualName}
 use Rattle.html_round_trip.specs.Slices.Forms.{is_no_text}
+use Rattle.html_srcset.specs.Srcset.{candidates}
 use Rattle.html_clean.specs.Names.{is_safe_attribute, is_safe_name, is_url_attribute, unsafe_schemes}
+use Rattle.html_clean.specs.Pictures.{is_picture, is_picture_data}
 use Rattle.html_clean.specs.Urls.{url_kind}
-use Rattle.html_clean.specs.Values.{begins_with_one, meets_all, value_left}
+use Rattle.html_clean.specs.Values.{begins_with_one, limits_schemes, limits_schemes_of, meets_all, meets_scheme, value_left}
 use Rattle.html_clean.specs.declared.elements.Fate.{Fate}
 use Rattle.html_clean.specs.declared.elements.Fate.TheVariants.{Kept, Dropped, Unwrapped}
 use Rattle.html_clean.specs.declared.url.UrlKind.{UrlKind}
@@ -67,11 +69,36 @@ abbrev pub text_at : Bool → List ℕ → List ℕ
 text_at true text = without_marks (plain_text text)
 text_at false text = plain_text text
 
--- whether a URL of this kind is kept
-abbrev pub is_kept_kind : Policy → UrlKind → Bool
-is_kept_kind policy (HasScheme scheme) = is_among scheme policy.schemes.items && not (is_among scheme unsafe_schemes)
-is_kept_kind policy HasHost = policy.allows_hosts
-is_kept_kind policy IsRelative = policy.allows_relative
+-- whether the URL of an attribute of an element may have a scheme: rules that limit its schemes are in place of the policy's schemes
+abbrev pub is_allowed_scheme : Policy → List ℕ → List ℕ → List ℕ → Bool
+is_allowed_scheme policy element name scheme = cond (list_any (limits_schemes element name) policy.values.items)
+    (list_all (meets_scheme element name scheme) policy.values.items) (is_among scheme policy.schemes.items)
+
+-- whether a URL of this kind is kept in an attribute of an element
+abbrev pub is_kept_kind : Policy → List ℕ → List ℕ → UrlKind → Bool
+is_kept_kind policy element name (HasScheme scheme) =
+    is_allowed_scheme policy element name scheme && not (is_among scheme unsafe_schemes)
+is_kept_kind policy element name HasHost = policy.allows_hosts
+is_kept_kind policy element name IsRelative = policy.allows_relative
+
+-- whether the URL of an attribute may be the data of a picture: rules limit its schemes, and each lists `data`
+abbrev pub allows_pictures : Policy → List ℕ → List ℕ → Bool
+allows_pictures policy element name = is_picture element name
+    && (list_any (limits_schemes element name) policy.values.items
+    && list_all (meets_scheme element name (codes "data")) policy.values.items)
+
+-- whether a URL is kept in an attribute of an element: by what it begins with, or as the data of a picture
+abbrev pub is_kept_url : Policy → List ℕ → List ℕ → List ℕ → Bool
+is_kept_url policy element name url = is_kept_kind policy element name (url_kind url)
+    || (allows_pictures policy element name && is_picture_data url)
+
+-- the URLs of an attribute's value: the value itself, and of `srcset` those of its list (HTML Standard, section 4.8.4.2.1)
+abbrev pub urls_of : List ℕ → List ℕ → List (List ℕ)
+urls_of name value = cond (bytes_eq name (codes "srcset")) (candidates value) (value ∷ [])
+
+-- whether each URL of an attribute's value is kept
+abbrev pub are_kept_urls : Policy → List ℕ → List ℕ → List ℕ → Bool
+are_kept_urls policy element name value = list_all (is_kept_url policy element name) (urls_of name value)
 
 -- whether a rule gives an element an attribute of that name
 abbrev pub gives : List ℕ → List ℕ → Rule → Bool
@@ -92,13 +119,14 @@ is_safe_attribute_name name = is_safe_attribute name.local && (is_none name.pref
 
 -- whether the value of an attribute of that name is a URL
 abbrev pub has_url : Policy → List ℕ → Bool
-has_url policy name = is_url_attribute name || is_among name policy.urls.items
+has_url policy name = is_url_attribute name || (is_among name policy.urls.items || list_any (limits_schemes_of name) policy.values.items)
 
 -- whether an element may have an attribute
 abbrev pub is_kept_attribute : Policy → List ℕ → Attribute → Bool
 is_kept_attribute policy element a =
     is_safe_attribute_name a.name
-    && ((is_named_for policy element a.name.local && (not (has_url policy a.name.local) || is_kept_kind policy (url_kind a.value)))
+    && ((is_named_for policy element a.name.local
+    && (not (has_url policy a.name.local) || are_kept_urls policy element a.name.local a.value))
     && meets_all policy.values.items element a.name.local a.value)
 
 -- an attribute with what the rules for its value leave, without U+0000 and U+000D

@@ -1,8 +1,10 @@
 -- The policies that are ready.
 use Rattle.std.specs.Prelude.{◌≡◌, ℕ, false, true, List, [], ◌∷◌, ◌++◌, codes, map, Option, Some, None}
+use Rattle.html_clean.specs.Limits.{LimitParts, limit_parts}
+use Rattle.html_clean.specs.Limits.Limit.{Parts, Prefixed, Texts}
 use Rattle.html_clean.specs.declared.policy.Addition.{Addition}
 use Rattle.html_clean.specs.declared.policy.Allowed.{Allowed}
-use Rattle.html_clean.specs.declared.policy.Allowed.TheVariants.{OneOf, Words}
+use Rattle.html_clean.specs.declared.policy.IdForm.TheVariants.{Name, Names, Link}
 use Rattle.html_clean.specs.declared.policy.ValueRule.{ValueRule}
 use Rattle.html_clean.specs.declared.policy.Policy.{Policy}
 use Rattle.html_clean.specs.declared.policy.Rule.{Rule}
@@ -18,16 +20,6 @@ addition_parts addition = (addition.element, (addition.name, addition.value))
 -- the element and the attribute that a rule for values is for, and what it allows
 abbrev pub value_rule_parts : ValueRule → Option (List ℕ) × (List ℕ × Allowed)
 value_rule_parts rule = (rule.element, (rule.attribute, rule.allowed))
-
--- the texts of which a value has to be one
-abbrev pub texts_in : Allowed → Option (List (List ℕ))
-texts_in (OneOf texts) = Some texts.items
-texts_in _ = None
-
--- the words that are kept, and the beginnings of words
-abbrev pub words_in : Allowed → Option (List (List ℕ) × List (List ℕ))
-words_in (Words words beginnings) = Some (words.items, beginnings.items)
-words_in _ = None
 
 -- what ammonia keeps by default
 abbrev pub ready_rules : List (List ℕ × List (List ℕ))
@@ -95,22 +87,31 @@ pub record IsTextAlone (policy : Policy) : Type 0 where
   pub relative : policy.allows_relative ≡ false
   pub hosts : policy.allows_hosts ≡ false
 
--- what a rule for values is for, and what it allows: texts, words or beginnings of words
-abbrev pub limit_parts : ValueRule → Option (List ℕ) × (List ℕ × (Option (List (List ℕ)) × Option (List (List ℕ) × List (List ℕ))))
-limit_parts rule = (rule.element, (rule.attribute, (texts_in rule.allowed, words_in rule.allowed)))
-
 -- the elements of user content beside those of texts and links
 abbrev pub user_rules : List (List ℕ × List (List ℕ))
 user_rules =
-    (codes "code", codes "class" ∷ []) ∷ (codes "details", codes "open" ∷ []) ∷ (codes "input", codes "checked" ∷ []) ∷
-    (codes "li", codes "value" ∷ []) ∷ (codes "ol", codes "reversed" ∷ codes "type" ∷ []) ∷ (codes "section", []) ∷
-    (codes "time", codes "datetime" ∷ []) ∷ []
+    (codes "a", codes "name" ∷ []) ∷ (codes "code", codes "class" ∷ []) ∷ (codes "data", codes "value" ∷ []) ∷
+    (codes "details", codes "open" ∷ []) ∷ (codes "div", codes "align" ∷ []) ∷ (codes "h1", codes "align" ∷ []) ∷
+    (codes "h2", codes "align" ∷ []) ∷ (codes "h3", codes "align" ∷ []) ∷ (codes "h4", codes "align" ∷ []) ∷
+    (codes "h5", codes "align" ∷ []) ∷ (codes "h6", codes "align" ∷ []) ∷ (codes "input", codes "checked" ∷ []) ∷
+    (codes "li", codes "value" ∷ []) ∷ (codes "ol", codes "reversed" ∷ codes "type" ∷ []) ∷ (codes "p", codes "align" ∷ []) ∷
+    (codes "picture", []) ∷ (codes "section", []) ∷
+    (codes "source", codes "media" ∷ codes "sizes" ∷ codes "srcset" ∷ codes "type" ∷ []) ∷ (codes "time", codes "datetime" ∷ []) ∷ []
 
-abbrev pub user_limits : List (Option (List ℕ) × (List ℕ × (Option (List (List ℕ)) × Option (List (List ℕ) × List (List ℕ)))))
-user_limits =
-    (Some (codes "code"), (codes "class", (None, Some ([], codes "language-" ∷ [])))) ∷
-    (None, (codes "dir", (Some (codes "auto" ∷ codes "ltr" ∷ codes "rtl" ∷ []), None))) ∷
-    (Some (codes "ol"), (codes "type", (Some (codes "1" ∷ codes "a" ∷ codes "i" ∷ []), None))) ∷ []
+-- the values of attributes of user content
+abbrev pub user_values : List LimitParts
+user_values =
+    (Some (codes "code"), (codes "class", Parts [] (codes "language-" ∷ []))) ∷
+    (None, (codes "dir", Texts (codes "auto" ∷ codes "ltr" ∷ codes "rtl" ∷ []))) ∷
+    (Some (codes "ol"), (codes "type", Texts (codes "1" ∷ codes "a" ∷ codes "i" ∷ []))) ∷ []
+
+-- the names of its elements, and what refers to them
+abbrev pub user_ids : List LimitParts
+user_ids =
+    (None, (codes "id", Prefixed Name (codes "user-content-"))) ∷
+    (Some (codes "a"), (codes "name", Prefixed Name (codes "user-content-"))) ∷
+    (None, (codes "href", Prefixed Link (codes "user-content-"))) ∷
+    (None, (codes "headers", Prefixed Names (codes "user-content-"))) ∷ []
 
 abbrev pub user_additions : List (List ℕ × (List ℕ × List ℕ))
 user_additions =
@@ -120,9 +121,9 @@ user_additions =
 pub record IsUserContent (policy : Policy) : Type 0 where
   pub kept : map rule_names policy.kept.items ≡ ready_rules ++ user_rules
   pub dropped : policy.dropped.items ≡ ready_dropped
-  pub everywhere : policy.everywhere.items ≡ codes "lang" ∷ codes "title" ∷ codes "dir" ∷ []
+  pub everywhere : policy.everywhere.items ≡ codes "lang" ∷ codes "title" ∷ codes "dir" ∷ codes "id" ∷ []
   pub beginnings : policy.beginnings.items ≡ []
-  pub values : map limit_parts policy.values.items ≡ user_limits
+  pub values : map limit_parts policy.values.items ≡ user_values ++ user_ids
   pub added : map addition_parts policy.added.items ≡ user_additions
   pub urls : policy.urls.items ≡ []
   pub schemes : policy.schemes.items ≡ ready_schemes

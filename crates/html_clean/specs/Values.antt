@@ -7,7 +7,10 @@ use Rattle.std.specs.Str.{bytes_eq}
 use Rattle.markup.specs.Trees.{is_among}
 use Rattle.html_round_trip.specs.Slices.Forms.{is_no_text}
 use Rattle.html_clean.specs.declared.policy.Allowed.{Allowed}
-use Rattle.html_clean.specs.declared.policy.Allowed.TheVariants.{OneOf, Words, Number}
+use Rattle.html_clean.specs.Urls.{url_text}
+use Rattle.html_clean.specs.declared.policy.Allowed.TheVariants.{OneOf, Words, Number, Schemes, Prefixed}
+use Rattle.html_clean.specs.declared.policy.IdForm.{IdForm}
+use Rattle.html_clean.specs.declared.policy.IdForm.TheVariants.{Name, Names, Link}
 use Rattle.html_clean.specs.declared.policy.ValueRule.{ValueRule}
 
 -- BEGINNINGS
@@ -71,19 +74,47 @@ abbrev pub is_number_within : ℕ → ℕ → List ℕ → Bool
 is_number_within least most text = (not (is_no_text text) && list_all is_ascii_digit text)
     && (nat_le least (fold with_digit 0 text) && nat_le (fold with_digit 0 text) most)
 
+-- NAMES WITH A PREFIX
+
+-- a name that begins with a prefix, or is empty, as it is; another one after the prefix
+abbrev pub with_prefix : List ℕ → List ℕ → List ℕ
+with_prefix prefix [] = []
+with_prefix prefix (c ∷ cs) = cond (begins_with prefix (c ∷ cs)) (c ∷ cs) (prefix ++ c ∷ cs)
+
+-- what follows a sign in front of a text
+abbrev pub after_sign : ℕ → List ℕ → Option (List ℕ)
+after_sign sign [] = None
+after_sign sign (c ∷ cs) = cond (nat_eq c sign) (Some cs) None
+
+-- a URL, or "#" and a name with a prefix
+abbrev pub link_by : List ℕ → List ℕ → Option (List ℕ) → List ℕ
+link_by prefix url None = url
+link_by prefix url (Some name) = 35 ∷ with_prefix prefix name
+
+-- names of elements with a prefix: a value that is a name; one of names between white space; and a URL of "#" and a name alone, as the
+-- URL parser takes it (URL Standard, section 4.4, "fragment state")
+abbrev pub prefixed : IdForm → List ℕ → List ℕ → List ℕ
+prefixed Name prefix value = with_prefix prefix value
+prefixed Names prefix value = joined_after [] (map (with_prefix prefix) (words_of value))
+prefixed Link prefix value = link_by prefix value (after_sign 35 (url_text value))
+
 -- RULES
 
--- whether a value is allowed
+-- whether a value is allowed; the schemes of URLs are judged where URLs are
 abbrev pub allows : Allowed → List ℕ → Bool
 allows (OneOf texts) value = is_among (map to_ascii_lowercase value) texts.items
 allows (Words words beginnings) value = not (is_no_text value) && bytes_eq (allowed_words words.items beginnings.items value) value
 allows (Number least most) value = is_number_within least most value
+allows (Schemes schemes) value = true
+allows (Prefixed form prefix) value = not (is_no_text value) && bytes_eq (prefixed form prefix value) value
 
 -- what is left of a value
 abbrev pub left_of : Allowed → List ℕ → List ℕ
 left_of (OneOf texts) value = value
 left_of (Words words beginnings) value = allowed_words words.items beginnings.items value
 left_of (Number least most) value = value
+left_of (Schemes schemes) value = value
+left_of (Prefixed form prefix) value = prefixed form prefix value
 
 -- whether a rule for one element, or for all, is for an element
 abbrev pub is_for_element : Option (List ℕ) → List ℕ → Bool
@@ -107,3 +138,33 @@ abbrev pub value_left : List ValueRule → List ℕ → List ℕ → List ℕ �
 value_left [] element name value = value
 value_left (rule ∷ rules) element name value =
     value_left rules element name (cond (is_rule_for element name rule) (left_of rule.allowed value) value)
+
+-- SCHEMES OF URLS
+
+-- whether it is schemes that are limited
+abbrev pub is_of_schemes : Allowed → Bool
+is_of_schemes (OneOf texts) = false
+is_of_schemes (Words words beginnings) = false
+is_of_schemes (Number least most) = false
+is_of_schemes (Schemes schemes) = true
+is_of_schemes (Prefixed form prefix) = false
+
+-- whether a scheme is allowed
+abbrev pub allows_scheme : Allowed → List ℕ → Bool
+allows_scheme (OneOf texts) scheme = true
+allows_scheme (Words words beginnings) scheme = true
+allows_scheme (Number least most) scheme = true
+allows_scheme (Schemes schemes) scheme = is_among scheme schemes.items
+allows_scheme (Prefixed form prefix) scheme = true
+
+-- whether a rule limits the schemes of an attribute, on whatever element
+abbrev pub limits_schemes_of : List ℕ → ValueRule → Bool
+limits_schemes_of name rule = bytes_eq name rule.attribute && is_of_schemes rule.allowed
+
+-- whether a rule limits the schemes of an attribute of an element
+abbrev pub limits_schemes : List ℕ → List ℕ → ValueRule → Bool
+limits_schemes element name rule = is_rule_for element name rule && is_of_schemes rule.allowed
+
+-- whether a scheme meets a rule that is for its attribute
+abbrev pub meets_scheme : List ℕ → List ℕ → List ℕ → ValueRule → Bool
+meets_scheme element name scheme rule = not (is_rule_for element name rule) || allows_scheme rule.allowed scheme

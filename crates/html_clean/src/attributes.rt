@@ -1,10 +1,13 @@
 //! Which attributes are kept.
-ghost use Rattle.std.specs.Prelude.{◌≡◌, ◌&&◌, IfOk, IfErr, OnOk, is_none};
-ghost use Rattle.html_clean.specs.Policies.{added_attributes, adds, attribute_of, gives, has_url, is_in_rule, is_kept_kind};
-ghost use Rattle.html_clean.specs.Policies.{is_named_for, is_safe_attribute_name, kept_after, kept_with, plain_text, with_addition};
-ghost use Rattle.html_clean.specs.Values.{meets_all, value_left};
+ghost use Rattle.std.specs.Prelude.{◌≡◌, ◌&&◌, IfOk, IfErr, OnOk, codes, is_none};
+ghost use Rattle.std.specs.List.{list_all};
+ghost use Rattle.html_clean.specs.Pictures.{is_picture_data};
+ghost use Rattle.html_clean.specs.Policies.{added_attributes, adds, allows_pictures, are_kept_urls, attribute_of, gives, has_url};
+ghost use Rattle.html_clean.specs.Policies.{is_allowed_scheme, is_in_rule, is_kept_kind, is_kept_url, is_named_for};
+ghost use Rattle.html_clean.specs.Policies.{is_safe_attribute_name, kept_after, kept_with};
+ghost use Rattle.html_clean.specs.Policies.{plain_text, with_addition};
+ghost use Rattle.html_clean.specs.Values.{meets_all, meets_scheme, value_left};
 ghost use Rattle.html_clean.specs.Notes.{is_kept_value};
-ghost use Rattle.html_clean.specs.Urls.{url_kind};
 ghost use Rattle.html_round_trip.specs.Slices.Forms.{is_no_text};
 ghost use Rattle.markup.specs.Trees.{is_among};
 ghost use Rattle.markup.specs.declared.fault.ParseFault.TheVariants.{Memory};
@@ -12,10 +15,15 @@ ghost use Rattle.markup.specs.declared.fault.ParseFault.TheVariants.{Memory};
 use crate::elements::is_among;
 use crate::names::{is_safe_attribute, is_unsafe_scheme, is_url_attribute};
 use crate::notes::{Notes, Verdict};
+use crate::pictures::{is_picture, is_picture_data};
 use crate::policy::{Addition, Policy, Rule};
 use crate::texts::plain_text;
 use crate::url::{UrlKind, url_kind};
-use crate::values::{begins_with_one, is_text_among, meets_all, value_left};
+use crate::values::{
+    are_schemes_limited, begins_with_one, has_limited_schemes, is_text_among, meets_all,
+    meets_schemes, value_left,
+};
+use html_srcset::candidates;
 use markup::{
     Attribute, Attributes, KnownNamespace, LocalName, Namespace, ParseFault, QualName, Text,
 };
@@ -62,45 +70,153 @@ pub(crate) fn is_named_for(policy: &Policy, element: &LocalName, name: &LocalNam
 pub(crate) fn has_url(policy: &Policy, name: &LocalName) -> bool
     ensures { result ≡ has_url policy.now name.now }
 {
-    is_url_attribute(name) || is_among(name, &policy.urls)
+    is_url_attribute(name)
+        || is_among(name, &policy.urls)
+        || has_limited_schemes(&policy.values, name)
 }
 
-/// Whether a URL of this kind is kept.
-fn is_kept_kind(policy: &Policy, kind: &UrlKind) -> bool
-    ensures { result ≡ is_kept_kind policy.now kind.now }
+/// Whether the URL of an attribute of an element may have a scheme.
+fn is_allowed_scheme(policy: &Policy, element: &LocalName, name: &LocalName, scheme: &Text) -> bool
+    ensures { result ≡ is_allowed_scheme policy.now element.now name.now scheme.now }
+{
+    if are_schemes_limited(&policy.values, element, name) {
+        meets_schemes(&policy.values, element, name, scheme)
+    } else {
+        is_text_among(scheme, &policy.schemes)
+    }
+}
+
+/// Whether a URL of this kind is kept in an attribute of an element.
+fn is_kept_kind(policy: &Policy, element: &LocalName, name: &LocalName, kind: &UrlKind) -> bool
+    ensures { result ≡ is_kept_kind policy.now element.now name.now kind.now }
 {
     match kind {
         UrlKind::HasScheme(scheme) => {
-            is_text_among(scheme, &policy.schemes) && !is_unsafe_scheme(scheme)
+            is_allowed_scheme(policy, element, name, scheme) && !is_unsafe_scheme(scheme)
         }
         UrlKind::HasHost => policy.allows_hosts,
         UrlKind::IsRelative => policy.allows_relative,
     }
 }
 
-/// Whether a URL is kept.
-fn is_kept_url(alloc: Global, policy: &Policy, value: &Text) -> Result<bool, ParseFault>
-    ensures ok { IfOk result (λ kept. kept ≡ is_kept_kind policy.now (url_kind value.now)) }
+/// Whether each rule that limits the schemes of an attribute lists `data`.
+fn list_data(
+    alloc: Global,
+    policy: &Policy,
+    element: &LocalName,
+    name: &LocalName,
+) -> Result<bool, ParseFault>
+    ensures ok { IfOk result (λ list. list ≡ list_all (meets_scheme element.now name.now (codes "data")) policy.now.values.items) }
     ensures fault { IfErr result (λ fault. fault ≡ Memory) }
 {
-    let kind = url_kind(alloc, value.as_str())?;
-    Ok(is_kept_kind(policy, &kind))
+    let data = Text::from_str(alloc, "data")?;
+    Ok(meets_schemes(&policy.values, element, name, &data))
 }
 
-/// Whether an attribute on which there is this verdict is kept with this value.
+/// Whether the URL of an attribute of an element may be the data of a picture.
+fn allows_pictures(
+    alloc: Global,
+    policy: &Policy,
+    element: &LocalName,
+    name: &LocalName,
+) -> Result<bool, ParseFault>
+    ensures ok { IfOk result (λ allows. allows ≡ allows_pictures policy.now element.now name.now) }
+    ensures fault { IfErr result (λ fault. fault ≡ Memory) }
+{
+    if !is_picture(element, name) || !are_schemes_limited(&policy.values, element, name) {
+        return Ok(false);
+    }
+    list_data(alloc, policy, element, name)
+}
+
+/// Whether a URL is kept as the data of a picture.
+fn is_kept_picture(
+    alloc: Global,
+    policy: &Policy,
+    element: &LocalName,
+    name: &LocalName,
+    url: &Text,
+) -> Result<bool, ParseFault>
+    ensures ok { IfOk result (λ kept. kept ≡ (allows_pictures policy.now element.now name.now && is_picture_data url.now)) }
+    ensures fault { IfErr result (λ fault. fault ≡ Memory) }
+{
+    if !allows_pictures(alloc, policy, element, name)? {
+        return Ok(false);
+    }
+    is_picture_data(alloc, url.as_str())
+}
+
+/// Whether a URL is kept in an attribute of an element.
+fn is_kept_url(
+    alloc: Global,
+    policy: &Policy,
+    element: &LocalName,
+    name: &LocalName,
+    url: &Text,
+) -> Result<bool, ParseFault>
+    ensures ok { IfOk result (λ kept. kept ≡ is_kept_url policy.now element.now name.now url.now) }
+    ensures fault { IfErr result (λ fault. fault ≡ Memory) }
+{
+    let kind = url_kind(alloc, url.as_str())?;
+    if is_kept_kind(policy, element, name, &kind) {
+        return Ok(true);
+    }
+    is_kept_picture(alloc, policy, element, name, url)
+}
+
+/// Whether each of some URLs is kept in an attribute of an element.
+fn are_kept(
+    alloc: Global,
+    policy: &Policy,
+    element: &LocalName,
+    name: &LocalName,
+    urls: &[Text],
+) -> Result<bool, ParseFault>
+    ensures ok { IfOk result (λ kept. kept ≡ list_all (is_kept_url policy.now element.now name.now) urls.now) }
+    ensures fault { IfErr result (λ fault. fault ≡ Memory) }
+{
+    for url in urls {
+        if !is_kept_url(alloc, policy, element, name, url)? {
+            return Ok(false);
+        }
+    }
+    Ok(true)
+}
+
+/// Whether each URL of an attribute's value is kept.
+fn are_kept_urls(
+    alloc: Global,
+    policy: &Policy,
+    element: &LocalName,
+    name: &LocalName,
+    value: &Text,
+) -> Result<bool, ParseFault>
+    ensures ok { IfOk result (λ kept. kept ≡ are_kept_urls policy.now element.now name.now value.now) }
+    ensures fault { IfErr result (λ fault. fault ≡ Memory) }
+{
+    if !name.is("srcset") {
+        return is_kept_url(alloc, policy, element, name, value);
+    }
+    let urls = candidates(alloc, value.as_str())?;
+    are_kept(alloc, policy, element, name, &urls)
+}
+
+/// Whether an attribute of an element on which there is this verdict is kept with this value.
 fn is_kept_value(
     alloc: Global,
     policy: &Policy,
     verdict: Verdict,
+    element: &LocalName,
+    name: &LocalName,
     value: &Text,
 ) -> Result<bool, ParseFault>
-    ensures ok { IfOk result (λ kept. kept ≡ is_kept_value policy.now verdict value.now) }
+    ensures ok { IfOk result (λ kept. kept ≡ is_kept_value policy.now verdict element.now name.now value.now) }
     ensures fault { IfErr result (λ fault. fault ≡ Memory) }
 {
     match verdict {
         Verdict::Refused => Ok(false),
         Verdict::Kept => Ok(true),
-        Verdict::KeptByUrl => is_kept_url(alloc, policy, value),
+        Verdict::KeptByUrl => are_kept_urls(alloc, policy, element, name, value),
     }
 }
 
@@ -132,11 +248,11 @@ fn is_value_kept(
     name: &LocalName,
     value: &Text,
 ) -> Result<bool, ParseFault>
-    ensures ok { IfOk result (λ kept. kept ≡ (is_kept_value policy.now verdict value.now
+    ensures ok { IfOk result (λ kept. kept ≡ (is_kept_value policy.now verdict element.now name.now value.now
         && meets_all policy.now.values.items element.now name.now value.now)) }
     ensures fault { IfErr result (λ fault. fault ≡ Memory) }
 {
-    if !is_kept_value(alloc, policy, verdict, value)? {
+    if !is_kept_value(alloc, policy, verdict, element, name, value)? {
         return Ok(false);
     }
     meets_all(alloc, &policy.values, element, name, value)

@@ -1,14 +1,17 @@
 //! Whether each word of a policy can be kept.
 ghost use Rattle.std.specs.Prelude.{◌≡◌, None, Some, IfOk, IfErr, IfSome, IfNone};
 ghost use Rattle.std.specs.Str.{chars};
+ghost use Rattle.html_clean.specs.Checks as checks;
 ghost use Rattle.html_clean.specs.Checks.{never_kept, never_kept_in_fragment, page_element, unsafe_addition, unsafe_attribute};
-ghost use Rattle.html_clean.specs.Checks.{unsafe_beginning, unsafe_element, unsafe_in_rules, unsafe_scheme};
+ghost use Rattle.html_clean.specs.Checks.{unsafe_beginning, unsafe_element, unsafe_in_limit, unsafe_in_limits, unsafe_in_rules};
+ghost use Rattle.html_clean.specs.Checks.{unsafe_scheme};
 
 use crate::attributes::has_url;
 use crate::names::{
     is_fragment_name, is_safe_attribute, is_safe_beginning, is_safe_name, is_safe_scheme,
 };
-use crate::policy::{Addition, Policy, Rule};
+use crate::pictures::is_picture;
+use crate::policy::{Addition, Allowed, Policy, Rule, ValueRule};
 use markup::{LocalName, Text};
 
 /// The first element of rules that is never kept.
@@ -50,13 +53,54 @@ fn unsafe_in_rules(rules: &[Rule]) -> Option<&LocalName>
     None
 }
 
-/// The first scheme that is never kept.
-fn unsafe_scheme(schemes: &[Text]) -> Option<&Text>
-    ensures some { IfSome result (λ scheme. unsafe_scheme schemes.now ≡ Some scheme.now) }
-    ensures none { IfNone result (unsafe_scheme schemes.now ≡ None) }
+/// Whether a scheme may be listed: among those of pictures also `data`.
+fn may_be_listed(pictures: bool, scheme: &Text) -> bool
+    ensures { result ≡ checks.may_be_listed pictures scheme.now }
+{
+    is_safe_scheme(scheme) || (pictures && scheme.is("data"))
+}
+
+/// The first scheme that is never kept, of pictures or of others.
+fn unsafe_scheme(pictures: bool, schemes: &[Text]) -> Option<&Text>
+    ensures some { IfSome result (λ scheme. unsafe_scheme pictures schemes.now ≡ Some scheme.now) }
+    ensures none { IfNone result (unsafe_scheme pictures schemes.now ≡ None) }
 {
     for scheme in schemes {
-        if !is_safe_scheme(scheme) {
+        if !may_be_listed(pictures, scheme) {
+            return Some(scheme);
+        }
+    }
+    None
+}
+
+/// The first scheme of what is allowed that is never kept, of pictures or of others.
+fn unsafe_in_limit(pictures: bool, allowed: &Allowed) -> Option<&Text>
+    ensures some { IfSome result (λ scheme. unsafe_in_limit pictures allowed.now ≡ Some scheme.now) }
+    ensures none { IfNone result (unsafe_in_limit pictures allowed.now ≡ None) }
+{
+    match allowed {
+        Allowed::Schemes(schemes) => unsafe_scheme(pictures, schemes),
+        _ => None,
+    }
+}
+
+/// Whether a rule is for the URLs of pictures alone.
+fn is_of_pictures(rule: &ValueRule) -> bool
+    ensures { result ≡ checks.is_of_pictures rule.now.element rule.now.attribute }
+{
+    match &rule.element {
+        Some(element) => is_picture(element, &rule.attribute),
+        None => false,
+    }
+}
+
+/// The first scheme that rules for values list and that is never kept.
+fn unsafe_in_limits(rules: &[ValueRule]) -> Option<&Text>
+    ensures some { IfSome result (λ scheme. unsafe_in_limits rules.now ≡ Some scheme.now) }
+    ensures none { IfNone result (unsafe_in_limits rules.now ≡ None) }
+{
+    for rule in rules {
+        if let Some(scheme) = unsafe_in_limit(is_of_pictures(rule), &rule.allowed) {
             return Some(scheme);
         }
     }
@@ -104,9 +148,9 @@ fn page_element(rules: &[Rule]) -> Option<&LocalName>
 
 impl Policy {
     /// Whether each element, attribute and scheme that the policy names can be kept, or else the first that never is: of elements, then of
-    /// the attributes of rules, of the attributes of all elements, of the beginnings of names, of attributes that are added, then of
-    /// schemes. An attribute that is added has no URL as its value. A scheme has to stand in lower case and without its colon, and is
-    /// none of `javascript`, `vbscript` and `data`.
+    /// the attributes of rules, of the attributes of all elements, of the beginnings of names, of attributes that are added, of schemes,
+    /// then of those that rules for values list. An attribute that is added has no URL as its value. A scheme has to be in lower case and
+    /// without its colon, and is none of `javascript`, `vbscript` and `data`; but a rule for `src` of `img` may list `data`.
     pub fn checked(&self) -> Result<(), &str>
         ensures ok { IfOk result (λ _. never_kept self.now ≡ None) }
         ensures err { IfErr result (λ word. never_kept self.now ≡ Some (chars word.now)) }
@@ -126,7 +170,10 @@ impl Policy {
         if let Some(name) = unsafe_addition(self, &self.added) {
             return Err(name.as_str());
         }
-        match unsafe_scheme(&self.schemes) {
+        if let Some(scheme) = unsafe_scheme(false, &self.schemes) {
+            return Err(scheme.as_str());
+        }
+        match unsafe_in_limits(&self.values) {
             Some(scheme) => Err(scheme.as_str()),
             None => Ok(()),
         }

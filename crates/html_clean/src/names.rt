@@ -138,20 +138,19 @@ const VOID_NAMES: [&str; 18] = [
 ];
 
 /// Attributes that are never kept, beside those of events, in the order of their characters.
-const UNSAFE_ATTRIBUTES: [&str; 9] = [
+const UNSAFE_ATTRIBUTES: [&str; 8] = [
     "archive",
     "attributionsrc",
     "code",
     "imagesrcset",
     "ping",
     "srcdoc",
-    "srcset",
     "style",
     "xmlns",
 ];
 
-/// Attributes of HTML whose values are URLs, in the order of their characters.
-const URL_ATTRIBUTES: [&str; 16] = [
+/// Attributes of HTML whose values are URLs, or a list of them, in the order of their characters.
+const URL_ATTRIBUTES: [&str; 17] = [
     "action",
     "background",
     "cite",
@@ -168,6 +167,7 @@ const URL_ATTRIBUTES: [&str; 16] = [
     "poster",
     "profile",
     "src",
+    "srcset",
 ];
 
 /// Whether a name is in a table of names of ASCII alone, in the order of their characters.

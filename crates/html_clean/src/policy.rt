@@ -16,6 +16,17 @@ pub struct Rule {
     pub attributes: Vec<LocalName>,
 }
 
+/// Where in a value the names of elements are that get a prefix.
+#[derive(Clone, Copy, Debug, PartialEq, Eq)]
+pub enum IdForm {
+    /// The value is a name, as that of `id`, `name` and `for`.
+    Name,
+    /// It is of names between ASCII whitespace, as that of `headers` and `aria-labelledby`.
+    Names,
+    /// It is a URL, as that of `href` and `usemap`: where it is `#` and a name alone, the name gets the prefix.
+    Link,
+}
+
 /// What the value of an attribute may be.
 #[derive(Drop)]
 pub enum Allowed {
@@ -34,6 +45,17 @@ pub enum Allowed {
         least: u32,
         /// The most.
         most: u32,
+    },
+    /// A URL of one of these schemes, or without one. They are in place of the policy's schemes for this attribute, and given as those
+    /// are: in lower case, without the colon. The attribute's value is a URL, as if [`Policy::urls`] named it.
+    Schemes(Vec<Text>),
+    /// Names of elements that begin with a prefix, so that they are none of the page's own. A name that doesn't begin so gets the prefix
+    /// in front. An attribute whose value is empty is not kept.
+    Prefixed {
+        /// Where the names are in the value.
+        form: IdForm,
+        /// The prefix, such as `user-content-`.
+        prefix: Text,
     },
 }
 
@@ -62,8 +84,9 @@ pub struct Addition {
 /// What is kept of a document. An element that is neither kept nor dropped gives way to what stands in it.
 ///
 /// Some names are never kept, whatever the policy says: elements that are none of HTML's, or whose text isn't escaped, or that say
-/// something of the whole page; attributes of events, those that have styles, documents or several URLs, `code` and `xmlns`.
-/// [`Policy::checked`] tells of a policy that has one.
+/// something of the whole page; attributes of events, those that have styles, documents or lists of URLs but `srcset`, `code` and
+/// `xmlns`.
+/// [`Policy::checked`] reports a policy that has one.
 #[derive(Drop)]
 pub struct Policy {
     /// Elements that are kept.
@@ -81,7 +104,8 @@ pub struct Policy {
     pub added: Vec<Addition>,
     /// Attributes whose values are URLs, beside those of HTML that have one.
     pub urls: Vec<LocalName>,
-    /// The schemes that a URL may have, in lower case; `javascript`, `vbscript` and `data` are never kept.
+    /// The schemes that a URL may have, in lower case, where no rule for values lists those of its attribute; `javascript`, `vbscript`
+    /// and `data` are never kept.
     pub schemes: Vec<Text>,
     /// Whether a URL may be relative to the page, without a host of its own.
     pub allows_relative: bool,

@@ -1,10 +1,12 @@
 //! Policies that are ready.
 ghost use Rattle.std.specs.Prelude.{◌≡◌, ◌++◌, [], map, OnOk, IfOk, IfErr};
 ghost use Rattle.std.specs.Str.{chars};
+ghost use Rattle.html_clean.specs.Limits.{limit_parts};
 ghost use Rattle.html_clean.specs.Ready.{IsTextAlone, IsTextAndLinks, IsUserContent, addition_parts, ready_rules, rule_names};
+ghost use Rattle.html_clean.specs.Ready.{user_ids, user_values};
 ghost use Rattle.markup.specs.declared.fault.ParseFault.TheVariants.{Memory};
 
-use crate::policy::{Allowed, Policy, Rule, names_of};
+use crate::policy::{Allowed, IdForm, Policy, Rule, names_of};
 use markup::{LocalName, ParseFault, Text};
 use std::alloc::Global;
 
@@ -109,15 +111,30 @@ const DROPPED: [&str; 9] = [
 const EVERYWHERE: [&str; 2] = ["lang", "title"];
 
 /// Elements of user content beside those of texts and links.
-const USER_ELEMENTS: [(&str, &[&str]); 7] = [
+const USER_ELEMENTS: [(&str, &[&str]); 19] = [
+    ("a", &["name"]),
     ("code", &["class"]),
+    ("data", &["value"]),
     ("details", &["open"]),
+    ("div", &["align"]),
+    ("h1", &["align"]),
+    ("h2", &["align"]),
+    ("h3", &["align"]),
+    ("h4", &["align"]),
+    ("h5", &["align"]),
+    ("h6", &["align"]),
     ("input", &["checked"]),
     ("li", &["value"]),
     ("ol", &["reversed", "type"]),
+    ("p", &["align"]),
+    ("picture", &[]),
     ("section", &[]),
+    ("source", &["media", "sizes", "srcset", "type"]),
     ("time", &["datetime"]),
 ];
+
+/// What the names of elements of user content begin with.
+const USER_PREFIX: &str = "user-content-";
 
 /// Attributes that links and check boxes are given.
 const USER_ADDITIONS: [(&str, &str, &str); 3] = [
@@ -212,6 +229,38 @@ fn push_additions(
     Ok(())
 }
 
+/// Limits the classes of code, directions, and how lists are numbered.
+fn limit_user_values(alloc: Global, policy: &mut Policy) -> Result<(), ParseFault>
+    ensures ok { OnOk result (map limit_parts policy.new.values.items ≡ map limit_parts policy.old.values.items ++ user_values) }
+    ensures same { policy.new ≡ record policy.old { values = policy.new.values } }
+    ensures fault { IfErr result (λ fault. fault ≡ Memory) }
+{
+    let classes = Allowed::words(alloc, &[], &["language-"])?;
+    policy.limit(alloc, Some("code"), "class", classes)?;
+    let directions = Allowed::one_of(alloc, &["auto", "ltr", "rtl"])?;
+    policy.limit(alloc, None, "dir", directions)?;
+    let kinds = Allowed::one_of(alloc, &["1", "a", "i"])?;
+    policy.limit(alloc, Some("ol"), "type", kinds)?;
+    Ok(())
+}
+
+/// Gives a prefix to the names of elements, and to what refers to them.
+fn prefix_user_ids(alloc: Global, policy: &mut Policy) -> Result<(), ParseFault>
+    ensures ok { OnOk result (map limit_parts policy.new.values.items ≡ map limit_parts policy.old.values.items ++ user_ids) }
+    ensures same { policy.new ≡ record policy.old { values = policy.new.values } }
+    ensures fault { IfErr result (λ fault. fault ≡ Memory) }
+{
+    let id = Allowed::prefixed(alloc, IdForm::Name, USER_PREFIX)?;
+    policy.limit(alloc, None, "id", id)?;
+    let name = Allowed::prefixed(alloc, IdForm::Name, USER_PREFIX)?;
+    policy.limit(alloc, Some("a"), "name", name)?;
+    let link = Allowed::prefixed(alloc, IdForm::Link, USER_PREFIX)?;
+    policy.limit(alloc, None, "href", link)?;
+    let headers = Allowed::prefixed(alloc, IdForm::Names, USER_PREFIX)?;
+    policy.limit(alloc, None, "headers", headers)?;
+    Ok(())
+}
+
 /// The rules of the policy.
 fn rules(alloc: Global) -> Result<Vec<Rule>, ParseFault>
     ensures ok { IfOk result (λ rules. map rule_names rules.items ≡ ready_rules) }
@@ -270,7 +319,10 @@ impl Policy {
 
     /// What people write in forums, comments and Markdown: beside what [`text_and_links`](Policy::text_and_links) keeps, the classes
     /// `language-..` of `code`, check boxes of task lists, lists that are numbered otherwise, `details` that are open, sections, dates and
-    /// directions.
+    /// directions, alignment, `picture`, and the names of elements, by `id` and by `name` of `a`.
+    ///
+    /// Each such name begins with `user-content-`, or gets this in front, and so does the name in a link to it, such as `href="#note"`, and
+    /// in `headers`.
     ///
     /// Each link gets `rel="nofollow noopener ugc"`, and each `input` is a check box that is disabled.
     pub fn user_content(alloc: Global) -> Result<Policy, ParseFault>
@@ -280,12 +332,9 @@ impl Policy {
         let mut policy = Policy::text_and_links(alloc)?;
         push_rules(alloc, &USER_ELEMENTS, &mut policy.kept)?;
         policy.everywhere.push(LocalName::from_str(alloc, "dir")?)?;
-        let classes = Allowed::words(alloc, &[], &["language-"])?;
-        policy.limit(alloc, Some("code"), "class", classes)?;
-        let directions = Allowed::one_of(alloc, &["auto", "ltr", "rtl"])?;
-        policy.limit(alloc, None, "dir", directions)?;
-        let kinds = Allowed::one_of(alloc, &["1", "a", "i"])?;
-        policy.limit(alloc, Some("ol"), "type", kinds)?;
+        policy.everywhere.push(LocalName::from_str(alloc, "id")?)?;
+        limit_user_values(alloc, &mut policy)?;
+        prefix_user_ids(alloc, &mut policy)?;
         push_additions(alloc, &USER_ADDITIONS, &mut policy)?;
         Ok(policy)
     }

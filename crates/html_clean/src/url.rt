@@ -34,7 +34,7 @@ fn takes(begun: bool, c: char) -> bool
 }
 
 /// A value as the URL parser takes it.
-fn url_text(alloc: Global, value: &str) -> Result<Text, ParseFault>
+pub(crate) fn url_text(alloc: Global, value: &str) -> Result<Text, ParseFault>
     ensures ok { IfOk result (λ text. text ≡ url_text (chars value.now)) }
     ensures fault { IfErr result (λ fault. fault ≡ Memory) }
 {

@@ -1,19 +1,23 @@
 //! Which values attributes may have.
-ghost use Rattle.std.specs.Prelude.{◌≡◌, ◌&&◌, ◌||◌, not, map, true, false, Some, IfOk, IfErr, IfSome, IfNone, OnOk};
+ghost use Rattle.std.specs.Prelude.{◌≡◌, ◌&&◌, ◌||◌, cond, not, map, true, false, IfOk, IfErr, IfSome, IfNone, OnOk};
 ghost use Rattle.std.specs.Char.{is_ascii_digit, to_ascii_lowercase};
-ghost use Rattle.std.specs.List.{filter, fold, list_all};
+ghost use Rattle.std.specs.List.{fold, list_all, list_any};
 ghost use Rattle.std.specs.Str.{chars};
-ghost use Rattle.html_clean.specs.Ready.{texts_in, words_in};
-ghost use Rattle.html_clean.specs.Values.{allowed_words, allows, begins_with, begins_with_one, is_allowed_word, is_for_element};
-ghost use Rattle.html_clean.specs.Values.{is_number_within, is_rule_for, joined_after, left_of, meets_all, value_left};
-ghost use Rattle.html_clean.specs.Values.{with_digit, with_word, word_if};
+ghost use Rattle.html_clean.specs.Limits.{limit_of};
+ghost use Rattle.html_clean.specs.Limits.Limit.{Parts, Prefixed, Schemes, Texts};
+ghost use Rattle.html_clean.specs.Values.{allowed_words, allows, allows_scheme, begins_with, begins_with_one, is_allowed_word};
+ghost use Rattle.html_clean.specs.Values.{is_for_element, is_of_schemes, limits_schemes, limits_schemes_of, meets_scheme};
+ghost use Rattle.html_clean.specs.Values.{is_number_within, is_rule_for, left_of, meets_all, value_left};
+ghost use Rattle.html_clean.specs.Values.{with_digit, with_word};
 ghost use Rattle.html_round_trip.specs.Slices.Forms.{is_no_text};
 ghost use Rattle.markup.specs.Trees.{is_among};
 ghost use Rattle.markup.specs.declared.fault.ParseFault.TheVariants.{Memory};
 
-use crate::policy::{Allowed, ValueRule};
+use crate::ids::prefixed;
+use crate::policy::{Allowed, IdForm, ValueRule};
 use crate::ready::texts_of;
 use crate::texts::is_no_text;
+use crate::words::{push_word, words_of};
 use markup::{LocalName, ParseFault, Text};
 use std::alloc::Global;
 
@@ -54,28 +58,17 @@ fn is_allowed_word(words: &[Text], beginnings: &[Text], word: &Text) -> bool
     is_text_among(word, words) || begins_with_one(beginnings, word.as_str())
 }
 
-/// Puts a word after a text, and a space between the two.
-fn push_word(made: &mut Text, word: &Text) -> Result<(), ParseFault>
-    ensures ok { OnOk result (made.new ≡ with_word made.old word.now) }
-    ensures fault { IfErr result (λ fault. fault ≡ Memory) }
-{
-    if !made.is_empty() {
-        made.push(' ')?;
-    }
-    made.push_str(word.as_str())
-}
-
-/// The same of a word that is not empty and allowed; another is left out.
+/// Puts a word that is allowed after a text; another is left out.
 fn push_allowed(
     words: &[Text],
     beginnings: &[Text],
     made: &mut Text,
     word: &Text,
 ) -> Result<(), ParseFault>
-    ensures ok { OnOk result (made.new ≡ joined_after made.old (filter (is_allowed_word words.now beginnings.now) (word_if word.now))) }
+    ensures ok { OnOk result (made.new ≡ cond (is_allowed_word words.now beginnings.now word.now) (with_word made.old word.now) made.old) }
     ensures fault { IfErr result (λ fault. fault ≡ Memory) }
 {
-    if word.is_empty() || !is_allowed_word(words, beginnings, word) {
+    if !is_allowed_word(words, beginnings, word) {
         return Ok(());
     }
     push_word(made, word)
@@ -91,17 +84,11 @@ fn allowed_words(
     ensures ok { IfOk result (λ made. made ≡ allowed_words words.now beginnings.now (chars value.now)) }
     ensures fault { IfErr result (λ fault. fault ≡ Memory) }
 {
+    let list = words_of(alloc, value)?;
     let mut made = Text::empty(alloc);
-    let mut word = Text::empty(alloc);
-    for c in value.chars() {
-        if c.is_ascii_whitespace() {
-            push_allowed(words, beginnings, &mut made, &word)?;
-            word.clear();
-        } else {
-            word.push(c)?;
-        }
+    for word in &list {
+        push_allowed(words, beginnings, &mut made, word)?;
     }
-    push_allowed(words, beginnings, &mut made, &word)?;
     Ok(made)
 }
 
@@ -113,8 +100,8 @@ fn with_digit(n: u32, c: char) -> u32
         .saturating_add((c as u32).saturating_sub(48))
 }
 
-/// The number that a text is in digits, if it is of digits alone.
-fn number(text: &str) -> Option<u32>
+/// The number that a text is in ASCII digits, if it is of these alone: 0 of none, and the greatest of 32 bits of one that is greater.
+pub fn number(text: &str) -> Option<u32>
     ensures some { IfSome result (λ n. n ≡ fold with_digit 0 (chars text.now)) }
     ensures digits { IfSome result (λ _. list_all is_ascii_digit (chars text.now) ≡ true) }
     ensures none { IfNone result (list_all is_ascii_digit (chars text.now) ≡ false) }
@@ -161,6 +148,9 @@ fn left_of(alloc: Global, allowed: &Allowed, value: Text) -> Result<Text, ParseF
         Allowed::Words { words, beginnings } => {
             allowed_words(alloc, words, beginnings, value.as_str())
         }
+        Allowed::Prefixed { form, prefix } => {
+            prefixed(alloc, *form, prefix.as_str(), value.as_str())
+        }
         _ => Ok(value),
     }
 }
@@ -177,6 +167,11 @@ fn allows(alloc: Global, allowed: &Allowed, value: &Text) -> Result<bool, ParseF
             Ok(!is_no_text(value.as_str()) && left == *value)
         }
         Allowed::Number { least, most } => Ok(is_number_within(*least, *most, value.as_str())),
+        Allowed::Schemes(_) => Ok(true),
+        Allowed::Prefixed { form, prefix } => {
+            let left = prefixed(alloc, *form, prefix.as_str(), value.as_str())?;
+            Ok(!is_no_text(value.as_str()) && left == *value)
+        }
     }
 }
 
@@ -236,24 +231,116 @@ pub(crate) fn value_left(
     Ok(left)
 }
 
+/// Whether it is schemes that are limited.
+fn is_of_schemes(allowed: &Allowed) -> bool
+    ensures { result ≡ is_of_schemes allowed.now }
+{
+    match allowed {
+        Allowed::Schemes(_) => true,
+        _ => false,
+    }
+}
+
+/// Whether a scheme is allowed.
+fn allows_scheme(allowed: &Allowed, scheme: &Text) -> bool
+    ensures { result ≡ allows_scheme allowed.now scheme.now }
+{
+    match allowed {
+        Allowed::Schemes(schemes) => is_text_among(scheme, schemes),
+        _ => true,
+    }
+}
+
+/// Whether a rule limits the schemes of an attribute, on whatever element.
+fn limits_schemes_of(rule: &ValueRule, name: &LocalName) -> bool
+    ensures { result ≡ limits_schemes_of name.now rule.now }
+{
+    *name == rule.attribute && is_of_schemes(&rule.allowed)
+}
+
+/// Whether a rule limits the schemes of an attribute of an element.
+fn limits_schemes(rule: &ValueRule, element: &LocalName, name: &LocalName) -> bool
+    ensures { result ≡ limits_schemes element.now name.now rule.now }
+{
+    is_rule_for(rule, element, name) && is_of_schemes(&rule.allowed)
+}
+
+/// Whether a scheme meets a rule, if that is for its attribute.
+fn meets_scheme(rule: &ValueRule, element: &LocalName, name: &LocalName, scheme: &Text) -> bool
+    ensures { result ≡ meets_scheme element.now name.now scheme.now rule.now }
+{
+    !is_rule_for(rule, element, name) || allows_scheme(&rule.allowed, scheme)
+}
+
+/// Whether one of some rules limits the schemes of an attribute, on whatever element.
+pub(crate) fn has_limited_schemes(rules: &[ValueRule], name: &LocalName) -> bool
+    ensures { result ≡ list_any (limits_schemes_of name.now) rules.now }
+{
+    rules.iter().any(|rule| limits_schemes_of(rule, name))
+}
+
+/// Whether one of some rules limits the schemes of an attribute of an element.
+pub(crate) fn are_schemes_limited(
+    rules: &[ValueRule],
+    element: &LocalName,
+    name: &LocalName,
+) -> bool
+    ensures { result ≡ list_any (limits_schemes element.now name.now) rules.now }
+{
+    rules.iter().any(|rule| limits_schemes(rule, element, name))
+}
+
+/// Whether a scheme meets each rule that is for its attribute.
+pub(crate) fn meets_schemes(
+    rules: &[ValueRule],
+    element: &LocalName,
+    name: &LocalName,
+    scheme: &Text,
+) -> bool
+    ensures { result ≡ list_all (meets_scheme element.now name.now scheme.now) rules.now }
+{
+    rules
+        .iter()
+        .all(|rule| meets_scheme(rule, element, name, scheme))
+}
+
 impl Allowed {
     /// One of these texts, which stand in lower case.
     pub fn one_of(alloc: Global, texts: &[&str]) -> Result<Allowed, ParseFault>
-        ensures ok { IfOk result (λ allowed. texts_in allowed ≡ Some (map (λ text. chars text.now) texts.now)) }
+        ensures ok { IfOk result (λ allowed. limit_of allowed ≡ Texts (map (λ text. chars text.now) texts.now)) }
         ensures fault { IfErr result (λ fault. fault ≡ Memory) }
     {
         Ok(Allowed::OneOf(texts_of(alloc, texts)?))
     }
 
+    /// URLs of these schemes, in lower case and without the colon: `Allowed::schemes(alloc, &["https", "mailto"])`.
+    pub fn schemes(alloc: Global, schemes: &[&str]) -> Result<Allowed, ParseFault>
+        ensures ok { IfOk result (λ allowed. limit_of allowed ≡ Schemes (map (λ scheme. chars scheme.now) schemes.now)) }
+        ensures fault { IfErr result (λ fault. fault ≡ Memory) }
+    {
+        Ok(Allowed::Schemes(texts_of(alloc, schemes)?))
+    }
+
     /// Words, and beginnings of words: `Allowed::words(alloc, &["note"], &["language-"])`.
     pub fn words(alloc: Global, words: &[&str], beginnings: &[&str]) -> Result<Allowed, ParseFault>
-        ensures ok { IfOk result (λ allowed. words_in allowed ≡ Some
-            (map (λ word. chars word.now) words.now, map (λ beginning. chars beginning.now) beginnings.now)) }
+        ensures ok { IfOk result (λ allowed. limit_of allowed ≡ Parts
+            (map (λ word. chars word.now) words.now) (map (λ beginning. chars beginning.now) beginnings.now)) }
         ensures fault { IfErr result (λ fault. fault ≡ Memory) }
     {
         Ok(Allowed::Words {
             words: texts_of(alloc, words)?,
             beginnings: texts_of(alloc, beginnings)?,
+        })
+    }
+
+    /// Names with a prefix: `Allowed::prefixed(alloc, IdForm::Name, "user-content-")`.
+    pub fn prefixed(alloc: Global, form: IdForm, prefix: &str) -> Result<Allowed, ParseFault>
+        ensures ok { IfOk result (λ allowed. limit_of allowed ≡ Prefixed form (chars prefix.now)) }
+        ensures fault { IfErr result (λ fault. fault ≡ Memory) }
+    {
+        Ok(Allowed::Prefixed {
+            form,
+            prefix: Text::from_str(alloc, prefix)?,
         })
     }
 }

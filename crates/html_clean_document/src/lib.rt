@@ -1,8 +1,12 @@
-//! From the bytes of an HTML document to what a policy keeps of it.
+//! From the bytes of an HTML document to what a policy keeps of it, with the policies of `html_clean`.
 //!
 //! Tests: `html_clean_tests`.
 #![tactic(auto)]
 
 mod whole;
 
+pub use html_clean::{
+    Addition, Allowed, Bound, BoundedFault, Bounds, Cleaned, IdForm, Policy, Rule, ValueRule,
+    write_clean, write_clean_within,
+};
 pub use whole::{clean, clean_fragment, clean_fragment_in};

@@ -7,7 +7,7 @@ use Rattle.html_normal.specs.Status.{status_of as normal_status_of, table_status
 use Rattle.html_policy_text.specs.declared.file.PolicyFileFault.{PolicyFileFault}
 use Rattle.html_policy_text.specs.declared.file.PolicyFileFault.TheVariants as file
 use Rattle.html_policy_text.specs.declared.rules.Problem.{Problem}
-use Rattle.html_policy_text.specs.declared.rules.Problem.TheVariants.{UnknownRule, WrongWords}
+use Rattle.html_policy_text.specs.declared.rules.Problem.TheVariants.{UnknownRule, WrongNumber, WrongWords}
 use Rattle.html_clean_program.specs.declared.fault.CleanFault.{CleanFault}
 use Rattle.html_clean_program.specs.declared.fault.CleanFault.TheVariants.{NeverKept, Normal, Policy, Table, Usage}
 
@@ -24,6 +24,7 @@ counts_line counts = elements_words counts ++ others_words counts
 abbrev pub problem_words : Problem → List ℕ
 problem_words UnknownRule = codes ": no rule begins with this word"
 problem_words WrongWords = codes ": the rule takes fewer words, or more"
+problem_words WrongNumber = codes ": a word is not a number in digits"
 
 -- a line of a file, as `policy:3`
 abbrev pub place_words : List ℕ → ℕ → List ℕ

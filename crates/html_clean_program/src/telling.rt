@@ -88,6 +88,7 @@ fn problem_words(problem: Problem) -> &'static str
     match problem {
         Problem::UnknownRule => ": no rule begins with this word",
         Problem::WrongWords => ": the rule takes fewer words, or more",
+        Problem::WrongNumber => ": a word is not a number in digits",
     }
 }
 

@@ -32,7 +32,7 @@ fn unsafe_policy(alloc: Global) -> Result<Policy, ParseFault> {
         policy.keep(
             alloc,
             element,
-            &["onclick", "style", "srcset", "code", "title"],
+            &["onclick", "style", "srcdoc", "code", "title"],
         )?;
     }
     Ok(policy)
@@ -85,7 +85,7 @@ fn some_names_are_never_kept(rt: HostRuntime) -> Result<(), Fail> {
     let first = policy.checked().err();
     assert!(rt; first.is_some_and(|name| name == "script"));
     let page =
-        "<p onclick=a style=b srcset=c title=d><script>e</script><x-y>f</x-y><svg>g</svg><embed code=h title=i>";
+        "<p onclick=a style=b srcdoc=c title=d><script>e</script><x-y>f</x-y><svg>g</svg><embed code=h title=i>";
     let left = "<p title=\"d\">fg<embed title=\"i\"></p>";
     let counts = Cleaned {
         unwrapped: 2,
@@ -184,7 +184,7 @@ const ARTICLES: [(&str, &str); 10] = [
     ),
 ];
 
-const USER_CONTENT: [(&str, &str); 9] = [
+const USER_CONTENT: [(&str, &str); 13] = [
     (
         "<ul><li><input type=checkbox checked> a</ul>",
         "<ul><li><input type=\"checkbox\" disabled=\"\" checked=\"\"> a</li></ul>",
@@ -215,6 +215,22 @@ const USER_CONTENT: [(&str, &str); 9] = [
     ),
     ("<img src=a alt=b srcset=c>", "<img src=\"a\" alt=\"b\">"),
     (
+        "<h1 align=center><picture><source srcset='a 2x' media=m><source srcset='a, javascript:b'><img src=c></picture></h1>",
+        "<h1 align=\"center\"><picture><source srcset=\"a 2x\" media=\"m\"><source><img src=\"c\"></picture></h1>",
+    ),
+    (
+        "<p id=a><a name=user-content-b href=' #a'>x</a>",
+        "<p id=\"user-content-a\"><a rel=\"nofollow noopener ugc\" name=\"user-content-b\" href=\"#user-content-a\">x</a></p>",
+    ),
+    (
+        "<table><tr><td headers='a\nb' id=''>x<th id='c d'>",
+        "<table><tbody><tr><td headers=\"user-content-a user-content-b\">x</td><th id=\"user-content-c d\"></th></tr></tbody></table>",
+    ),
+    (
+        "<a href=b#c>x</a><a href='#'>y</a>",
+        "<a rel=\"nofollow noopener ugc\" href=\"b#c\">x</a><a rel=\"nofollow noopener ugc\" href=\"#\">y</a>",
+    ),
+    (
         "<a href=javascript:x rel=opener target=_top>y</a>",
         "<a rel=\"nofollow noopener ugc\">y</a>",
     ),
@@ -231,6 +247,33 @@ fn user_content_is_kept(rt: HostRuntime) -> Result<(), Fail> {
     Ok(())
 }
 
+const MAIL: [(&str, &str); 4] = [
+    (
+        "<table bgcolor=#fff style=x><td valign=top><font color=red face=a>x",
+        "<table bgcolor=\"#fff\"><tbody><tr><td valign=\"top\"><font color=\"red\" face=\"a\">x</font></td></tr></tbody></table>",
+    ),
+    (
+        "<img src=cid:a@b><img src=data:image/png;base64,a><img src=a.png><img src=//a/b>",
+        "<img src=\"cid:a@b\"><img src=\"data:image/png;base64,a\"><img><img>",
+    ),
+    (
+        "<a href=/logout target=_top>x</a><a href=mailto:a@b>y</a>",
+        "<a rel=\"nofollow noopener noreferrer\" target=\"_blank\">x</a><a rel=\"nofollow noopener noreferrer\" target=\"_blank\" href=\"mailto:a@b\">y</a>",
+    ),
+    ("<base href=x><form action=y>z</form>", "z"),
+];
+
+#[test]
+fn mails_are_kept(rt: HostRuntime) -> Result<(), Fail> {
+    let alloc = rt.alloc();
+    let policy = Ready::Mail.policy(alloc)?;
+    assert!(rt; policy.checked_for_fragments().is_ok());
+    for (page, left) in &MAIL {
+        assert!(rt; writes(alloc, &policy, page, left), "{}", page);
+    }
+    Ok(())
+}
+
 #[test]
 fn values_are_limited_and_attributes_added(rt: HostRuntime) -> Result<(), Fail> {
     let alloc = rt.alloc();
@@ -242,7 +285,203 @@ fn values_are_limited_and_attributes_added(rt: HostRuntime) -> Result<(), Fail> 
     Ok(())
 }
 
-/// The same policy as text, but for numbers, without what text and links keep besides.
+/// Pictures by `https` alone; links by `https`, or to mail and telephones; all else by `http` or `https`.
+fn schemes_of_each(alloc: Global) -> Result<Policy, ParseFault> {
+    let mut policy = Policy::text_alone(alloc)?;
+    policy.keep(alloc, "img", &["src"])?;
+    policy.keep(alloc, "a", &["href", "ping-to"])?;
+    policy.keep(alloc, "q", &["cite"])?;
+    policy.keep(alloc, "area", &["href"])?;
+    policy.schemes.push(Text::from_str(alloc, "http")?)?;
+    policy.schemes.push(Text::from_str(alloc, "https")?)?;
+    policy.allows_relative = true;
+    policy.limit(
+        alloc,
+        Some("img"),
+        "src",
+        Allowed::schemes(alloc, &["https"])?,
+    )?;
+    let links = Allowed::schemes(alloc, &["https", "mailto", "tel"])?;
+    policy.limit(alloc, Some("a"), "href", links)?;
+    policy.limit(alloc, None, "ping-to", Allowed::schemes(alloc, &["https"])?)?;
+    Ok(policy)
+}
+
+const SCHEMES_OF_EACH: [(&str, &str); 14] = [
+    ("<img src=https://a>", "<img src=\"https://a\">"),
+    ("<img src=http://a>", "<img>"),
+    ("<img src=mailto:a>", "<img>"),
+    ("<img src=a.png>", "<img src=\"a.png\">"),
+    ("<img src=//a/b.png>", "<img>"),
+    ("<a href=HTTPS://a>x</a>", "<a href=\"HTTPS://a\">x</a>"),
+    ("<a href=http://a>x</a>", "<a>x</a>"),
+    ("<a href=MailTo:a>x</a>", "<a href=\"MailTo:a\">x</a>"),
+    ("<a href=tel:1>x</a>", "<a href=\"tel:1\">x</a>"),
+    ("<a href=javascript:x>y</a>", "<a>y</a>"),
+    ("<q cite=http://a>x</q>", "<q cite=\"http://a\">x</q>"),
+    ("<q cite=mailto:a>x</q>", "<q>x</q>"),
+    ("<area href=http://a>", "<area href=\"http://a\">"),
+    (
+        "<a ping-to=http://a>x</a><a ping-to=https://a>y</a>",
+        "<a>x</a><a ping-to=\"https://a\">y</a>",
+    ),
+];
+
+#[test]
+fn an_attribute_has_schemes_of_its_own(rt: HostRuntime) -> Result<(), Fail> {
+    let alloc = rt.alloc();
+    let policy = schemes_of_each(alloc)?;
+    assert!(rt; policy.checked_for_fragments().is_ok());
+    for (page, left) in &SCHEMES_OF_EACH {
+        assert!(rt; writes(alloc, &policy, page, left), "{}", page);
+    }
+    Ok(())
+}
+
+/// Pictures by `https` or as data; all else by `https`.
+const DATA_POLICY: &str =
+    "keep img src srcset\nkeep source src\nkeep a href\nrelative\nscheme https\nschemes-for img src https data\n";
+
+const DATA: [(&str, &str); 13] = [
+    (
+        "<img src=data:image/png;base64,aa>",
+        "<img src=\"data:image/png;base64,aa\">",
+    ),
+    (
+        "<img src=' DaTa:IMAGE/webp,a'>",
+        "<img src=\" DaTa:IMAGE/webp,a\">",
+    ),
+    (
+        "<img src='da\nta:image/gif;a'>",
+        "<img src=\"da\nta:image/gif;a\">",
+    ),
+    (
+        "<img src=data:image/avif,><img src=data:image/jpeg;>",
+        "<img src=\"data:image/avif,\"><img src=\"data:image/jpeg;\">",
+    ),
+    ("<img src=data:image/svg+xml,a>", "<img>"),
+    ("<img src=data:image/svg+xml;image/png,a>", "<img>"),
+    ("<img src=data:image/png>", "<img>"),
+    ("<img src=data:,a>", "<img>"),
+    ("<img src=data:text/html,a>", "<img>"),
+    ("<img srcset=data:image/png,a>", "<img>"),
+    ("<source src=data:image/png,a>", "<source>"),
+    ("<a href=data:image/png,a>x</a>", "<a>x</a>"),
+    ("<img src=https:a>", "<img src=\"https:a\">"),
+];
+
+#[test]
+fn data_of_pictures_is_kept_where_it_is_listed(rt: HostRuntime) -> Result<(), Fail> {
+    let alloc = rt.alloc();
+    let Ok(policy) = read_policy(alloc, DATA_POLICY) else {
+        return Err(Fail::from("the policy is not read"));
+    };
+    assert!(rt; policy.checked_for_fragments().is_ok());
+    for (page, left) in &DATA {
+        assert!(rt; writes(alloc, &policy, page, left), "{}", page);
+    }
+    for text in [
+        "scheme data",
+        "schemes-for * src data",
+        "schemes-for img srcset data",
+        "schemes-for a src data",
+    ] {
+        let Ok(refused) = read_policy(alloc, text) else {
+            return Err(Fail::from("a policy is not read"));
+        };
+        assert!(rt;
+            refused.checked().err().is_some_and(|word| word == "data"),
+            "{}",
+            text
+        );
+    }
+    Ok(())
+}
+
+/// Pictures with a `srcset` by `https`.
+fn pictures(alloc: Global) -> Result<Policy, ParseFault> {
+    let mut policy = Policy::text_alone(alloc)?;
+    policy.keep(alloc, "img", &["src", "srcset"])?;
+    policy.keep(alloc, "source", &["srcset", "sizes"])?;
+    policy.schemes.push(Text::from_str(alloc, "https")?)?;
+    policy.schemes.push(Text::from_str(alloc, "http")?)?;
+    policy.allows_relative = true;
+    let schemes = Allowed::schemes(alloc, &["http"])?;
+    policy.limit(alloc, Some("source"), "srcset", schemes)?;
+    Ok(policy)
+}
+
+const PICTURES: [(&str, &str); 16] = [
+    ("<img srcset=a>", "<img srcset=\"a\">"),
+    (
+        "<img srcset='a 1x, https://b 2x'>",
+        "<img srcset=\"a 1x, https://b 2x\">",
+    ),
+    ("<img srcset='a 1x, javascript:b 2x'>", "<img>"),
+    ("<img srcset=javascript:alert(1)>", "<img>"),
+    ("<img srcset='a,\tjavascript:b'>", "<img>"),
+    ("<img srcset=' ,, JAVASCRIPT:b 1x'>", "<img>"),
+    // A URL that ends with a comma has no description.
+    ("<img srcset='a, javascript:b'>", "<img>"),
+    (
+        "<img srcset='a,javascript:b'>",
+        "<img srcset=\"a,javascript:b\">",
+    ),
+    // A comma in parentheses ends no description.
+    (
+        "<img srcset='a 1x (b, javascript:c) 2x'>",
+        "<img srcset=\"a 1x (b, javascript:c) 2x\">",
+    ),
+    ("<img srcset='a 1x (b), javascript:c'>", "<img>"),
+    (
+        "<img srcset='a (b, data:c'>",
+        "<img srcset=\"a (b, data:c\">",
+    ),
+    ("<img srcset='a 1x, //b 2x'>", "<img>"),
+    ("<img srcset>", "<img srcset=\"\">"),
+    (
+        "<source srcset='http://a, b 2x' sizes=c>",
+        "<source srcset=\"http://a, b 2x\" sizes=\"c\">",
+    ),
+    ("<source srcset='http://a, https://b 2x'>", "<source>"),
+    ("<img src=a srcset='b 1x,data:c'>", "<img src=\"a\">"),
+];
+
+#[test]
+fn each_url_of_a_srcset_is_judged(rt: HostRuntime) -> Result<(), Fail> {
+    let alloc = rt.alloc();
+    let policy = pictures(alloc)?;
+    assert!(rt; policy.checked_for_fragments().is_ok());
+    for (page, left) in &PICTURES {
+        assert!(rt; writes(alloc, &policy, page, left), "{}", page);
+    }
+    Ok(())
+}
+
+/// The scheme that is never kept, of a policy that lists schemes for links.
+fn refused_scheme(alloc: Global, schemes: &[&str], scheme: &str) -> Result<bool, ParseFault> {
+    let mut policy = Policy::text_and_links(alloc)?;
+    policy.limit(alloc, Some("a"), "href", Allowed::schemes(alloc, schemes)?)?;
+    Ok(policy.checked().err().is_some_and(|first| first == scheme))
+}
+
+#[test]
+fn scripts_are_no_schemes_of_an_attribute(rt: HostRuntime) -> Result<(), Fail> {
+    let alloc = rt.alloc();
+    assert!(rt; refused_scheme(alloc, &["https", "javascript", "data"], "javascript")?);
+    assert!(rt; refused_scheme(alloc, &["data"], "data")?);
+    assert!(rt; refused_scheme(alloc, &["vbscript"], "vbscript")?);
+    assert!(rt; refused_scheme(alloc, &["HTTPS"], "HTTPS")?);
+    let mut scripts = Policy::text_alone(alloc)?;
+    scripts.keep(alloc, "a", &["href"])?;
+    let schemes = Allowed::schemes(alloc, &["javascript", "tel"])?;
+    scripts.limit(alloc, Some("a"), "href", schemes)?;
+    let page = "<a href=javascript:x>y</a><a href=tel:1>z</a>";
+    assert!(rt; writes(alloc, &scripts, page, "<a>y</a><a href=\"tel:1\">z</a>"));
+    Ok(())
+}
+
+/// The same policy as text, without what text and links keep besides.
 const ARTICLES_TEXT: &str = "# articles
 keep a href title
 keep bdo dir
@@ -254,6 +493,11 @@ relative
 beginning data-
 words code class note ^language-
 one-of * dir auto ltr rtl
+schemes-for a href https mailto
+number ol start 01 99
+prefix * id user-
+prefix-words td headers user-
+prefix-link a href user-
 
 add a rel nofollow noopener
 ";
@@ -264,9 +508,13 @@ fn a_policy_is_read_from_a_text(rt: HostRuntime) -> Result<(), Fail> {
     let Ok(policy) = read_policy(alloc, ARTICLES_TEXT) else {
         return Err(Fail::from("the policy is not read"));
     };
-    for (page, left) in &ARTICLES[..7] {
+    for (page, left) in &ARTICLES {
         assert!(rt; writes(alloc, &policy, page, left), "{}", page);
     }
+    let page = "<a href=http:b>x</a><a href=mailto:b>y</a>";
+    let left =
+        "<a rel=\"nofollow noopener\">x</a><a rel=\"nofollow noopener\" href=\"mailto:b\">y</a>";
+    assert!(rt; writes(alloc, &policy, page, left));
     Ok(())
 }
 
@@ -280,6 +528,11 @@ keep p
 beginning data-
 words code class note ^language-
 one-of * dir auto ltr rtl
+schemes-for a href https mailto
+number ol start 1 99
+prefix * id user-
+prefix-words td headers user-
+prefix-link a href user-
 add a rel nofollow noopener
 relative
 ";
@@ -301,7 +554,7 @@ fn a_policy_is_written_and_read_again(rt: HostRuntime) -> Result<(), Fail> {
     assert!(rt; is_written(alloc, ARTICLES_TEXT, ARTICLES_WRITTEN));
     assert!(rt; is_written(alloc, ARTICLES_WRITTEN, ARTICLES_WRITTEN));
     assert!(rt; is_written(alloc, "", ""));
-    for name in ["text-alone", "text-and-links", "user-content"] {
+    for name in ["text-alone", "text-and-links", "user-content", "mail"] {
         let Some(ready) = Ready::named(name) else {
             return Err(Fail::from("a ready policy has no name"));
         };
@@ -334,9 +587,6 @@ fn a_policy_that_text_can_not_say(rt: HostRuntime) -> Result<(), Fail> {
     let mut marked = Policy::text_alone(alloc)?;
     marked.limit(alloc, None, "a", Allowed::words(alloc, &["^b"], &[])?)?;
     assert!(rt; is_unwritable(alloc, &marked));
-    let mut numbered = Policy::text_alone(alloc)?;
-    numbered.limit(alloc, None, "a", Allowed::Number { least: 1, most: 2 })?;
-    assert!(rt; is_unwritable(alloc, &numbered));
     let mut doubled = Policy::text_alone(alloc)?;
     doubled.add(alloc, "a", "rel", "b  c")?;
     assert!(rt; is_unwritable(alloc, &doubled));
@@ -356,6 +606,12 @@ fn a_line_that_is_no_rule_is_named(rt: HostRuntime) -> Result<(), Fail> {
     };
     assert!(rt; read_policy(alloc, "keep a\nkepp b\ndrop").err() == Some(unknown));
     assert!(rt; read_policy(alloc, "keep a\n\nadd a\n").err() == Some(wrong));
+    let number = PolicyFault::Line {
+        line: 1,
+        problem: Problem::WrongNumber,
+    };
+    assert!(rt; read_policy(alloc, "number ol start 1 x").err() == Some(number));
+    assert!(rt; read_policy(alloc, "number ol start -1 1").err() == Some(number));
     Ok(())
 }
 

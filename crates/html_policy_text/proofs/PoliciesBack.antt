@@ -1,22 +1,27 @@
 -- A policy that is written is read back.
 use Rattle.std.proofs.Common.{◌≡◌, ◌∙◌, ℕ, Bool, true, false, List, [], ◌∷◌, ◌++◌, Option, None, Some, Ok, ap, append_assoc}
 use Rattle.std.proofs.Common.{map, refl, subst, sym}
-use Rattle.std.specs.Prelude.{◌&&◌, codes, cond, not}
+use Rattle.std.specs.Prelude.{◌&&◌, codes, cond, nat_le, not}
+use Rattle.std.specs.Fmt.{decimal}
 use Rattle.std.specs.List.{list_all}
 use Rattle.std.specs.Str.{bytes_eq}
 use Rattle.std.proofs.lemmas.Bool.{and_from, and_parts}
 use Rattle.std.proofs.lemmas.List.{append-nil}
 use Rattle.std.proofs.lemmas.List.Folds.{list_all-append}
 use Rattle.std.proofs.lemmas.Slice.Eq.{bytes_eq-Decides}
-use Rattle.html_clean.specs.Values.{joined_after, words_of}
+use Rattle.html_clean.specs.Values.{greatest, joined_after, words_of}
 use Rattle.html_policy_text.specs.PolicyText.{lines_of, policy_rules, read_lines, with_line}
-use Rattle.html_policy_text.specs.Rules.{Limit, Rules, no_rules, target_of, whole_words}
-use Rattle.html_policy_text.specs.Rules.{word_beginnings}
-use Rattle.html_policy_text.specs.Rules.Limit.{Numbers, Parts, Texts}
+use Rattle.html_clean.specs.Limits.{Limit, LimitParts}
+use Rattle.html_clean.specs.Limits.Limit.{Numbers, Parts, Prefixed, Schemes, Texts}
+use Rattle.html_clean.specs.declared.policy.IdForm.TheVariants.{Name, Names, Link}
+use Rattle.html_policy_text.specs.Rules.{Rules, bounds, limit_by, limited as with_one, no_rules, number_of, target_of}
+use Rattle.html_policy_text.specs.Rules.{whole_words, word_beginnings}
 use Rattle.html_policy_text.specs.Written.{addition_text, are_lists_writable, flag_text, is_addition_writable, is_limit_writable}
 use Rattle.html_policy_text.specs.Written.{is_rule_writable, is_solid, is_target_writable, is_value, is_value_rule_writable, is_whole}
 use Rattle.html_policy_text.specs.Written.{is_word, is_writable, limit_keyword, limit_text, limit_words, list_text, marked, policy_text, rule_text}
 use Rattle.html_policy_text.specs.Written.{target_word, texts_of}
+use Rattle.html_policy_text.specs.declared.rules.LimitKind.TheVariants as kind
+use Rattle.html_policy_text.proofs.Numbers.{decimal-is, number-back}
 use Rattle.html_policy_text.proofs.ReadBack.{Reads, beginnings-back, line-read, list-read, marked-are, not-true, nothing-read, then-read}
 use Rattle.html_policy_text.proofs.ReadBack.{wholes-are, wholes-back, words-are}
 
@@ -51,7 +56,11 @@ target-is (Some name) h = (and_parts (is_word name) (not (bytes_eq name (codes "
 keyword-is : (limit : Limit) → is_limit_writable limit ≡ true → is_word (limit_keyword limit) ≡ true
 keyword-is (Texts texts) h = refl
 keyword-is (Parts words beginnings) h = refl
-keyword-is (Numbers least most) h = absurd cc
+keyword-is (Numbers least most) h = refl
+keyword-is (Schemes schemes) h = refl
+keyword-is (Prefixed Name prefix) h = refl
+keyword-is (Prefixed Names prefix) h = refl
+keyword-is (Prefixed Link prefix) h = refl
 
 limit-words-are : (limit : Limit) → is_limit_writable limit ≡ true → list_all is_word (limit_words limit) ≡ true
 limit-words-are (Texts texts) h = h
@@ -59,10 +68,21 @@ limit-words-are (Parts words beginnings) h =
     let both = and_parts (list_all is_whole words) (list_all (list_all is_solid) beginnings) h in
     list_all-append is_word words (map marked beginnings)
     ∙ and_from (list_all is_word words) (list_all is_word (map marked beginnings)) (wholes-are words both.0) (marked-are beginnings both.1)
-limit-words-are (Numbers least most) h = absurd cc
+limit-words-are (Numbers least most) h =
+    let both = and_parts (nat_le least greatest) (nat_le most greatest) h in
+    and_from (is_word (decimal least)) (is_word (decimal most) && true) (decimal-is least both.0)
+    (and_from (is_word (decimal most)) true (decimal-is most both.1) refl)
+limit-words-are (Schemes schemes) h = h
+limit-words-are (Prefixed form prefix) h = and_from (is_word prefix) true h refl
 
 abbrev Limits : Type 0
-Limits = List (Option (List ℕ) × (List ℕ × Limit))
+Limits = List LimitParts
+
+-- the bounds of a number are read from their digits
+numbers-back : (least most : ℕ) → nat_le least greatest ≡ true → nat_le most greatest ≡ true
+    → limit_by kind.Number (decimal least ∷ decimal most ∷ []) ≡ Ok (Numbers least most)
+numbers-back least most h k =
+    ap (λ number. bounds number (number_of (decimal most))) (number-back least h) ∙ ap (bounds (Some least)) (number-back most k)
 
 limit-taken : (rules : Rules) (target : Option (List ℕ)) (attribute : List ℕ) (limit : Limit) → is_target_writable target ≡ true
     → is_limit_writable limit ≡ true
@@ -87,7 +107,23 @@ limit-taken rules target attribute (Parts words beginnings) t h =
     })) (wholes-back words beginnings both.0)
     ∙ ap (λ (begun : List (List ℕ)). Ok (record rules { limits = rules.limits ++ (target, (attribute, Parts words begun)) ∷ [] }))
     (beginnings-back words beginnings both.0))
-limit-taken rules target attribute (Numbers least most) t h = absurd cc
+limit-taken rules target attribute (Numbers least most) t h =
+    let both = and_parts (nat_le least greatest) (nat_le most greatest) h in
+    ap (with_one rules (target_of (target_word target)) attribute) (numbers-back least most both.0 both.1)
+    ∙ ap (λ (of : Option (List ℕ)). Ok (record rules { limits = rules.limits ++ (of, (attribute, Numbers least most)) ∷ [] }))
+    (target-back target t)
+limit-taken rules target attribute (Schemes schemes) t h =
+    ap (λ (of : Option (List ℕ)). Ok (record rules { limits = rules.limits ++ (of, (attribute, Schemes schemes)) ∷ [] }))
+    (target-back target t)
+limit-taken rules target attribute (Prefixed Name prefix) t h =
+    ap (λ (of : Option (List ℕ)). Ok (record rules { limits = rules.limits ++ (of, (attribute, Prefixed Name prefix)) ∷ [] }))
+    (target-back target t)
+limit-taken rules target attribute (Prefixed Names prefix) t h =
+    ap (λ (of : Option (List ℕ)). Ok (record rules { limits = rules.limits ++ (of, (attribute, Prefixed Names prefix)) ∷ [] }))
+    (target-back target t)
+limit-taken rules target attribute (Prefixed Link prefix) t h =
+    ap (λ (of : Option (List ℕ)). Ok (record rules { limits = rules.limits ++ (of, (attribute, Prefixed Link prefix)) ∷ [] }))
+    (target-back target t)
 
 limits-read : (limits : Limits) (rules : Rules) → list_all is_value_rule_writable limits ≡ true
     → Reads (texts_of limit_text limits) rules (record rules { limits = rules.limits ++ limits })

@@ -2,9 +2,10 @@
 use Rattle.std.specs.Prelude.{◌≡◌, ℕ, true, List, [], ◌∷◌, ◌++◌, None, Some, Result, Ok, Err, codes, map}
 use Rattle.html_policy_text.specs.PolicyText.{policy_rules}
 use Rattle.html_policy_text.specs.Rules.{Rules, no_rules}
-use Rattle.html_policy_text.specs.Rules.Limit.{Parts, Texts}
+use Rattle.html_clean.specs.Limits.Limit.{Numbers, Parts, Prefixed, Schemes, Texts}
+use Rattle.html_clean.specs.declared.policy.IdForm.TheVariants.{Name, Names, Link}
 use Rattle.html_policy_text.specs.declared.rules.Problem.{Problem}
-use Rattle.html_policy_text.specs.declared.rules.Problem.TheVariants.{UnknownRule, WrongWords}
+use Rattle.html_policy_text.specs.declared.rules.Problem.TheVariants.{UnknownRule, WrongNumber, WrongWords}
 
 abbrev pub policy_rows : List (List ℕ × Result Rules (ℕ × Problem))
 policy_rows =
@@ -23,6 +24,32 @@ policy_rows =
             (None, (codes "dir", Texts (codes "ltr" ∷ codes "rtl" ∷ []))) ∷ [];
       }),
     )
+    ∷ (
+      codes "schemes-for a href https mailto tel",
+      Ok (record no_rules {
+        limits = (Some (codes "a"), (codes "href", Schemes (codes "https" ∷ codes "mailto" ∷ codes "tel" ∷ []))) ∷ [];
+      }),
+    )
+    ∷ (
+      codes "number ol start 0 9999" ++ 10 ∷ codes "number * colspan 007 99999999999",
+      Ok (record no_rules {
+        limits = (Some (codes "ol"), (codes "start", Numbers 0 9999)) ∷ (None, (codes "colspan", Numbers 7 4294967295)) ∷ [];
+      }),
+    )
+    ∷ (
+      codes "prefix * id user-" ++ 10 ∷ codes "prefix-words td headers user-" ++ 10 ∷ codes "prefix-link a href user-",
+      Ok (record no_rules {
+        limits = (None, (codes "id", Prefixed Name (codes "user-"))) ∷
+            (Some (codes "td"), (codes "headers", Prefixed Names (codes "user-"))) ∷
+            (Some (codes "a"), (codes "href", Prefixed Link (codes "user-"))) ∷ [];
+      }),
+    )
+    ∷ (codes "prefix * id", Err (1, WrongWords))
+    ∷ (codes "prefix-link a href user- x", Err (1, WrongWords))
+    ∷ (codes "number ol start 0", Err (1, WrongWords))
+    ∷ (codes "number ol start 0 1 2", Err (1, WrongWords))
+    ∷ (codes "number ol start -1 1", Err (1, WrongNumber))
+    ∷ (codes "number ol start 0 many", Err (1, WrongNumber))
     ∷ (
       codes "add a rel nofollow noopener" ++ 10 ∷ codes "add input disabled",
       Ok (record no_rules {

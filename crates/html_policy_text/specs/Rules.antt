@@ -1,32 +1,22 @@
 -- What the rules of a policy say, and what a rule more makes of them.
-use Rattle.std.specs.Prelude.{ℕ, Bool, true, false, cond, nat_eq, List, [], ◌∷◌, ◌++◌, map, Option, Some, None, Result, Ok, Err, codes}
+use Rattle.std.specs.Prelude.{ℕ, Bool, true, false, cond, List, [], ◌∷◌, ◌++◌, map, Option, Some, None, Result, Ok, Err, codes}
+use Rattle.std.specs.Char.{is_ascii_digit}
+use Rattle.std.specs.List.{fold, list_all}
 use Rattle.std.specs.Str.{bytes_eq}
 use Rattle.html_clean.specs.Ready.{addition_parts, rule_names}
-use Rattle.html_clean.specs.Values.{joined_after}
-use Rattle.html_clean.specs.declared.policy.Allowed.{Allowed}
-use Rattle.html_clean.specs.declared.policy.Allowed.TheVariants as allowed
+use Rattle.html_clean.specs.Values.{after_sign, joined_after, with_digit}
+use Rattle.html_clean.specs.Limits.{Limit, LimitParts, limit_parts}
+use Rattle.html_clean.specs.Limits.Limit.{Numbers, Parts, Prefixed, Schemes, Texts}
+use Rattle.html_clean.specs.declared.policy.IdForm.{IdForm}
+use Rattle.html_clean.specs.declared.policy.IdForm.TheVariants.{Name, Names, Link}
 use Rattle.html_clean.specs.declared.policy.Policy.{Policy}
-use Rattle.html_clean.specs.declared.policy.ValueRule.{ValueRule}
 use Rattle.html_policy_text.specs.declared.rules.Keyword.{Keyword}
-use Rattle.html_policy_text.specs.declared.rules.Keyword.TheVariants.{Keep, Drop, Attribute, Beginning, Url, Scheme, Words, OneOf, Add}
+use Rattle.html_policy_text.specs.declared.rules.Keyword.TheVariants.{Keep, Drop, Attribute, Beginning, Url, Scheme, Values, Add}
 use Rattle.html_policy_text.specs.declared.rules.Keyword.TheVariants.{Relative, Host}
+use Rattle.html_policy_text.specs.declared.rules.LimitKind.{LimitKind}
+use Rattle.html_policy_text.specs.declared.rules.LimitKind.TheVariants as kind
 use Rattle.html_policy_text.specs.declared.rules.Problem.{Problem}
-use Rattle.html_policy_text.specs.declared.rules.Problem.TheVariants.{UnknownRule, WrongWords}
-
--- what a value may be: one of some texts, or words that are listed or begin so
-pub data Limit : Type 0 where
-  Texts : List (List ℕ) → Limit
-  Parts : List (List ℕ) → List (List ℕ) → Limit
-  Numbers : ℕ → ℕ → Limit
-
-abbrev pub limit_of : Allowed → Limit
-limit_of (allowed.OneOf texts) = Texts texts.items
-limit_of (allowed.Words words beginnings) = Parts words.items beginnings.items
-limit_of (allowed.Number least most) = Numbers least most
-
--- the element, if it is for one, the attribute, and what its value may be
-abbrev pub limit_parts : ValueRule → Option (List ℕ) × (List ℕ × Limit)
-limit_parts rule = (rule.element, (rule.attribute, limit_of rule.allowed))
+use Rattle.html_policy_text.specs.declared.rules.Problem.TheVariants.{UnknownRule, WrongNumber, WrongWords}
 
 -- a policy, as lists
 pub record Rules : Type 0 where
@@ -34,7 +24,7 @@ pub record Rules : Type 0 where
   pub dropped : List (List ℕ)
   pub everywhere : List (List ℕ)
   pub beginnings : List (List ℕ)
-  pub limits : List (Option (List ℕ) × (List ℕ × Limit))
+  pub limits : List LimitParts
   pub added : List (List ℕ × (List ℕ × List ℕ))
   pub urls : List (List ℕ)
   pub schemes : List (List ℕ)
@@ -73,12 +63,22 @@ no_rules = record {
 -- the rule that a word begins
 abbrev pub keyword_of : List ℕ → Option Keyword
 keyword_of word =
-    cond (bytes_eq word (codes "keep")) (Some Keep) (cond (bytes_eq word (codes "drop")) (Some Drop)
-    (cond (bytes_eq word (codes "attribute")) (Some Attribute) (cond (bytes_eq word (codes "beginning")) (Some Beginning)
-    (cond (bytes_eq word (codes "url")) (Some Url) (cond (bytes_eq word (codes "scheme")) (Some Scheme)
-    (cond (bytes_eq word (codes "words")) (Some Words) (cond (bytes_eq word (codes "one-of")) (Some OneOf)
-    (cond (bytes_eq word (codes "add")) (Some Add) (cond (bytes_eq word (codes "relative")) (Some Relative)
-    (cond (bytes_eq word (codes "host")) (Some Host) None))))))))))
+    cond (bytes_eq word (codes "keep")) (Some Keep)
+    (cond (bytes_eq word (codes "drop")) (Some Drop)
+    (cond (bytes_eq word (codes "attribute")) (Some Attribute)
+    (cond (bytes_eq word (codes "beginning")) (Some Beginning)
+    (cond (bytes_eq word (codes "url")) (Some Url)
+    (cond (bytes_eq word (codes "scheme")) (Some Scheme)
+    (cond (bytes_eq word (codes "words")) (Some (Values kind.Words))
+    (cond (bytes_eq word (codes "one-of")) (Some (Values kind.OneOf))
+    (cond (bytes_eq word (codes "schemes-for")) (Some (Values kind.Schemes))
+    (cond (bytes_eq word (codes "number")) (Some (Values kind.Number))
+    (cond (bytes_eq word (codes "prefix")) (Some (Values (kind.Prefix Name)))
+    (cond (bytes_eq word (codes "prefix-words")) (Some (Values (kind.Prefix Names)))
+    (cond (bytes_eq word (codes "prefix-link")) (Some (Values (kind.Prefix Link)))
+    (cond (bytes_eq word (codes "add")) (Some Add)
+    (cond (bytes_eq word (codes "relative")) (Some Relative)
+    (cond (bytes_eq word (codes "host")) (Some Host) None)))))))))))))))
 
 -- `keep`, an element and its attributes
 abbrev pub with_kept : Rules → List (List ℕ) → Result Rules Problem
@@ -91,8 +91,7 @@ target_of word = cond (bytes_eq word (codes "*")) None (Some word)
 
 -- what follows "^" in front of a word
 abbrev pub after_mark : List ℕ → Option (List ℕ)
-after_mark [] = None
-after_mark (c ∷ cs) = cond (nat_eq c 94) (Some cs) None
+after_mark word = after_sign 94 word
 
 -- words without that sign, and what follows it in the others
 abbrev pub whole_if : Option (List ℕ) → List ℕ → List (List ℕ)
@@ -111,21 +110,45 @@ abbrev pub word_beginnings : List (List ℕ) → List (List ℕ)
 word_beginnings [] = []
 word_beginnings (word ∷ words) = beginning_if (after_mark word) ++ word_beginnings words
 
--- `words`, an element or `*`, an attribute, and words, or beginnings of words after "^"
-abbrev pub with_words : Rules → List (List ℕ) → Result Rules Problem
-with_words rules [] = Err WrongWords
-with_words rules (element ∷ []) = Err WrongWords
-with_words rules (element ∷ (attribute ∷ words)) = Ok (record rules {
-  limits = rules.limits ++ (target_of element, (attribute, Parts (whole_words words) (word_beginnings words))) ∷ [];
-})
+-- the number that a word is in ASCII digits; one of more than 32 bits is the greatest of 32 bits
+abbrev pub number_of : List ℕ → Option ℕ
+number_of word = cond (list_all is_ascii_digit word) (Some (fold with_digit 0 word)) None
 
--- `one-of`, an element or `*`, an attribute, and texts
-abbrev pub with_texts : Rules → List (List ℕ) → Result Rules Problem
-with_texts rules [] = Err WrongWords
-with_texts rules (element ∷ []) = Err WrongWords
-with_texts rules (element ∷ (attribute ∷ texts)) = Ok (record rules {
-  limits = rules.limits ++ (target_of element, (attribute, Texts texts)) ∷ [];
-})
+-- the least and the most that a number may be
+abbrev pub bounds : Option ℕ → Option ℕ → Result Limit Problem
+bounds (Some least) (Some most) = Ok (Numbers least most)
+bounds None most = Err WrongNumber
+bounds (Some least) None = Err WrongNumber
+
+abbrev pub numbers_by : List (List ℕ) → Result Limit Problem
+numbers_by [] = Err WrongWords
+numbers_by (least ∷ []) = Err WrongWords
+numbers_by (least ∷ (most ∷ [])) = bounds (number_of least) (number_of most)
+numbers_by (least ∷ (most ∷ (word ∷ words))) = Err WrongWords
+
+abbrev pub prefix_by : IdForm → List (List ℕ) → Result Limit Problem
+prefix_by form [] = Err WrongWords
+prefix_by form (prefix ∷ []) = Ok (Prefixed form prefix)
+prefix_by form (prefix ∷ (word ∷ words)) = Err WrongWords
+
+-- what a value may be, by words: words, or beginnings of words after "^"; texts; schemes; two numbers; or a prefix
+abbrev pub limit_by : LimitKind → List (List ℕ) → Result Limit Problem
+limit_by kind.Words words = Ok (Parts (whole_words words) (word_beginnings words))
+limit_by kind.OneOf texts = Ok (Texts texts)
+limit_by kind.Schemes schemes = Ok (Schemes schemes)
+limit_by kind.Number words = numbers_by words
+limit_by (kind.Prefix form) words = prefix_by form words
+
+-- rules with one more for values
+abbrev pub limited : Rules → Option (List ℕ) → List ℕ → Result Limit Problem → Result Rules Problem
+limited rules target attribute (Err problem) = Err problem
+limited rules target attribute (Ok limit) = Ok (record rules { limits = rules.limits ++ (target, (attribute, limit)) ∷ [] })
+
+-- `words`, `one-of` or another such word, an element or `*`, an attribute, and what its value may be
+abbrev pub with_limit : LimitKind → Rules → List (List ℕ) → Result Rules Problem
+with_limit of rules [] = Err WrongWords
+with_limit of rules (element ∷ []) = Err WrongWords
+with_limit of rules (element ∷ (attribute ∷ words)) = limited rules (target_of element) attribute (limit_by of words)
 
 -- `add`, an element, an attribute, and the words of its value
 abbrev pub with_added : Rules → List (List ℕ) → Result Rules Problem
@@ -153,8 +176,7 @@ with_rule (Some Attribute) rules words = if_some words (record rules { everywher
 with_rule (Some Beginning) rules words = if_some words (record rules { beginnings = rules.beginnings ++ words })
 with_rule (Some Url) rules words = if_some words (record rules { urls = rules.urls ++ words })
 with_rule (Some Scheme) rules words = if_some words (record rules { schemes = rules.schemes ++ words })
-with_rule (Some Words) rules words = with_words rules words
-with_rule (Some OneOf) rules words = with_texts rules words
+with_rule (Some (Values of)) rules words = with_limit of rules words
 with_rule (Some Add) rules words = with_added rules words
 with_rule (Some Relative) rules words = if_none words (record rules { relative = true })
 with_rule (Some Host) rules words = if_none words (record rules { hosts = true })

@@ -1,13 +1,16 @@
 -- A policy written as text, and which policies can be.
-use Rattle.std.specs.Prelude.{◌≡◌, ℕ, Bool, true, false, ◌&&◌, not, ◌==◌, List, [], ◌∷◌, ◌++◌, length, map, codes}
+use Rattle.std.specs.Prelude.{◌≡◌, ℕ, Bool, true, false, ◌&&◌, nat_le, not, ◌==◌, List, [], ◌∷◌, ◌++◌, length, map, codes}
 use Rattle.std.specs.Prelude.{Option, Some, None, is_none, Ok}
 use Rattle.std.specs.Char.{is_ascii_whitespace}
+use Rattle.std.specs.Fmt.{decimal}
 use Rattle.std.specs.List.{list_all}
 use Rattle.std.specs.Str.{bytes_eq}
-use Rattle.html_clean.specs.Values.{joined_after, words_of}
+use Rattle.html_clean.specs.Values.{greatest, joined_after, words_of}
 use Rattle.html_policy_text.specs.PolicyText.{policy_rules}
-use Rattle.html_policy_text.specs.Rules.{Limit, Rules, after_mark}
-use Rattle.html_policy_text.specs.Rules.Limit.{Numbers, Parts, Texts}
+use Rattle.html_clean.specs.Limits.{Limit, LimitParts}
+use Rattle.html_clean.specs.Limits.Limit.{Numbers, Parts, Prefixed, Schemes, Texts}
+use Rattle.html_clean.specs.declared.policy.IdForm.TheVariants.{Name, Names, Link}
+use Rattle.html_policy_text.specs.Rules.{Rules, after_mark}
 use Rattle.html_policy_text.specs.declared.writing.WriteFault.{WriteFault}
 use Rattle.html_policy_text.specs.declared.writing.WriteFault.TheVariants.{Memory, Unwritable}
 
@@ -42,7 +45,11 @@ target_word (Some name) = name
 abbrev pub limit_keyword : Limit → List ℕ
 limit_keyword (Texts texts) = codes "one-of"
 limit_keyword (Parts words beginnings) = codes "words"
-limit_keyword (Numbers least most) = []
+limit_keyword (Numbers least most) = codes "number"
+limit_keyword (Schemes schemes) = codes "schemes-for"
+limit_keyword (Prefixed Name prefix) = codes "prefix"
+limit_keyword (Prefixed Names prefix) = codes "prefix-words"
+limit_keyword (Prefixed Link prefix) = codes "prefix-link"
 
 -- a beginning of words
 abbrev pub marked : List ℕ → List ℕ
@@ -51,9 +58,11 @@ marked beginning = 94 ∷ beginning
 abbrev pub limit_words : Limit → List (List ℕ)
 limit_words (Texts texts) = texts
 limit_words (Parts words beginnings) = words ++ map marked beginnings
-limit_words (Numbers least most) = []
+limit_words (Numbers least most) = decimal least ∷ decimal most ∷ []
+limit_words (Schemes schemes) = schemes
+limit_words (Prefixed form prefix) = prefix ∷ []
 
-abbrev pub limit_text : Option (List ℕ) × (List ℕ × Limit) → List ℕ
+abbrev pub limit_text : LimitParts → List ℕ
 limit_text limit = line_of (limit_keyword limit.1.1) (target_word limit.0 ∷ (limit.1.0 ∷ limit_words limit.1.1))
 
 abbrev pub addition_text : List ℕ × (List ℕ × List ℕ) → List ℕ
@@ -102,9 +111,11 @@ is_whole word = is_word word && is_none (after_mark word)
 abbrev pub is_limit_writable : Limit → Bool
 is_limit_writable (Texts texts) = list_all is_word texts
 is_limit_writable (Parts words beginnings) = list_all is_whole words && list_all (list_all is_solid) beginnings
-is_limit_writable (Numbers least most) = false
+is_limit_writable (Numbers least most) = nat_le least greatest && nat_le most greatest
+is_limit_writable (Schemes schemes) = list_all is_word schemes
+is_limit_writable (Prefixed form prefix) = is_word prefix
 
-abbrev pub is_value_rule_writable : Option (List ℕ) × (List ℕ × Limit) → Bool
+abbrev pub is_value_rule_writable : LimitParts → Bool
 is_value_rule_writable limit = is_target_writable limit.0 && (is_word limit.1.0 && is_limit_writable limit.1.1)
 
 -- words with a space between each two

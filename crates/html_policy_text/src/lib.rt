@@ -11,7 +11,6 @@ mod reading;
 mod ready;
 pub mod rows;
 mod rules;
-mod words;
 mod writable;
 mod writing;
 

@@ -1,16 +1,16 @@
 //! Rules for values, and attributes that are added.
-ghost use Rattle.std.specs.Prelude.{◌≡◌, ◌++◌, [], IfErr, IfOk, IfNone, IfSome, None, Some, OnOk, option_map};
+ghost use Rattle.std.specs.Prelude.{◌≡◌, ◌++◌, IfErr, IfOk, IfNone, IfSome, None, Ok, Some, OnOk, option_map};
 ghost use Rattle.std.specs.Str.{chars};
-ghost use Rattle.html_clean.specs.Values.{joined_after, with_word};
+ghost use Rattle.html_clean.specs.Limits.{limit_of};
+ghost use Rattle.html_clean.specs.Limits.Limit.{Parts, Schemes, Texts};
 ghost use Rattle.markup.specs.declared.fault.ParseFault.TheVariants.{Memory};
-ghost use Rattle.html_policy_text.specs.PolicyText.{IsApplied};
-ghost use Rattle.html_policy_text.specs.Rules.{after_mark, beginning_if, limit_of, rules_of, target_of, whole_if, whole_words};
-ghost use Rattle.html_policy_text.specs.Rules.{with_added, with_texts, with_words, word_beginnings};
-ghost use Rattle.html_policy_text.specs.Rules.Limit.{Parts, Texts};
+ghost use Rattle.html_policy_text.specs.PolicyText.{IsApplied, IsRefused};
+ghost use Rattle.html_policy_text.specs.Rules.{after_mark, beginning_if, bounds, limit_by, number_of, numbers_by, prefix_by, rules_of};
+ghost use Rattle.html_policy_text.specs.Rules.{target_of, whole_if, whole_words, with_added, with_limit, word_beginnings};
 
 use crate::lists::push_texts;
-use crate::rules::{Problem, RuleFault, or_memory};
-use html_clean::{Allowed, Policy};
+use crate::rules::{LimitKind, Problem, RuleFault, or_memory};
+use html_clean::{Allowed, IdForm, Policy, after_sign, joined, number};
 use markup::{ParseFault, Text};
 use std::alloc::Global;
 
@@ -30,11 +30,7 @@ pub(crate) fn after_mark(word: &str) -> Option<&str>
     ensures some { IfSome result (λ rest. after_mark (chars word.now) ≡ Some (chars rest.now)) }
     ensures none { IfNone result (after_mark (chars word.now) ≡ None) }
 {
-    let mut characters = word.chars();
-    match characters.next() {
-        Some(c) if c == '^' => Some(characters.as_str()),
-        _ => None,
-    }
+    after_sign('^', word)
 }
 
 /// Puts a word among the words, or among the beginnings.
@@ -78,13 +74,87 @@ fn texts_of(alloc: Global, list: &[Text]) -> Result<Allowed, ParseFault>
     Ok(Allowed::OneOf(texts))
 }
 
-/// `words`, an element or `*`, an attribute, and words, or beginnings of words after "^".
-pub(crate) fn limit_words(
+/// The schemes that a URL may have.
+fn schemes_of(alloc: Global, list: &[Text]) -> Result<Allowed, ParseFault>
+    ensures ok { IfOk result (λ allowed. limit_of allowed ≡ Schemes list.now) }
+    ensures fault { IfErr result (λ fault. fault ≡ Memory) }
+{
+    let mut schemes = Vec::new(alloc);
+    push_texts(alloc, &mut schemes, list)?;
+    Ok(Allowed::Schemes(schemes))
+}
+
+/// The number that a word is in digits.
+fn number_of(word: &Text) -> Option<u32>
+    ensures { result ≡ number_of word.now }
+{
+    number(word.as_str())
+}
+
+/// A number from the least to the most.
+fn bounds(least: Option<u32>, most: Option<u32>) -> Result<Allowed, RuleFault>
+    ensures ok { IfOk result (λ allowed. bounds least most ≡ Ok (limit_of allowed)) }
+    ensures err { IfErr result (λ fault. IsRefused fault (bounds least most)) }
+{
+    match (least, most) {
+        (Some(least), Some(most)) => Ok(Allowed::Number { least, most }),
+        _ => Err(RuleFault::Problem(Problem::WrongNumber)),
+    }
+}
+
+/// A number from the first of two words to the second.
+fn numbers_of(words: &[Text]) -> Result<Allowed, RuleFault>
+    ensures ok { IfOk result (λ allowed. numbers_by words.now ≡ Ok (limit_of allowed)) }
+    ensures err { IfErr result (λ fault. IsRefused fault (numbers_by words.now)) }
+{
+    let Some((least, after)) = words.split_first() else {
+        return Err(RuleFault::Problem(Problem::WrongWords));
+    };
+    let Some((most, more)) = after.split_first() else {
+        return Err(RuleFault::Problem(Problem::WrongWords));
+    };
+    if !more.is_empty() {
+        return Err(RuleFault::Problem(Problem::WrongWords));
+    }
+    bounds(number_of(least), number_of(most))
+}
+
+/// Names with a prefix, by the only word.
+fn prefix_of(alloc: Global, form: IdForm, words: &[Text]) -> Result<Allowed, RuleFault>
+    ensures ok { IfOk result (λ allowed. prefix_by form words.now ≡ Ok (limit_of allowed)) }
+    ensures err { IfErr result (λ fault. IsRefused fault (prefix_by form words.now)) }
+{
+    let Some((prefix, more)) = words.split_first() else {
+        return Err(RuleFault::Problem(Problem::WrongWords));
+    };
+    if !more.is_empty() {
+        return Err(RuleFault::Problem(Problem::WrongWords));
+    }
+    or_memory(Allowed::prefixed(alloc, form, prefix.as_str()))
+}
+
+/// What a value may be, by the words of a rule.
+fn allowed_of(alloc: Global, kind: LimitKind, words: &[Text]) -> Result<Allowed, RuleFault>
+    ensures ok { IfOk result (λ allowed. limit_by kind words.now ≡ Ok (limit_of allowed)) }
+    ensures err { IfErr result (λ fault. IsRefused fault (limit_by kind words.now)) }
+{
+    match kind {
+        LimitKind::Words => or_memory(parts_of(alloc, words)),
+        LimitKind::OneOf => or_memory(texts_of(alloc, words)),
+        LimitKind::Schemes => or_memory(schemes_of(alloc, words)),
+        LimitKind::Number => numbers_of(words),
+        LimitKind::Prefix(form) => prefix_of(alloc, form, words),
+    }
+}
+
+/// A rule for values: an element or `*`, an attribute, and what its value may be.
+pub(crate) fn limit(
     alloc: Global,
     policy: &mut Policy,
+    kind: LimitKind,
     words: &[Text],
 ) -> Result<(), RuleFault>
-    ensures { IsApplied result (rules_of policy.new) (with_words (rules_of policy.old) words.now) }
+    ensures { IsApplied result (rules_of policy.new) (with_limit kind (rules_of policy.old) words.now) }
 {
     let Some((element, after)) = words.split_first() else {
         return Err(RuleFault::Problem(Problem::WrongWords));
@@ -92,53 +162,8 @@ pub(crate) fn limit_words(
     let Some((attribute, list)) = after.split_first() else {
         return Err(RuleFault::Problem(Problem::WrongWords));
     };
-    let Ok(allowed) = parts_of(alloc, list) else {
-        return Err(RuleFault::Memory);
-    };
+    let allowed = allowed_of(alloc, kind, list)?;
     or_memory(policy.limit(alloc, target_of(element), attribute.as_str(), allowed))
-}
-
-/// `one-of`, an element or `*`, an attribute, and texts.
-pub(crate) fn limit_texts(
-    alloc: Global,
-    policy: &mut Policy,
-    words: &[Text],
-) -> Result<(), RuleFault>
-    ensures { IsApplied result (rules_of policy.new) (with_texts (rules_of policy.old) words.now) }
-{
-    let Some((element, after)) = words.split_first() else {
-        return Err(RuleFault::Problem(Problem::WrongWords));
-    };
-    let Some((attribute, list)) = after.split_first() else {
-        return Err(RuleFault::Problem(Problem::WrongWords));
-    };
-    let Ok(allowed) = texts_of(alloc, list) else {
-        return Err(RuleFault::Memory);
-    };
-    or_memory(policy.limit(alloc, target_of(element), attribute.as_str(), allowed))
-}
-
-/// Puts a word after a text, and a space between the two.
-fn push_word(text: &mut Text, word: &Text) -> Result<(), ParseFault>
-    ensures ok { OnOk result (text.new ≡ with_word text.old word.now) }
-    ensures fault { IfErr result (λ fault. fault ≡ Memory) }
-{
-    if !text.is_empty() {
-        text.push(' ')?;
-    }
-    text.push_str(word.as_str())
-}
-
-/// Words with a space between each two.
-pub(crate) fn joined(alloc: Global, words: &[Text]) -> Result<Text, ParseFault>
-    ensures ok { IfOk result (λ text. text ≡ joined_after [] words.now) }
-    ensures fault { IfErr result (λ fault. fault ≡ Memory) }
-{
-    let mut text = Text::empty(alloc);
-    for word in words {
-        push_word(&mut text, word)?;
-    }
-    Ok(text)
 }
 
 /// `add`, an element, an attribute, and the words of its value.

@@ -6,8 +6,7 @@ ghost use Rattle.html_clean.specs.Values.{words_of};
 ghost use Rattle.std.specs.Str.{chars};
 
 use crate::rules::{Problem, RuleFault, apply_line};
-use crate::words::words_of;
-use html_clean::Policy;
+use html_clean::{Policy, words_of};
 use std::alloc::{AllocError, Global};
 use thiserror::Error;
 

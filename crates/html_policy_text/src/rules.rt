@@ -4,9 +4,9 @@ ghost use Rattle.std.specs.Str.{chars};
 ghost use Rattle.html_policy_text.specs.PolicyText.{IsApplied, is_comment, or_memory, with_line};
 ghost use Rattle.html_policy_text.specs.Rules.{keyword_of, rules_of, with_rule};
 
-use crate::limits::{add, limit_texts, limit_words};
+use crate::limits::{add, limit};
 use crate::lists;
-use html_clean::Policy;
+use html_clean::{IdForm, Policy};
 use markup::{ParseFault, Text};
 use std::alloc::Global;
 use thiserror::Error;
@@ -26,16 +26,29 @@ pub(crate) enum Keyword {
     Url,
     /// `scheme`
     Scheme,
-    /// `words`
-    Words,
-    /// `one-of`
-    OneOf,
+    /// A rule for values.
+    Values(LimitKind),
     /// `add`
     Add,
     /// `relative`
     Relative,
     /// `host`
     Host,
+}
+
+/// What a rule for values says of them.
+#[derive(Clone, Copy, Debug, PartialEq, Eq)]
+pub(crate) enum LimitKind {
+    /// `words`
+    Words,
+    /// `one-of`
+    OneOf,
+    /// `schemes-for`
+    Schemes,
+    /// `number`
+    Number,
+    /// `prefix`, `prefix-words` or `prefix-link`
+    Prefix(IdForm),
 }
 
 /// Why a line is refused.
@@ -47,6 +60,9 @@ pub enum Problem {
     /// Its rule takes fewer words, or more.
     #[error("the rule takes fewer words, or more")]
     WrongWords,
+    /// A word is not a number in digits.
+    #[error("a word is not a number in digits")]
+    WrongNumber,
 }
 
 /// Why a rule isn't taken.
@@ -57,11 +73,11 @@ pub(crate) enum RuleFault {
 }
 
 /// The same answer, as that of a rule.
-pub(crate) fn or_memory(answer: Result<(), ParseFault>) -> Result<(), RuleFault>
+pub(crate) fn or_memory<T>(answer: Result<T, ParseFault>) -> Result<T, RuleFault>
     ensures { result ≡ or_memory answer }
 {
     match answer {
-        Ok(()) => Ok(()),
+        Ok(made) => Ok(made),
         Err(_) => Err(RuleFault::Memory),
     }
 }
@@ -83,9 +99,19 @@ fn keyword_of(word: &Text) -> Option<Keyword>
     } else if word.is("scheme") {
         Some(Keyword::Scheme)
     } else if word.is("words") {
-        Some(Keyword::Words)
+        Some(Keyword::Values(LimitKind::Words))
     } else if word.is("one-of") {
-        Some(Keyword::OneOf)
+        Some(Keyword::Values(LimitKind::OneOf))
+    } else if word.is("schemes-for") {
+        Some(Keyword::Values(LimitKind::Schemes))
+    } else if word.is("number") {
+        Some(Keyword::Values(LimitKind::Number))
+    } else if word.is("prefix") {
+        Some(Keyword::Values(LimitKind::Prefix(IdForm::Name)))
+    } else if word.is("prefix-words") {
+        Some(Keyword::Values(LimitKind::Prefix(IdForm::Names)))
+    } else if word.is("prefix-link") {
+        Some(Keyword::Values(LimitKind::Prefix(IdForm::Link)))
     } else if word.is("add") {
         Some(Keyword::Add)
     } else if word.is("relative") {
@@ -114,8 +140,7 @@ fn apply_rule(
         Some(Keyword::Beginning) => lists::keep_beginnings(alloc, policy, words),
         Some(Keyword::Url) => lists::name_urls(alloc, policy, words),
         Some(Keyword::Scheme) => lists::allow_schemes(alloc, policy, words),
-        Some(Keyword::Words) => limit_words(alloc, policy, words),
-        Some(Keyword::OneOf) => limit_texts(alloc, policy, words),
+        Some(Keyword::Values(kind)) => limit(alloc, policy, kind, words),
         Some(Keyword::Add) => add(alloc, policy, words),
         Some(Keyword::Relative) => lists::allow_relative(policy, words),
         Some(Keyword::Host) => lists::allow_hosts(policy, words),

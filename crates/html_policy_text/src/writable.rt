@@ -4,13 +4,13 @@ ghost use Rattle.std.specs.List.{list_all};
 ghost use Rattle.std.specs.Str.{chars};
 ghost use Rattle.html_clean.specs.Ready.{addition_parts, rule_names};
 ghost use Rattle.markup.specs.declared.fault.ParseFault.TheVariants.{Memory};
-ghost use Rattle.html_policy_text.specs.Rules.{limit_of, limit_parts, rules_of};
+ghost use Rattle.html_clean.specs.Limits.{limit_of, limit_parts};
+ghost use Rattle.html_policy_text.specs.Rules.{rules_of};
 ghost use Rattle.html_policy_text.specs.Written.{are_lists_writable, is_addition_writable, is_limit_writable, is_rule_writable, is_solid};
 ghost use Rattle.html_policy_text.specs.Written.{is_target_writable, is_value, is_value_rule_writable, is_whole, is_word, is_writable};
 
-use crate::limits::{after_mark, joined};
-use crate::words::words_of;
-use html_clean::{Addition, Allowed, Policy, Rule, ValueRule};
+use crate::limits::after_mark;
+use html_clean::{Addition, Allowed, Policy, Rule, ValueRule, joined, words_of};
 use markup::{LocalName, ParseFault, Text};
 use std::alloc::Global;
 
@@ -108,7 +108,10 @@ fn is_limit_writable(allowed: &Allowed) -> bool
     match allowed {
         Allowed::OneOf(texts) => are_words(texts),
         Allowed::Words { words, beginnings } => are_whole(words) && are_solid(beginnings),
-        Allowed::Number { .. } => false,
+        // Always so of 32 bits; the definition is of all numbers.
+        Allowed::Number { least, most } => *least <= u32::MAX && *most <= u32::MAX,
+        Allowed::Schemes(schemes) => are_words(schemes),
+        Allowed::Prefixed { prefix, .. } => is_word(prefix),
     }
 }
 

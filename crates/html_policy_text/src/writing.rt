@@ -1,17 +1,19 @@
 //! A policy as text.
-ghost use Rattle.std.specs.Prelude.{◌≡◌, ◌++◌, ◌∷◌, [], IfErr, IfOk, Ok, OnOk, codes, map};
+ghost use Rattle.std.specs.Prelude.{◌≡◌, ◌++◌, ◌∷◌, [], List, ℕ, IfErr, IfOk, Ok, OnOk, codes, map};
+ghost use Rattle.std.specs.Fmt.{decimal};
 ghost use Rattle.std.specs.Str.{chars};
 ghost use Rattle.html_clean.specs.Ready.{addition_parts, rule_names};
 ghost use Rattle.markup.specs.declared.fault.ParseFault.TheVariants.{Memory};
 ghost use Rattle.html_policy_text.specs.PolicyText.{policy_rules};
-ghost use Rattle.html_policy_text.specs.Rules.{limit_of, limit_parts, rules_of};
+ghost use Rattle.html_clean.specs.Limits.{limit_of, limit_parts};
+ghost use Rattle.html_clean.specs.Limits.Limit.{Prefixed};
+ghost use Rattle.html_policy_text.specs.Rules.{rules_of};
 ghost use Rattle.html_policy_text.specs.Written.{IsUnwritten, addition_text, flag_text, is_writable, limit_keyword, limit_text};
 ghost use Rattle.html_policy_text.specs.Written.{limit_words};
 ghost use Rattle.html_policy_text.specs.Written.{line_of, list_text, marked, policy_text, rule_text, spaced, target_word, texts_of};
 
-use crate::words::words_of;
 use crate::writable::is_writable;
-use html_clean::{Addition, Allowed, Policy, Rule, ValueRule};
+use html_clean::{Addition, Allowed, IdForm, Policy, Rule, ValueRule, words_of};
 use markup::{LocalName, ParseFault, Text};
 use std::alloc::Global;
 use thiserror::Error;
@@ -128,6 +130,17 @@ fn target_word(target: &Option<LocalName>) -> &str
     }
 }
 
+/// The first word of a rule for names with a prefix.
+fn prefix_keyword(form: IdForm) -> &'static str
+    ensures { (prefix : List ℕ) → chars result.now ≡ limit_keyword (Prefixed form prefix) }
+{
+    match form {
+        IdForm::Name => "prefix",
+        IdForm::Names => "prefix-words",
+        IdForm::Link => "prefix-link",
+    }
+}
+
 /// The first word of a rule for values.
 fn limit_keyword(allowed: &Allowed) -> &'static str
     ensures { chars result.now ≡ limit_keyword (limit_of allowed.now) }
@@ -135,7 +148,9 @@ fn limit_keyword(allowed: &Allowed) -> &'static str
     match allowed {
         Allowed::OneOf(_) => "one-of",
         Allowed::Words { .. } => "words",
-        Allowed::Number { .. } => "",
+        Allowed::Number { .. } => "number",
+        Allowed::Schemes(_) => "schemes-for",
+        Allowed::Prefixed { form, .. } => prefix_keyword(*form),
     }
 }
 
@@ -161,37 +176,65 @@ fn push_parts(text: &mut Text, words: &[Text], beginnings: &[Text]) -> Result<()
     push_beginnings(text, beginnings)
 }
 
+/// Writes a number in digits, after a space.
+fn push_number(alloc: Global, text: &mut Text, n: u32) -> Result<(), ParseFault>
+    ensures ok { OnOk result (text.new ≡ text.old ++ 32 ∷ decimal n) }
+    ensures fault { IfErr result (λ fault. fault ≡ Memory) }
+{
+    let digits = n.to_string(alloc)?;
+    push_spaced(text, digits.as_str())
+}
+
+/// Writes two numbers, each after a space.
+fn push_numbers(alloc: Global, text: &mut Text, least: u32, most: u32) -> Result<(), ParseFault>
+    ensures ok { OnOk result (text.new ≡ text.old ++ spaced (decimal least ∷ decimal most ∷ [])) }
+    ensures fault { IfErr result (λ fault. fault ≡ Memory) }
+{
+    push_number(alloc, text, least)?;
+    push_number(alloc, text, most)
+}
+
+/// Writes one word, after a space.
+fn push_one(text: &mut Text, word: &Text) -> Result<(), ParseFault>
+    ensures ok { OnOk result (text.new ≡ text.old ++ spaced (word.now ∷ [])) }
+    ensures fault { IfErr result (λ fault. fault ≡ Memory) }
+{
+    push_spaced(text, word.as_str())
+}
+
 /// Writes what a value may be, each word after a space.
-fn push_allowed(text: &mut Text, allowed: &Allowed) -> Result<(), ParseFault>
+fn push_allowed(alloc: Global, text: &mut Text, allowed: &Allowed) -> Result<(), ParseFault>
     ensures ok { OnOk result (text.new ≡ text.old ++ spaced (limit_words (limit_of allowed.now))) }
     ensures fault { IfErr result (λ fault. fault ≡ Memory) }
 {
     match allowed {
         Allowed::OneOf(texts) => push_words(text, texts),
         Allowed::Words { words, beginnings } => push_parts(text, words, beginnings),
-        Allowed::Number { .. } => Ok(()),
+        Allowed::Number { least, most } => push_numbers(alloc, text, *least, *most),
+        Allowed::Schemes(schemes) => push_words(text, schemes),
+        Allowed::Prefixed { prefix, .. } => push_one(text, prefix),
     }
 }
 
 /// Writes the line of a rule for values.
-fn write_limit(text: &mut Text, rule: &ValueRule) -> Result<(), ParseFault>
+fn write_limit(alloc: Global, text: &mut Text, rule: &ValueRule) -> Result<(), ParseFault>
     ensures ok { OnOk result (text.new ≡ text.old ++ limit_text (limit_parts rule.now)) }
     ensures fault { IfErr result (λ fault. fault ≡ Memory) }
 {
     text.push_str(limit_keyword(&rule.allowed))?;
     push_spaced(text, target_word(&rule.element))?;
     push_spaced(text, rule.attribute.as_str())?;
-    push_allowed(text, &rule.allowed)?;
+    push_allowed(alloc, text, &rule.allowed)?;
     text.push('\n')
 }
 
 /// Writes the lines of all rules for values.
-fn write_limits(text: &mut Text, rules: &[ValueRule]) -> Result<(), ParseFault>
+fn write_limits(alloc: Global, text: &mut Text, rules: &[ValueRule]) -> Result<(), ParseFault>
     ensures ok { OnOk result (text.new ≡ text.old ++ texts_of limit_text (map limit_parts rules.now)) }
     ensures fault { IfErr result (λ fault. fault ≡ Memory) }
 {
     for rule in rules {
-        write_limit(text, rule)?;
+        write_limit(alloc, text, rule)?;
     }
     Ok(())
 }
@@ -231,7 +274,7 @@ fn write_lines(alloc: Global, policy: &Policy) -> Result<Text, ParseFault>
     write_names(&mut text, "drop", &policy.dropped)?;
     write_names(&mut text, "attribute", &policy.everywhere)?;
     write_words(&mut text, "beginning", &policy.beginnings)?;
-    write_limits(&mut text, &policy.values)?;
+    write_limits(alloc, &mut text, &policy.values)?;
     write_additions(alloc, &mut text, &policy.added)?;
     write_names(&mut text, "url", &policy.urls)?;
     write_words(&mut text, "scheme", &policy.schemes)?;
@@ -243,8 +286,8 @@ fn write_lines(alloc: Global, policy: &Policy) -> Result<Text, ParseFault>
 /// Writes a policy as text, one rule a line, from which [`read_policy`](crate::read_policy) reads the same rules.
 ///
 /// Errors: [`WriteFault::Unwritable`] where a name is empty or has white space, an element that a rule for values is for is called `*`,
-/// a word of such a rule begins with `^`, a rule limits a value to numbers, or the value of an attribute that is added is not of words
-/// with a space between each two; out of memory.
+/// a word of such a rule begins with `^`, or the value of an attribute that is added is not of words with a space between each two; out
+/// of memory.
 pub fn write_policy(alloc: Global, policy: &Policy) -> Result<Text, WriteFault>
     ensures ok { IfOk result (λ text. text ≡ policy_text (rules_of policy.now)) }
     ensures read { IfOk result (λ text. policy_rules text ≡ Ok (rules_of policy.now)) }

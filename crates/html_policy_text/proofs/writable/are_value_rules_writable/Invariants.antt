@@ -1,6 +1,6 @@
 use Rattle.std.proofs.Common.{◌≡◌, drop, map}
 use Rattle.std.specs.List.{list_all}
-use Rattle.html_policy_text.specs.Rules.{limit_parts}
+use Rattle.html_clean.specs.Limits.{limit_parts}
 use Rattle.html_policy_text.specs.Written.{is_value_rule_writable}
 use Rattle.html_policy_text.proofs.writable.are_value_rules_writable.Given as goal
 

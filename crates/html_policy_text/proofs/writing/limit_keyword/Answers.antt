@@ -1,7 +1,7 @@
-use Rattle.std.proofs.Common.{ap, sym}
+use Rattle.std.proofs.Common.{◌∙◌, ap, sym}
 use Rattle.std.specs.Str.{chars}
 use Rattle.html_clean.specs.declared.policy.Allowed.{Allowed}
-use Rattle.html_policy_text.specs.Rules.{limit_of}
+use Rattle.html_clean.specs.Limits.{limit_of}
 use Rattle.html_policy_text.specs.Written.{limit_keyword}
 use Rattle.html_policy_text.proofs.writing.limit_keyword.Goals as goal
 
@@ -16,3 +16,11 @@ returns-in-Words c = sym (ap (λ (a : Allowed). limit_keyword (limit_of a)) c.in
 pub returns-in-Number : goal.returns-in-Number
 unfolding chars
 returns-in-Number c = sym (ap (λ (a : Allowed). limit_keyword (limit_of a)) c.in-Number.is)
+
+pub returns-in-Schemes : goal.returns-in-Schemes
+unfolding chars
+returns-in-Schemes c = sym (ap (λ (a : Allowed). limit_keyword (limit_of a)) c.in-Schemes.is)
+
+pub returns-in-Prefixed : goal.returns-in-Prefixed
+returns-in-Prefixed c =
+    c.prefix_keyword.ensures c.in-Prefixed.prefix ∙ sym (ap (λ (a : Allowed). limit_keyword (limit_of a)) c.in-Prefixed.is)

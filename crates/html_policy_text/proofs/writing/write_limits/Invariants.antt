@@ -1,5 +1,5 @@
 use Rattle.std.proofs.Common.{◌≡◌, ◌++◌, drop, map}
-use Rattle.html_policy_text.specs.Rules.{limit_parts}
+use Rattle.html_clean.specs.Limits.{limit_parts}
 use Rattle.html_policy_text.specs.Written.{limit_text, texts_of}
 use Rattle.html_policy_text.proofs.writing.write_limits.Given as goal
 

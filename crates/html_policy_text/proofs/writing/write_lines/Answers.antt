@@ -5,7 +5,7 @@ use Rattle.html_clean.specs.Ready.{addition_parts, rule_names}
 use Rattle.html_clean.specs.declared.policy.Addition.{Addition}
 use Rattle.html_clean.specs.declared.policy.Rule.{Rule}
 use Rattle.html_clean.specs.declared.policy.ValueRule.{ValueRule}
-use Rattle.html_policy_text.specs.Rules.{limit_parts}
+use Rattle.html_clean.specs.Limits.{limit_parts}
 use Rattle.html_policy_text.specs.Written.{addition_text, flag_text, limit_text, list_text, rule_text, texts_of}
 use Rattle.html_policy_text.proofs.Writes.{piece-more}
 use Rattle.html_policy_text.proofs.writing.write_lines.Goals as goal
