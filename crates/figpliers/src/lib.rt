@@ -111,6 +111,7 @@ pub use html_tokenizer::TokenizerOpts;
 pub use html_tokens::states::RawKind;
 pub use html_walks::Step;
 pub use html_walks::Steps;
+pub use html_walks::height;
 pub use html_walks::walk;
 pub use markup::Attribute;
 pub use markup::Attributes;

@@ -3,31 +3,18 @@
 //! What it does is `figpliers_program`; here it gets its words, its files and its streams.
 #![tactic(auto)]
 
+mod arguments;
 mod output;
 
+use arguments::words;
 use figpliers::{StdSource, StdTarget, Target};
 use figpliers_program::{
     Disk, PageFault, Verdict, obey, output_of, report, report_unwritten, why_of,
 };
 use output::Output;
-use std::env;
 use std::fs::File;
-use std::io::{BufWriter, ErrorKind, Write};
+use std::io::{BufWriter, Write};
 use std::process::ExitCode;
-
-/// The words with which the program was started.
-fn words(rt: &HostRuntime) -> Result<Vec<String>, PageFault> {
-    match env::args(rt) {
-        Ok(arguments) => match arguments.collect(rt.alloc()) {
-            Ok(words) => Ok(words),
-            Err(_) => Err(PageFault::Memory),
-        },
-        Err(error) => match error.kind() {
-            ErrorKind::OutOfMemory => Err(PageFault::Memory),
-            _ => Err(PageFault::Words),
-        },
-    }
-}
 
 /// Does what the words ask for, and hands on what the writer still holds. Where what reads the output has closed it, the program is done.
 fn run<W: Write + Drop, Errors: Target>(

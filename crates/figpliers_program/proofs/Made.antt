@@ -14,29 +14,18 @@ use Rattle.html_pages.specs.declared.noted.NotedForest.{NotedForest}
 use Rattle.figpliers.specs.Puts.{WriterView}
 use Rattle.figpliers.specs.Table.{Row}
 use Rattle.figpliers_program.specs.Jobs.{IsMadeOf, IsWritten, has_several}
-use Rattle.figpliers_program.specs.Pages.{DocumentText, ErrorsText, NotedText, PageText, SelectedText, TextText, note_of, verdict_on}
+use Rattle.figpliers_program.specs.Pages.{DocumentText, ErrorsText, NotedText, PageText, SelectedText, note_of, verdict_on}
 use Rattle.figpliers_program.specs.Printing.{PrintsSome}
 use Rattle.figpliers_program.specs.Reading.{IsDocumentOf, IsNotedOf, IsTextOf}
 use Rattle.figpliers_program.specs.declared.command.Asked.{Asked}
 use Rattle.figpliers_program.specs.declared.command.DocumentJob.{DocumentJob}
 use Rattle.figpliers_program.specs.declared.command.Job.{Job}
-use Rattle.figpliers_program.specs.declared.command.Job.TheVariants.{OfDocument, OfErrors, OfText}
-use Rattle.figpliers_program.specs.declared.command.TextJob.{TextJob}
+use Rattle.figpliers_program.specs.declared.command.Job.TheVariants.{OfDocument, OfErrors}
 use Rattle.figpliers_program.specs.declared.faults.PageFault.{PageFault}
 use Rattle.figpliers_program.specs.declared.faults.Verdict.{Verdict}
 use Rattle.figpliers_program.proofs.Printing.{prints-as}
 
 -- with a copy of the table
-pub made-of-text : (table copied : List Row) (asked : Asked) (job : TextJob) (name bytes page : List ℕ) (old new : WriterView)
-    (result : Result Verdict PageFault) → copied ≡ table → asked.job ≡ OfText job → IsTextOf copied asked.reading bytes page
-    → PrintsSome (TextText copied job name page) old result new → IsMadeOf table asked name bytes old result new
-made-of-text table copied asked job name bytes page old new result table_is job_is text prints = inr (
-  page,
-  subst (λ (t : List Row). IsTextOf t asked.reading bytes page) table_is text,
-  subst (λ (j : Job). IsWritten table j (has_several asked) name page old result new) (sym job_is)
-      (subst (λ (t : List Row). PrintsSome (TextText t job name page) old result new) table_is prints),
-)
-
 pub made-of-document : (table copied : List Row) (asked : Asked) (job : DocumentJob) (several : Bool) (name bytes : List ℕ)
     (document : Forest) (old new : WriterView) (result : Result Verdict PageFault) → copied ≡ table → asked.job ≡ OfDocument job
     → several ≡ has_several asked → IsDocumentOf copied asked.reading bytes document

@@ -7,9 +7,9 @@ use Rattle.html_normal_program.specs.Program.{Files}
 use Rattle.figpliers_program.specs.Jobs.{IsRefused, ReportsNoMemory}
 use Rattle.figpliers_program.specs.Outcome.{AreDone, IfUnwritten, IsPageDone, Stream}
 use Rattle.figpliers_program.specs.Verdicts.{graver}
-use Rattle.figpliers_program.specs.declared.command.DocumentJob.TheVariants.{Check, Links, Markdown, Select, Text, Tree}
+use Rattle.figpliers_program.specs.declared.command.DocumentJob.TheVariants.{Check, Links, Markdown, Normal, Select, Text, Tree}
 use Rattle.figpliers_program.specs.declared.command.Job.{Job}
-use Rattle.figpliers_program.specs.declared.command.Job.TheVariants.{OfDocument, OfErrors, OfText}
+use Rattle.figpliers_program.specs.declared.command.Job.TheVariants.{OfDocument, OfErrors, OfFragment}
 use Rattle.figpliers_program.specs.declared.faults.PageFault.{PageFault}
 use Rattle.figpliers_program.specs.declared.faults.Verdict.{Verdict}
 use Rattle.figpliers_program.specs.declared.faults.Verdict.TheVariants.{Errors, Fault, Fine, Nothing, Unwritten}
@@ -63,10 +63,11 @@ stops files IsMadeOf f items i d name before one after left next out mid errors 
 -- out of memory is a refusal of every command
 pub refused : (job : Job) (errors errors' : Stream) → ReportsNoMemory errors errors' → IsRefused job errors errors'
 refused OfErrors errors errors' line = line
-refused (OfText job) errors errors' line = line
+refused (OfFragment element) errors errors' line = line
 refused (OfDocument (Select selector show)) errors errors' line = inl line
 refused (OfDocument Tree) errors errors' line = line
 refused (OfDocument Text) errors errors' line = line
 refused (OfDocument Check) errors errors' line = line
+refused (OfDocument Normal) errors errors' line = line
 refused (OfDocument Markdown) errors errors' line = line
 refused (OfDocument (Links listing)) errors errors' line = line

@@ -11,7 +11,7 @@ use Rattle.figpliers.specs.SerializeFault.TheVariants as writing
 use Rattle.figpliers_program.specs.Faults.{serialize_fault_of}
 use Rattle.figpliers_program.specs.Printing.{IsCut, Prints, PrintsSome}
 use Rattle.figpliers_program.specs.declared.faults.PageFault.{PageFault}
-use Rattle.figpliers_program.specs.declared.faults.PageFault.TheVariants.{Memory, NotUtf8, Open, Read, Words, Write}
+use Rattle.figpliers_program.specs.declared.faults.PageFault.TheVariants.{Memory, NotUtf8, Open, Read, Write}
 
 -- out of memory before anything was written
 pub began-nothing : (old : WriterView) (text : List ℕ) → Began old text old
@@ -29,7 +29,6 @@ cut-longer old new first second Memory cut = record {
 cut-longer old new first second (NotUtf8 at) cut = cut
 cut-longer old new first second (Open why) cut = cut
 cut-longer old new first second Read cut = cut
-cut-longer old new first second Words cut = cut
 
 -- what came first was written, and what came after it, or a beginning of that
 pub prints-behind : {R : Type 0} (old mid new : WriterView) (first second : List ℕ) (answer : Result R PageFault)
@@ -47,7 +46,6 @@ prints-behind old mid new first second (Err Memory) put prints = record {
 prints-behind old mid new first second (Err (NotUtf8 at)) put prints = prints
 prints-behind old mid new first second (Err (Open why)) put prints = prints
 prints-behind old mid new first second (Err Read) put prints = prints
-prints-behind old mid new first second (Err Words) put prints = prints
 
 -- an error of the serializer, as an error of the page
 pub cut-as : (R : Type 0) (text : List ℕ) (old new : WriterView) (fault : SerializeFault) → Writes {R = R} text old (Err fault) new

@@ -3,7 +3,7 @@ use Rattle.std.proofs.Common.{◌≡◌, ℕ, Bool, List, Option, refl}
 use Rattle.html_normal_program.specs.Streams.{IsPut}
 use Rattle.figpliers_program.specs.Verdicts.{IsReported, fault_line, verdict_of}
 use Rattle.figpliers_program.specs.declared.faults.PageFault.{PageFault}
-use Rattle.figpliers_program.specs.declared.faults.PageFault.TheVariants.{Memory, NotUtf8, Open, Read, Words, Write}
+use Rattle.figpliers_program.specs.declared.faults.PageFault.TheVariants.{Memory, NotUtf8, Open, Read, Write}
 use Rattle.figpliers_program.specs.declared.faults.Verdict.TheVariants.{Fault}
 
 -- an error other than a failed write to standard output is reported by its line
@@ -13,7 +13,6 @@ reported-other name Write errors errors' failed other put = absurd (other refl)
 reported-other name (NotUtf8 at) errors errors' failed other put = (failed, put)
 reported-other name (Open why) errors errors' failed other put = (failed, put)
 reported-other name Read errors errors' failed other put = (failed, put)
-reported-other name Words errors errors' failed other put = (failed, put)
 reported-other name Memory errors errors' failed other put = (failed, put)
 
 pub verdict-other : (fault : PageFault) → (fault ≡ Write → ⊥) → Fault ≡ verdict_of fault
@@ -21,5 +20,4 @@ verdict-other Write other = absurd (other refl)
 verdict-other (NotUtf8 at) other = refl
 verdict-other (Open why) other = refl
 verdict-other Read other = refl
-verdict-other Words other = refl
 verdict-other Memory other = refl

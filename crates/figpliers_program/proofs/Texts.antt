@@ -2,21 +2,22 @@
 use Rattle.std.proofs.Common.{◌≡◌, ◌∙◌, ◌+◌, ◌<◌, ℕ, Bool, true, List, [], ◌∷◌, ◌++◌, Option, Some, Ok, Err, ap}
 use Rattle.std.proofs.Common.{append_assoc, drop, get_or, inl, inr, length, map, refl, sym, take}
 use Rattle.std.proofs.lemmas.List.{append-nil, map-append, take-append-drop, take_more}
+use Rattle.std.specs.Prelude.{None, cond, encode_utf8_all, false}
 use Rattle.std.specs.Str.{chars}
 use Rattle.figpliers.specs.Document.{document_bytes}
-use Rattle.figpliers.specs.Forest.{Forest, children_of}
+use Rattle.figpliers.specs.Forest.{Forest, children_of, data_of, template_of}
+use Rattle.figpliers.specs.Forest.NodeData.{Document}
 use Rattle.figpliers.specs.InnerText.{IsInnerText}
 use Rattle.figpliers.specs.Lines.{tree_lines}
 use Rattle.figpliers.specs.Pages.{IsFragment, html_name}
-use Rattle.figpliers.specs.Devices.{count_after}
-use Rattle.figpliers.specs.Normal.{IsBegun, IsFailed, IsNormalised, is_write_fault}
-use Rattle.figpliers.specs.NormalFault.{NormalFault}
-use Rattle.figpliers.specs.NormalFault.TheVariants as normal
 use Rattle.figpliers.specs.Puts.{WriterView, with_bytes}
-use Rattle.figpliers.specs.Report.{Report}
+use Rattle.figpliers.specs.Serializing.{bytes_in}
 use Rattle.figpliers.specs.Table.{Row}
-use Rattle.figpliers_program.specs.Faults.{memory_fault_of}
-use Rattle.figpliers_program.specs.Pages.{FragmentText, NormalText, RenderedText}
+use Rattle.figpliers.specs.TraversalScope.TheVariants.{ChildrenOnly}
+use Rattle.figpliers.specs.Trees.{default_entry, trees_of, written}
+use Rattle.figpliers.specs.Walk.{walked}
+use Rattle.html_serialize.specs.declared.opts.SerializeOpts.{SerializeOpts}
+use Rattle.figpliers_program.specs.Pages.{FragmentText, RenderedText}
 use Rattle.figpliers_program.specs.Pages.{ended, error_line, error_lines, top_of}
 use Rattle.figpliers_program.specs.Printing.{IsCut, PrintsSome}
 use Rattle.figpliers_program.specs.declared.faults.PageFault.{PageFault}
@@ -38,53 +39,20 @@ pub fragment_lines : (table : List Row) (element page : List ℕ) (document : Fo
 fragment_lines table element page document node is fragment_is =
     record { document = document; is_fragment = fragment_is; written = ap (tree_lines document) is; done = refl }
 
--- `normal`: all was written
-pub normalised : (table : List Row) (exact : Bool) (page : List ℕ) (left : Option (List ℕ)) (old new : WriterView) (report : Report)
-    → IsNormalised table exact page left old.written new.written report → new.failures ≡ old.failures
-    → PrintsSome (NormalText table page) old (Ok Fine) new
-normalised table exact page left old new report is same = (
-  document_bytes is.document,
-  record { document = is.document; is_document = is.input; written = refl; done = refl },
-  λ i. record { written = is.output i; failures = same i },
-)
+-- what is written of a document, with default options
+abbrev pub given : SerializeOpts → Forest → ℕ → List ℕ
+given opts f id = bytes_in opts.scripting_enabled opts.traversal_scope (walked f id opts.traversal_scope)
 
--- a beginning of it was
-begun : (table : List Row) (page : List ℕ) (old new : Option (List ℕ)) (is : IsBegun table page old new)
-    → NormalText table page (document_bytes is.document) Fine
-begun table page old new is = record { document = is.document; is_document = is.input; written = refl; done = refl }
-
-same-view : (old new : WriterView) → new.written ≡ old.written → new.failures ≡ old.failures → new ≡ old
-same-view old new written failures = λ i. record { written = written i; failures = failures i }
-
--- reading a page in memory does not fail, so an error other than a failed write is out of memory
-pub not-normalised : (table : List Row) (page : List ℕ) (left left' : Option (List ℕ)) (old new : WriterView) (fault : NormalFault)
-    → left ≡ Some page → IsFailed table left left' old.written new.written fault
-    → new.failures ≡ count_after (is_write_fault {T = Report} (Err fault)) old.failures
-    → PrintsSome {R = Verdict} (NormalText table page) old (Err (memory_fault_of fault)) new
-not-normalised table page left left' old new normal.Write is failed counted =
-    let it = failed page is in
-    inr (
-      document_bytes it.document,
-      Fine,
-      begun table page old.written new.written it,
-      record { count = it.count; within = it.within; written = it.output; failed = counted },
-    )
-not-normalised table page left left' old new (normal.NotUtf8 at) is failed counted = inl (refl, same-view old new failed.0 counted)
-not-normalised table page left left' old new normal.Read is failed counted = inl (refl, same-view old new failed.0 counted)
-not-normalised table page left left' old new normal.Refused is failed counted = absurd failed
-not-normalised table page left left' old new normal.Memory is (inl same) counted = inl (refl, same-view old new same counted)
-not-normalised table page left left' old new normal.Memory is (inr failed) counted =
-    let it = failed page is in
-    inr (
-      document_bytes it.document,
-      Fine,
-      begun table page old.written new.written it,
-      record {
-        count = it.count;
-        within = it.within;
-        told = same-view (with_bytes old (take it.count (document_bytes it.document))) new it.output counted;
-      },
-    )
+-- is its normal text
+pub document-given : (f : Forest) (id : ℕ) (opts : SerializeOpts) → data_of f 0 ≡ Document → id ≡ 0 → opts ≡ record {
+  scripting_enabled = true;
+  traversal_scope = ChildrenOnly None;
+  create_missing_parent = false;
+} → given opts f id ≡ document_bytes f
+document-given f id opts top id_is opts_is =
+    ap (λ (o : SerializeOpts). given o f id) opts_is
+    ∙ ap (λ n. bytes_in true (ChildrenOnly None) (walked f n (ChildrenOnly None))) id_is
+    ∙ ap (λ about. encode_utf8_all (written true default_entry (trees_of f (children_of f (cond (template_of about) 1 0))))) top
 
 -- `errors`: the lines of several errors after those of others
 lines-append : (name : List ℕ) (errors others : List (ℕ × List ℕ))

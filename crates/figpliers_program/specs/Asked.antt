@@ -12,14 +12,12 @@ use Rattle.figpliers.specs.EncodingLabels.{label_encoding}
 use Rattle.figpliers_program.specs.CommandLine.{figpliers}
 use Rattle.figpliers_program.specs.declared.command.Asked.{Asked}
 use Rattle.figpliers_program.specs.declared.command.DocumentJob.{DocumentJob}
-use Rattle.figpliers_program.specs.declared.command.DocumentJob.TheVariants.{Check, Links, Markdown, Select, Tree}
+use Rattle.figpliers_program.specs.declared.command.DocumentJob.TheVariants.{Check, Links, Markdown, Normal, Select, Tree}
 use Rattle.figpliers_program.specs.declared.command.DocumentJob.TheVariants as job
 use Rattle.figpliers_program.specs.declared.command.Job.{Job}
-use Rattle.figpliers_program.specs.declared.command.Job.TheVariants.{OfDocument, OfErrors, OfText}
+use Rattle.figpliers_program.specs.declared.command.Job.TheVariants.{OfDocument, OfErrors, OfFragment}
 use Rattle.figpliers_program.specs.declared.command.Reading.{Reading}
 use Rattle.figpliers_program.specs.declared.command.Reading.TheVariants.{Found, Lossy, Utf8}
-use Rattle.figpliers_program.specs.declared.command.TextJob.{TextJob}
-use Rattle.figpliers_program.specs.declared.command.TextJob.TheVariants.{Fragment, Normal}
 use Rattle.html_listings.specs.declared.listing.Listing.{Listing}
 use Rattle.html_listings.specs.declared.selected.Show.{Show}
 use Rattle.html_listings.specs.declared.selected.Show.TheVariants.{Attribute, Count, Html, Json}
@@ -69,25 +67,21 @@ pub record IsListing (rows : List Row) (listing : Listing) : Type 0 where
 abbrev pub lowered_value : Text → List Row → Option Text
 lowered_value name rows = option_map (map to_ascii_lowercase) (first_of name rows)
 
--- what a command of that name does with the text of each page
-abbrev pub IsTextJob : Text → List Row → TextJob → Type 0
-IsTextJob name rows (Fragment element) = (name ≡ codes "tree") × (Some (string_bytes element) ≡ lowered_value (codes "fragment") rows)
-IsTextJob name rows Normal = name ≡ codes "normal"
-
--- and with its document
+-- what a command of that name does with the document of each page
 abbrev pub IsDocumentJob : Text → List Row → DocumentJob → Type 0
 IsDocumentJob name rows Tree = (name ≡ codes "tree") × (lowered_value (codes "fragment") rows ≡ None)
 IsDocumentJob name rows (Links listing) = (name ≡ codes "links") × IsListing rows listing
 IsDocumentJob name rows Markdown = name ≡ codes "markdown"
 IsDocumentJob name rows job.Text = name ≡ codes "text"
 IsDocumentJob name rows Check = name ≡ codes "check"
+IsDocumentJob name rows Normal = name ≡ codes "normal"
 IsDocumentJob name rows (Select selector show) = (name ≡ codes "select")
     × (string_bytes selector ≡ unwrap_or (first_of (codes "selector") rows) []) × IsShow rows show
 
 -- what a command of that name does
 abbrev pub IsJob : Text → List Row → Job → Type 0
 IsJob name rows OfErrors = name ≡ codes "errors"
-IsJob name rows (OfText job) = IsTextJob name rows job
+IsJob name rows (OfFragment element) = (name ≡ codes "tree") × (Some (string_bytes element) ≡ lowered_value (codes "fragment") rows)
 IsJob name rows (OfDocument job) = IsDocumentJob name rows job
 
 -- a command with what it found
@@ -145,7 +139,7 @@ is_name text = begins_with_letter text && list_all (λ byte. not (ends_name byte
 
 -- a fragment is to be read in an element of a name that none has
 abbrev pub has_no_name : Job → Bool
-has_no_name (OfText (Fragment element)) = not (is_name (string_bytes element))
+has_no_name (OfFragment element) = not (is_name (string_bytes element))
 has_no_name job = false
 
 -- WORDS

@@ -17,8 +17,3 @@ normal_fault_of normal.Refused = Memory
 abbrev pub serialize_fault_of : SerializeFault → PageFault
 serialize_fault_of writing.Memory = Memory
 serialize_fault_of fault = Write
-
--- what is wrong with a text that is read in memory: where it is not writing, memory ran out
-abbrev pub memory_fault_of : NormalFault → PageFault
-memory_fault_of normal.Write = Write
-memory_fault_of fault = Memory

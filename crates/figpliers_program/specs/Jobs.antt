@@ -17,7 +17,7 @@ use Rattle.html_normal_program.specs.Program.{Files}
 use Rattle.html_standard_references.specs.declared.rows.TheConstants.{STANDARD_ROWS}
 use Rattle.figpliers_program.specs.Asked.{AsksFor}
 use Rattle.figpliers_program.specs.Outcome.{AreDone, IsPageDone, Stream}
-use Rattle.figpliers_program.specs.Pages.{ErrorsText, PageText, TextText}
+use Rattle.figpliers_program.specs.Pages.{ErrorsText, FragmentText, PageText}
 use Rattle.figpliers_program.specs.Printing.{PrintsSome}
 use Rattle.figpliers_program.specs.Reading.{HasNoText, IsTextOf}
 use Rattle.figpliers_program.specs.Rejected.{IsRejectedBy, is_help}
@@ -26,7 +26,7 @@ use Rattle.figpliers_program.specs.declared.command.Asked.{Asked}
 use Rattle.figpliers_program.specs.declared.command.DocumentJob.{DocumentJob}
 use Rattle.figpliers_program.specs.declared.command.DocumentJob.TheVariants.{Select}
 use Rattle.figpliers_program.specs.declared.command.Job.{Job}
-use Rattle.figpliers_program.specs.declared.command.Job.TheVariants.{OfDocument, OfErrors, OfText}
+use Rattle.figpliers_program.specs.declared.command.Job.TheVariants.{OfDocument, OfErrors, OfFragment}
 use Rattle.figpliers_program.specs.declared.faults.PageFault.{PageFault}
 use Rattle.figpliers_program.specs.declared.faults.PageFault.TheVariants.{Memory}
 use Rattle.figpliers_program.specs.declared.faults.Verdict.{Verdict}
@@ -40,7 +40,8 @@ has_several asked = nat_lt 1 (vec_len asked.files)
 abbrev pub IsWritten : List Row → Job → (several : Bool) → (name page : List ℕ) → (out : WriterView) → Result Verdict PageFault
     → (out' : WriterView) → Type 0
 IsWritten table OfErrors several name page out result out' = PrintsSome (ErrorsText table name page) out result out'
-IsWritten table (OfText job) several name page out result out' = PrintsSome (TextText table job name page) out result out'
+IsWritten table (OfFragment element) several name page out result out' =
+    PrintsSome (FragmentText table (string_bytes element) page) out result out'
 IsWritten table (OfDocument job) several name page out result out' = PrintsSome (PageText table job several name page) out result out'
 
 -- selectors are those of the command `select`
@@ -50,7 +51,7 @@ AreSelectorsOf job selectors = Unit {0}
 
 abbrev pub AreSelectorsIn : Job → Selectors → Type 0
 AreSelectorsIn OfErrors selectors = Unit {0}
-AreSelectorsIn (OfText job) selectors = Unit {0}
+AreSelectorsIn (OfFragment element) selectors = Unit {0}
 AreSelectorsIn (OfDocument job) selectors = AreSelectorsOf job selectors
 
 -- What is made of a page with a name and bytes: it has no text, or what its text makes was written, or a beginning of that.

@@ -13,16 +13,14 @@ use Rattle.html_pages.specs.declared.noted.NotedForest.{NotedForest}
 use Rattle.html_listings.specs.Listings.{links_text}
 use Rattle.html_listings.specs.Selected.{selected_in, selected_text}
 use Rattle.html_listings.specs.declared.selected.Show.{Show}
-use Rattle.figpliers.specs.Document.{IsDocument, document_bytes}
+use Rattle.figpliers.specs.Document.{document_bytes}
 use Rattle.figpliers.specs.Forest.{Forest, children_of}
 use Rattle.figpliers.specs.InnerText.{IsInnerText}
 use Rattle.figpliers.specs.Lines.{tree_lines}
 use Rattle.figpliers.specs.Pages.{IsFragment, IsPage, html_name}
 use Rattle.figpliers.specs.Table.{Row}
 use Rattle.figpliers_program.specs.declared.command.DocumentJob.{DocumentJob}
-use Rattle.figpliers_program.specs.declared.command.DocumentJob.TheVariants.{Check, Links, Markdown, Select, Text, Tree}
-use Rattle.figpliers_program.specs.declared.command.TextJob.{TextJob}
-use Rattle.figpliers_program.specs.declared.command.TextJob.TheVariants.{Fragment, Normal}
+use Rattle.figpliers_program.specs.declared.command.DocumentJob.TheVariants.{Check, Links, Markdown, Normal, Select, Text, Tree}
 use Rattle.figpliers_program.specs.Checking.{CheckText}
 use Rattle.figpliers_program.specs.declared.faults.Verdict.{Verdict}
 use Rattle.figpliers_program.specs.declared.faults.Verdict.TheVariants.{Errors, Fine, Nothing}
@@ -59,6 +57,7 @@ DocumentText Tree several name document text verdict = (text ≡ tree_lines docu
 DocumentText Text several name document text verdict = RenderedText document text verdict
 DocumentText Markdown several name document text verdict = verdict ≡ Fine
 DocumentText Check several name document text verdict = CheckText name document text verdict
+DocumentText Normal several name document text verdict = (text ≡ document_bytes document) × (verdict ≡ Fine)
 DocumentText (Links listing) several name document text verdict = (text ≡ links_text listing document name several) × (verdict ≡ Fine)
 DocumentText (Select selector show) several name document text verdict =
     SelectedText (string_bytes selector) show name several document text verdict
@@ -80,13 +79,6 @@ pub record FragmentText (table : List Row) (element page text : List ℕ) (verdi
   pub document : Forest
   pub is_fragment : IsFragment table (html_name (chars element)) (chars page) document
   pub written : text ≡ tree_lines document (top_of (children_of document 0))
-  pub done : verdict ≡ Fine
-
--- `normal`: the text that the document is written as
-pub record NormalText (table : List Row) (page text : List ℕ) (verdict : Verdict) : Type 0 where
-  pub document : Forest
-  pub is_document : IsDocument table page document
-  pub written : text ≡ document_bytes document
   pub done : verdict ≡ Fine
 
 -- a parse error as its line and its words
@@ -114,8 +106,3 @@ pub record ErrorsText (table : List Row) (name page text : List ℕ) (verdict : 
 abbrev pub NotedText : (name : List ℕ) → NotedForest → (text : List ℕ) → Verdict → Type 0
 NotedText name noted text verdict = (text ≡ error_lines name (map note_of noted.errors.items))
     × (verdict ≡ (if noted.forest.errors == 0 then Fine else Errors))
-
--- what a command writes of the text of a page that has a name
-abbrev pub TextText : List Row → TextJob → (name page : List ℕ) → (text : List ℕ) → Verdict → Type 0
-TextText table (Fragment element) name page text verdict = FragmentText table (string_bytes element) page text verdict
-TextText table Normal name page text verdict = NormalText table page text verdict

@@ -4,7 +4,7 @@ use Rattle.std.specs.Fmt.{decimal}
 use Rattle.html_normal_program.specs.Streams.{IsPut}
 use Rattle.std.specs.Prelude.{Option}
 use Rattle.figpliers_program.specs.declared.faults.PageFault.{PageFault}
-use Rattle.figpliers_program.specs.declared.faults.PageFault.TheVariants.{Memory, NotUtf8, Open, Read, Words, Write}
+use Rattle.figpliers_program.specs.declared.faults.PageFault.TheVariants.{Memory, NotUtf8, Open, Read, Write}
 use Rattle.figpliers_program.specs.declared.faults.Verdict.{Verdict}
 use Rattle.figpliers_program.specs.declared.faults.Verdict.TheVariants.{Errors, Fault, Fine, Nothing, Unwritten}
 use Rattle.figpliers_program.specs.declared.faults.Why.{Why}
@@ -43,7 +43,6 @@ fault_words (NotUtf8 at) = codes "not UTF-8 at byte " ++ decimal at
 fault_words (Open why) = open_words why
 fault_words Read = codes "cannot be read"
 fault_words Write = codes "standard output cannot be written"
-fault_words Words = codes "an argument is not UTF-8"
 fault_words Memory = codes "no memory was left"
 
 -- the line of a fault, after the name of the page

@@ -23,15 +23,6 @@ use figpliers::encoding_of_label;
 use html_listings::{Listing, Show};
 use std::alloc::{AllocError, Global};
 
-/// What is done with the text of each page.
-#[derive(Drop)]
-pub enum TextJob {
-    /// The tree that it makes in an element of this name is written line by line.
-    Fragment { element: String },
-    /// Its normal text is written.
-    Normal,
-}
-
 /// What is done with the document of each page.
 #[derive(Drop)]
 pub enum DocumentJob {
@@ -45,6 +36,8 @@ pub enum DocumentJob {
     Text,
     /// Whether it is faithful is written.
     Check,
+    /// Its normal text is written.
+    Normal,
     /// The elements that selectors select are written.
     Select { selector: String, show: Show },
 }
@@ -54,8 +47,8 @@ pub enum DocumentJob {
 pub enum Job {
     /// Its parse errors are listed.
     OfErrors,
-    /// With its text.
-    OfText(TextJob),
+    /// The tree that its text makes in an element of this name is written line by line.
+    OfFragment { element: String },
     /// With its document.
     OfDocument(DocumentJob),
 }
@@ -161,7 +154,7 @@ fn has_no_name(job: &Job) -> bool
     ensures { result ≡ spec.has_no_name job.now }
 {
     match job {
-        Job::OfText(TextJob::Fragment { element }) => !is_name(element.as_str()),
+        Job::OfFragment { element } => !is_name(element.as_str()),
         _ => false,
     }
 }
@@ -237,7 +230,7 @@ fn tree_of(alloc: Global, matches: &ArgMatches<'_>) -> Result<Job, AllocError>
     ensures { IfOk result (IsJob (codes "tree") (rows_of (found_of matches.now))) }
 {
     match fragment_of(alloc, matches)? {
-        Some(element) => Ok(Job::OfText(TextJob::Fragment { element })),
+        Some(element) => Ok(Job::OfFragment { element }),
         None => Ok(Job::OfDocument(DocumentJob::Tree)),
     }
 }
@@ -263,7 +256,7 @@ fn job_of(alloc: Global, name: &str, matches: &ArgMatches<'_>) -> Result<Option<
         "markdown" => Ok(Some(Job::OfDocument(DocumentJob::Markdown))),
         "text" => Ok(Some(Job::OfDocument(DocumentJob::Text))),
         "check" => Ok(Some(Job::OfDocument(DocumentJob::Check))),
-        "normal" => Ok(Some(Job::OfText(TextJob::Normal))),
+        "normal" => Ok(Some(Job::OfDocument(DocumentJob::Normal))),
         "select" => Ok(Some(select_of(alloc, matches)?)),
         _ => Ok(None),
     }

@@ -1,21 +1,21 @@
 //! What each command writes of a page.
 ghost use Rattle.std.specs.Prelude.{◌≡◌, ◌==◌, if◌then◌else◌, length};
 ghost use Rattle.std.specs.String.{string_bytes};
+ghost use Rattle.figpliers.specs.Document.{document_bytes};
 ghost use Rattle.figpliers.specs.Forest.{children_of};
 ghost use Rattle.figpliers.specs.Lines.{tree_lines};
 ghost use Rattle.figpliers.specs.Puts.{told_by};
 ghost use Rattle.html_listings.specs.Listings.{links_text};
 ghost use Rattle.html_listings.specs.Selected.{selected_in, selected_text};
-ghost use Rattle.figpliers_program.specs.Faults.{memory_fault_of};
-ghost use Rattle.figpliers_program.specs.Pages.{FragmentText, NormalText, NotedText, RenderedText, error_line, top_of, verdict_on};
+ghost use Rattle.figpliers_program.specs.Pages.{FragmentText, NotedText, RenderedText, error_line, top_of, verdict_on};
 ghost use Rattle.figpliers_program.specs.Printing.{Prints, PrintsSome};
 ghost use Rattle.figpliers_program.specs.declared.faults.Verdict.TheVariants.{Errors, Fine};
 
 use crate::faults::{PageFault, Verdict};
 use crate::writing::{put, put_ended};
 use figpliers::{
-    Exact, Forest, MemReader, NodeId, NormalFault, NotedForest, References, Target, fragment,
-    inner_text, markdown, normalise, write_tree,
+    Forest, ForestNode, NodeId, NotedForest, References, SerializeOpts, Target, fragment,
+    inner_text, markdown, serialize, write_tree,
 };
 use html_listings::{Listing, Show, write_links, write_selected};
 use selectors::Selectors;
@@ -117,31 +117,22 @@ pub fn fragment_tree<W: Target>(
     Ok(Verdict::Fine)
 }
 
-/// What went wrong with a text that is read in memory, which has no fault of reading.
-fn fault_in_memory(fault: NormalFault) -> PageFault
-    ensures { result ≡ memory_fault_of fault }
-{
-    match fault {
-        NormalFault::Write => PageFault::Write,
-        _ => PageFault::Memory,
-    }
-}
-
-/// Writes the normal text of a page.
+/// Writes the normal text of a document.
 pub fn normal<W: Target>(
     alloc: Global,
-    table: References,
-    page: String,
+    forest: &Forest,
     writer: &mut W,
 ) -> Result<Verdict, PageFault>
-    ensures { PrintsSome (NormalText table (string_bytes page)) (told_by W.written W.failures writer.old) result
-        (told_by W.written W.failures writer.new) }
+    ensures { PrintsSome (λ text verdict. (text ≡ document_bytes forest.now) × (verdict ≡ Fine))
+        (told_by W.written W.failures writer.old) result (told_by W.written W.failures writer.new) }
 {
-    let mut reader = MemReader::new(page.into_bytes(), 4096, None);
-    match normalise(alloc, &mut reader, writer, table, Exact::default()) {
-        Ok(_) => Ok(Verdict::Fine),
-        Err(fault) => Err(fault_in_memory(fault)),
-    }
+    forest.keeps();
+    let node = ForestNode {
+        forest,
+        id: forest.document(),
+    };
+    serialize(alloc, writer, &node, SerializeOpts::default())?;
+    Ok(Verdict::Fine)
 }
 
 /// Writes the line of a parse error.

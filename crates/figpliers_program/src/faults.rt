@@ -73,8 +73,6 @@ pub enum PageFault {
     Read,
     /// A write to standard output failed.
     Write,
-    /// A word with which the program was started is not UTF-8.
-    Words,
     /// Out of memory.
     Memory,
 }
@@ -140,7 +138,6 @@ fn put_fault<Errors: Target>(errors: &mut Errors, fault: PageFault) -> Result<()
         PageFault::Open { why } => put(errors, open_words(why)),
         PageFault::Read => put(errors, "cannot be read"),
         PageFault::Write => put(errors, "standard output cannot be written"),
-        PageFault::Words => put(errors, "an argument is not UTF-8"),
         PageFault::Memory => put(errors, "no memory was left"),
     }
 }

@@ -5,12 +5,12 @@ ghost use Rattle.figpliers.specs.Puts.{told_by};
 ghost use Rattle.figpliers_program.specs.Jobs.{AreNoSelectors, ArePagesDone, AreSelectorsIn, AreSelectorsOf, IsMadeOf, IsRefused};
 ghost use Rattle.figpliers_program.specs.Jobs.{IsRun, ReportsNoMemory};
 ghost use Rattle.figpliers_program.specs.Outcome.{AreDone, IsPageDone};
-ghost use Rattle.figpliers_program.specs.Pages.{DocumentText, TextText};
+ghost use Rattle.figpliers_program.specs.Pages.{DocumentText};
 ghost use Rattle.figpliers_program.specs.Printing.{PrintsSome};
 ghost use Rattle.figpliers_program.specs.declared.faults.Verdict.TheVariants.{Fault, Nothing};
 
 use crate::checking::check;
-use crate::command::{Asked, DocumentJob, Job, TextJob};
+use crate::command::{Asked, DocumentJob, Job};
 use crate::commands::{errors, fragment_tree, links, normal, select, text, tree, write_markdown};
 use crate::faults::{PageFault, Verdict, report};
 use crate::files::Files;
@@ -28,26 +28,6 @@ struct Work<'a> {
     table: &'a References,
     /// Those of the command `select`; of other commands none.
     selectors: &'a Selectors,
-}
-
-/// Does with the text of a page what is asked for.
-fn run_text<W: Target>(
-    alloc: Global,
-    job: &TextJob,
-    table: References,
-    name: &str,
-    page: String,
-    writer: &mut W,
-) -> Result<Verdict, PageFault>
-    ensures { PrintsSome (TextText table job.now name.now (string_bytes page)) (told_by W.written W.failures writer.old) result
-        (told_by W.written W.failures writer.new) }
-{
-    match job {
-        TextJob::Fragment { element } => {
-            fragment_tree(alloc, table, element.as_str(), page, writer)
-        }
-        TextJob::Normal => normal(alloc, table, page, writer),
-    }
 }
 
 /// Does with the document of a page what is asked for; `selectors` are those of the command `select`.
@@ -72,6 +52,7 @@ fn run_document<W: Target>(
         DocumentJob::Markdown => write_markdown(alloc, forest, writer),
         DocumentJob::Text => text(alloc, forest, writer),
         DocumentJob::Check => check(alloc, forest, name, writer),
+        DocumentJob::Normal => normal(alloc, forest, writer),
         DocumentJob::Select { show, .. } => select(
             alloc,
             forest,
@@ -105,9 +86,9 @@ fn run_job<W: Target>(
             let noted = noted_of(alloc, table, reading, bytes)?;
             errors(alloc, name, &noted, writer)
         }
-        Job::OfText(job) => {
+        Job::OfFragment { element } => {
             let page = text_of(alloc, &table, reading, bytes)?;
-            run_text(alloc, job, table, name, page, writer)
+            fragment_tree(alloc, table, element.as_str(), page, writer)
         }
         Job::OfDocument(job) => {
             let forest = document_of(alloc, table, reading, bytes)?;

@@ -125,7 +125,7 @@ const READING: &[(Run, Seen)] = &[
             ..PLAIN
         },
         (
-            "b.html:1: unexpected start tag p in the mode \"initial\"\nb.html:1: an end tag without its element\n",
+            "b.html:1: missing doctype\nb.html:1: an end tag without its element\n",
             "",
             1,
         ),

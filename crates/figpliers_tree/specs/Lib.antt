@@ -52,6 +52,7 @@ pub use Rattle.html_normal.specs.declared.fault.NormalFault
 pub use Rattle.html_nodes.specs.Below
 pub use Rattle.html_nodes.specs.Laws as NodeLaws
 pub use Rattle.html_nodes.specs.Looks
+pub use Rattle.html_walks.specs.Height
 pub use Rattle.html_walks.specs.Walk as StepWalk
 pub use Rattle.html_walks.specs.declared.steps.Step
 pub use Rattle.html_extracts.specs.Lines

@@ -20,7 +20,7 @@ pub use html_parser::{
 pub use html_serialize::{HtmlSerializer, SerializeOpts, serialize};
 pub use html_standard_references::standard;
 pub use html_tokenizer::{ReferenceRow, References, TableFault, TokenizerOpts};
-pub use html_walks::{Step, Steps, walk};
+pub use html_walks::{Step, Steps, height, walk};
 pub use markup::{
     Attribute, Attributes, ElementFlags, KnownNamespace, LocalName, Namespace, NodeOrText,
     ParseFault, QualName, QuirksMode, Serialize, SerializeFault, Serializer, Text, TokenizerResult,

@@ -1,14 +1,32 @@
-use Rattle.std.proofs.Common.{◌≡◌, rules, Some}
-use Rattle.std.specs.String.{string_bytes}
-use Rattle.figpliers_program.proofs.Texts.{normalised, not-normalised}
+use Rattle.std.proofs.Common.{◌≡◌, ap, inr, refl, subst}
+use Rattle.std.proofs.lemmas.Result.{err_from_is_err_and}
+use Rattle.figpliers.specs.Document.{document_bytes}
+use Rattle.figpliers.specs.Walk.{walked}
+use Rattle.figpliers_program.specs.declared.faults.Verdict.TheVariants.{Fine}
+use Rattle.figpliers_program.proofs.Printing.{cut-as}
+use Rattle.figpliers_program.proofs.Texts.{document-given, given}
 use Rattle.figpliers_program.proofs.commands.normal.Goals as goal
 
-pub returns-in-Ok : goal.returns-in-Ok
-returns-in-Ok g c =
-    let left : Some c.new-reader.result.left ≡ Some (string_bytes c.args.page) = search rules in
-    normalised _ _ _ _ _ _ _ (c.in-Ok.ensures.ok (string_bytes c.args.page) left) c.in-Ok.ensures.write_failures
+pub returns-in_err-serialize : goal.returns-in_err-serialize
+returns-in_err-serialize g c =
+    let p = err_from_is_err_and c.from_residual.result c.from_residual.ensures.1 in
+    let same = document-given c.args.forest.now c.document.result c.default.result c.keeps.ensures.is_forest.document_first
+    c.document.ensures c.default.ensures in
+    let wrote = c.in_err-serialize.ensures.text (walked c.args.forest.now c.document.result c.default.result.traversal_scope) refl in
+    rw (p.1, p.2) (inr (
+      given c.default.result c.args.forest.now c.document.result,
+      Fine,
+      (same, refl),
+      cut-as (Unit {0}) _ _ _ c.in_err-serialize.field-0.0 wrote,
+    ))
 
 pub returns : goal.returns
-returns g c =
-    let left : Some c.new-reader.result.left ≡ Some (string_bytes c.args.page) = search rules in
-    rw c.fault_in_memory.ensures (not-normalised _ _ _ _ _ _ c.in-Err.fault left c.in-Err.ensures.err c.in-Err.ensures.write_failures)
+returns g c = (
+  given c.default.result c.args.forest.now c.document.result,
+  (
+    document-given c.args.forest.now c.document.result c.default.result c.keeps.ensures.is_forest.document_first c.document.ensures
+        c.default.ensures,
+    refl,
+  ),
+  c.in_ok-serialize.ensures.text (walked c.args.forest.now c.document.result c.default.result.traversal_scope) refl,
+)
