@@ -10,7 +10,7 @@ fn errors_without_a_code_are_told_by_words(rt: HostRuntime) -> Result<(), Fail> 
     let noted = noted_document(alloc, References::five(alloc)?, page)?;
     assert!(rt; noted.errors.len() == 2);
     for (noted, (line, word)) in noted.errors.iter().zip([
-        (2, "start tag p"),
+        (2, "missing doctype"),
         (3, "an end tag without its element"),
     ]) {
         assert!(rt; noted.line == line && noted.message.as_str().contains(word));
