@@ -39,7 +39,9 @@ enum fig_answer {
     FIG_TABLE_DUPLICATE = 19, /* row `at` has the name of an earlier row */
     FIG_TABLE_VALUE = 20,     /* row `at` has a value that is no character, or 0 */
     FIG_SELECTOR_NOT_UTF8 = 32, /* the selectors are not UTF-8: their longest front that is has `at` bytes */
-    FIG_SELECTOR = 33           /* the text is no selectors: `at` characters stand before the first fault */
+    FIG_SELECTOR = 33,          /* the text is no selectors: `at` characters stand before the first fault */
+    FIG_NOT_AN_IMAGE = 48,      /* the bytes are not the image of a tree */
+    FIG_NO_SUCH_NODE = 49       /* the tree has no node of that number */
 };
 
 /* What is told of a page. Where an answer is neither FIG_DONE nor FIG_TOO_SHORT all is 0 but `at`. */
@@ -83,6 +85,16 @@ uint32_t fig_tree_with(const uint8_t *table, size_t table_length, const uint8_t 
  * lowest first. They are the nodes of the image that fig_tree writes of the same page. */
 uint32_t fig_select(const uint8_t *selector, size_t selector_length, const uint8_t *page, size_t page_length,
                     uint8_t *output, size_t room, fig_report *report);
+
+/* Writes a line for each parse error of a page, in the order in which they are found: the number of the page's line, ": ", and the
+ * Standard's code of the error, or words where it has none, which may change. `errors` of the report is the number of these lines. */
+uint32_t fig_errors(const uint8_t *page, size_t page_length, uint8_t *output, size_t room, fig_report *report);
+
+/* Write a node of a tree, by its number in the image that fig_tree wrote: fig_serialize as HTML, with what is in it (of the document and
+ * of a template's contents what is in them), fig_text_content its text, as `textContent` of the DOM has it. The image may come from
+ * anywhere: bytes that are no image are refused. The report is that of the image's page. Each call reads the whole image. */
+uint32_t fig_serialize(const uint8_t *image, size_t image_length, uint32_t node, uint8_t *output, size_t room, fig_report *report);
+uint32_t fig_text_content(const uint8_t *image, size_t image_length, uint32_t node, uint8_t *output, size_t room, fig_report *report);
 
 /* Writes what the ready policy keeps of a page: text, links, tables and formatting, no script, no style, no event. Every reader
  * that follows the Standard is told by it just the tags and texts that were kept, wherever it is put among elements and texts.
@@ -168,6 +180,25 @@ static inline fig_attribute fig_attribute_of(const uint8_t *image, uint32_t node
     it.name = fig_text_at(image, fig_word(at), fig_word(at + 4));
     it.value = fig_text_at(image, fig_word(at + 8), fig_word(at + 12));
     it.namespace_ = fig_word(at + 16);
+    return it;
+}
+
+/* What stands between the tags of an element, in the text that fig_serialize wrote of it, of `length` bytes (`innerHTML` of the DOM); of
+ * the document and of a template's contents all of it, of another node nothing. */
+static inline fig_text fig_inner(const uint8_t *image, uint32_t node, const uint8_t *html, size_t length) {
+    uint32_t kind = fig_kind_of(image, node), n;
+    size_t name = fig_text_of(image, node).length, at = 1 + name;
+    fig_text it;
+    it.at = (const char *)html;
+    it.length = kind == FIG_DOCUMENT || kind == FIG_CONTENTS ? length : 0;
+    if (kind != FIG_ELEMENT) return it;
+    for (n = 0; n < fig_attributes(image, node); n++) {
+        at += fig_attribute_of(image, node, n).name.length + 3; /* a space, the name, = and a quote */
+        while (html[at++] != '"') {} /* the value, in which quotes are escaped, and a quote */
+    }
+    at++;
+    it.at += at;
+    if (at < length) it.length = length - at - (name + 3); /* unless it has no end tag, as `br` */
     return it;
 }
 

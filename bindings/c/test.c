@@ -1,58 +1,9 @@
 /* test ROWS: the rows, each in rooms of its very length, one byte less and none; then what no row says. Memory is taken for the
  * very lengths, so that a sanitizer sees each byte that is read or written past them. */
-#include "figpliers.h"
-#include <stdio.h>
-#include <stdlib.h>
-#include <string.h>
+#include "testing.h"
 
 #define ALL(call, field) \
     printf("%s.%s %zu %zu\n", #call, #field, offsetof(call, field), sizeof(((call *)0)->field))
-
-typedef struct bytes {
-    uint8_t *at;
-    size_t length;
-} bytes;
-
-static int passed, failed;
-
-static void check(int holds, const char *what, int row) {
-    if (holds) {
-        passed++;
-    } else {
-        failed++;
-        printf("C: row %d: %s\n", row, what);
-    }
-}
-
-/* Memory of just so many bytes; NULL for none. */
-static uint8_t *memory(size_t length) {
-    uint8_t *at = length ? malloc(length) : NULL;
-    if (length && !at) abort();
-    if (at) memset(at, 0xA5, length);
-    return at;
-}
-
-static unsigned digit(char c) { return c <= '9' ? c - '0' : c - 'a' + 10; }
-
-/* What a field of the rows stands for, in memory of its length. */
-static bytes unescaped(const char *field) {
-    size_t n = 0;
-    char *text = malloc(strlen(field) + 1);
-    for (; *field; field++) {
-        if (*field != '\\') {
-            text[n++] = *field;
-        } else if (*++field == 'x') {
-            text[n++] = (char)(digit(field[1]) * 16 + digit(field[2]));
-            field += 2;
-        } else {
-            text[n++] = *field == 'n' ? '\n' : *field == 't' ? '\t' : *field == 'r' ? '\r' : '\\';
-        }
-    }
-    bytes made = {memory(n), n};
-    if (n) memcpy(made.at, text, n);
-    free(text);
-    return made;
-}
 
 typedef struct told {
     uint32_t answer;
@@ -75,6 +26,7 @@ static told call(const char *name, bytes table, bytes page, uint8_t *output, siz
     fig_report r;
     memset(&r, 0xA5, sizeof r);
     if (!strcmp(name, "normalise")) it.answer = fig_normalise(page.at, page.length, output, room, &r);
+    else if (!strcmp(name, "errors")) it.answer = fig_errors(page.at, page.length, output, room, &r);
     else if (!strcmp(name, "tree")) it.answer = fig_tree(page.at, page.length, output, room, &r);
     else if (!strcmp(name, "select")) it.answer = fig_select(table.at, table.length, page.at, page.length, output, room, &r);
     else it.answer = (strcmp(name, "tree_with") ? fig_normalise_with : fig_tree_with)(
@@ -101,20 +53,9 @@ static void in_room(int row, char **fields, bytes table, bytes page, bytes text,
 
 static void rows(const char *path) {
     static char line[1 << 16];
-    FILE *file = fopen(path, "r");
-    if (!file) {
-        perror(path);
-        exit(2);
-    }
-    for (int row = 1; fgets(line, sizeof line, file); row++) {
-        if (*line == '#') continue;
-        line[strcspn(line, "\n")] = 0;
-        char *fields[6], *rest = line;
-        for (int i = 0; i < 6; i++) {
-            fields[i] = rest ? rest : line + strlen(line);
-            rest = rest ? strchr(rest, '\t') : NULL;
-            if (rest) *rest++ = 0;
-        }
+    FILE *file = opened(path);
+    char *fields[6];
+    for (int row = 0; next_row(file, line, sizeof line, fields, 6, &row);) {
         bytes table = unescaped(fields[1]), page = unescaped(fields[2]), text = unescaped(fields[5]);
         in_room(row, fields, table, page, text, text.length + 100);
         in_room(row, fields, table, page, text, text.length);
@@ -128,6 +69,46 @@ static void rows(const char *path) {
 }
 
 static int is_text(fig_text text, const char *word) { return text.length == strlen(word) && !memcmp(text.at, word, text.length); }
+
+/* One call on a node of an image, in the room that it asks for and in one byte less: the answer, and the text. */
+static void on_node(const uint8_t *image, size_t length, uint32_t node, int text, uint32_t answer, const char *want) {
+    uint32_t (*const call)(const uint8_t *, size_t, uint32_t, uint8_t *, size_t, fig_report *) = text ? fig_text_content : fig_serialize;
+    size_t size = strlen(want);
+    uint8_t *output = memory(size);
+    fig_report report;
+    check(call(image, length, node, output, size, &report) == answer && report.length == size, want, (int)node);
+    check(!size || !memcmp(output, want, size), want, (int)node);
+    if (size) check(call(image, length, node, output, size - 1, &report) == FIG_TOO_SHORT && report.length == size, "no room", (int)node);
+    free(output);
+}
+
+/* Nodes of an image, as HTML and as text; and bytes that are no image. */
+static void nodes(uint8_t *image, size_t length) {
+    on_node(image, length, 0, 0, FIG_DONE,
+            "<!DOCTYPE html><html><head></head><body><p id=\"a\">b<svg xlink:href=\"c\"></svg></p>"
+            "<template><i>d</i></template>e<!--f--></body></html>");
+    on_node(image, length, 0, 1, FIG_DONE, "be");
+    on_node(image, length, 5, 0, FIG_DONE, "<p id=\"a\">b<svg xlink:href=\"c\"></svg></p>");
+    on_node(image, length, 5, 1, FIG_DONE, "b");
+    on_node(image, length, 6, 1, FIG_DONE, "b");
+    on_node(image, length, fig_nodes(image), 0, FIG_NO_SUCH_NODE, "");
+    on_node(image, length, FIG_NO_NODE, 1, FIG_NO_SUCH_NODE, "");
+    on_node(image, length - 1, 0, 0, FIG_NOT_AN_IMAGE, "");
+    on_node(NULL, 0, 0, 1, FIG_NOT_AN_IMAGE, "");
+    /* each word of the records in turn, as another node, another place or no node */
+    for (size_t at = 0; at + 4 <= 32 + 48 * (size_t)fig_nodes(image); at += 4) {
+        uint8_t kept[4];
+        fig_report report;
+        memcpy(kept, image + at, 4);
+        for (int i = 0; i < 3; i++) {
+            memset(image + at, i == 2 ? 0xFF : 0, 4);
+            image[at] = (uint8_t)(i == 2 ? 0xFF : kept[0] + i + 1);
+            uint32_t answer = fig_serialize(image, length, 0, NULL, 0, &report);
+            check(answer == FIG_NOT_AN_IMAGE || answer == FIG_TOO_SHORT, "a changed word", (int)at);
+            memcpy(image + at, kept, 4);
+        }
+    }
+}
 
 /* An image, read by the functions of the header. */
 static void image(void) {
@@ -161,6 +142,7 @@ static void image(void) {
     check(is_text(fig_text_of(moved, node), "p") && fig_previous(moved, fig_next(moved, node)) == node, "siblings", 0);
     check(fig_parent(moved, fig_parent(moved, fig_parent(moved, node))) == 0 && fig_parent(moved, 0) == FIG_NO_NODE, "parents", 0);
     check(fig_nodes(moved) == 14, "the number of nodes", 0);
+    nodes(moved, report.length);
     free(moved);
 }
 

@@ -3,8 +3,8 @@ export type Page = string | Uint8Array;
 export type Quirks = 'no' | 'limited' | 'yes';
 export type Kind = 'document' | 'doctype' | 'element' | 'text' | 'comment' | 'processing instruction' | 'contents';
 
-/** Why there is no result: bytes that are not UTF-8 (`answer` 1, at byte `at`), a table that is wrong, or a tree that is too large.
- * Want of memory is a RangeError, an argument of another type a TypeError. */
+/** Why there is no result: bytes that are not UTF-8 (`answer` 1, at byte `at`), a table or selectors that are wrong, a tree that is too
+ * large, or bytes that are not the image of a tree (48). Want of memory is a RangeError, an argument of another type a TypeError. */
 export declare class Fault extends Error {
   readonly answer: number;
   readonly at: number;
@@ -15,6 +15,13 @@ export interface Attribute {
   name: string;
   value: string;
   namespace: string;
+}
+
+/** A link of a page. */
+export interface Link {
+  /** The element that has it. */
+  element: Node;
+  url: string;
 }
 
 /** A node of a tree. Each property is read from the image when it is asked for. */
@@ -46,8 +53,18 @@ export declare class Node {
   walk(): IterableIterator<Node>;
   /** The elements below this node that have a name, in tree order. */
   elements(name: string, namespace?: string): Node[];
-  /** The characters of all texts in this node (`textContent` of the DOM). */
+  /** The characters of all texts in this node (`textContent` of the DOM). Time grows with the number of nodes in it.
+   * @example parse('<ul><li>One<li>and <b>two</b></ul>').elements('ul')[0].text() // 'Oneand two' */
   text(): string;
+  /** This node as HTML, with what is in it (`outerHTML` of the DOM; HTML Standard, section 13.3); of the document and of a template's
+   * contents what is in them. It is written by the library, in time that grows with what is in the node. A text on its own is escaped,
+   * also one of a `script`. A Fault where the image is of no tree.
+   * @example parse('<p id=a>1 &lt; 2<br>').elements('p')[0].html() // '<p id="a">1 &lt; 2<br></p>' */
+  html(): string;
+  /** What is in this node as HTML, without the node itself (`innerHTML` of the DOM): of a template its contents, of a node that can have
+   * no children the empty string. A Fault as of `html`.
+   * @example parse('<p id=a>1 &lt; 2<br>').elements('p')[0].innerHtml() // '1 &lt; 2<br>' */
+  innerHtml(): string;
 }
 
 export declare class Document extends Node {
@@ -58,8 +75,16 @@ export declare class Document extends Node {
   readonly errors: number;
   readonly quirks: Quirks;
   /** The elements that CSS selectors select (Selectors Level 4), in tree order: the page is read once more for it. A TypeError where the
-   * page isn't known, or was read by a table. */
+   * page isn't known, or was read by a table.
+   * @example parse('<ul><li>a<li>b</ul>').select('li + li').map((it) => it.text()) // ['b'] */
   select(selectors: Page): Node[];
+  /** The first element that selectors select, or null. Throws as `select`. */
+  selectOne(selectors: Page): Node | null;
+  /** Each `a` and `area` with an `href`, in tree order, with its URL, without the white space around it and the line breaks in it. The URL
+   * is absolute, as `URL` makes it, if the page has a `base` that is absolute or `base` is given, the address of the page: what the page's
+   * `base` says counts first. A URL that cannot be read stays as it is written.
+   * @example parse('<a href=b?c>d</a>').links('http://example.org/a/').map((it) => it.url) // ['http://example.org/a/b?c'] */
+  links(base?: string | null): Link[];
   /** The document element. */
   readonly root: Node | null;
 }
@@ -70,6 +95,14 @@ export interface Normal {
   quirks: Quirks;
   /** Whether the document is plain, so that its normal text is read back as it, without an error. */
   plain: boolean;
+}
+
+/** A parse error of a page. */
+export interface ParseError {
+  /** The line of the page on which it was found, counted from 1. */
+  line: number;
+  /** The Standard's code of it, or words where it has none, which may change. */
+  message: string;
 }
 
 /** What cleaning kept, and how much it took away. */
@@ -83,6 +116,9 @@ export interface Cleaned {
 
 /** The normal text of a page. `table` has the named character references in place of the Standard's. */
 export declare function normalise(page: Page, table?: Page): Normal;
+/** The parse errors of a page, in the order in which they are found.
+ * @example errors('<!DOCTYPE html>\n<p id=a id=b>') // [{ line: 2, message: 'duplicate-attribute' }] */
+export declare function errors(page: Page): ParseError[];
 /** The document of a page. */
 export declare function parse(page: Page, table?: Page): Document;
 /** What the ready policy keeps of a page, read as what stands in a `div`. */

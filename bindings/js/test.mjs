@@ -1,38 +1,9 @@
 // test.mjs ROWS: the rows that all bindings are tested with, and what no row says. Prints how many passed and failed.
 import { readFileSync } from 'node:fs';
-import { Document, Fault, clean, cleanDocument, normalise, parse } from 'figpliers';
-
-let passed = 0;
-let failed = 0;
-
-function check(holds, what) {
-  if (holds) {
-    passed += 1;
-  } else {
-    failed += 1;
-    console.log('JavaScript:', what);
-  }
-}
-
-function unescaped(field) {
-  const bytes = Buffer.from(field);
-  const made = [];
-  for (let at = 0; at < bytes.length; at += 1) {
-    if (bytes[at] !== 0x5c) {
-      made.push(bytes[at]);
-      continue;
-    }
-    at += 1;
-    const letter = String.fromCharCode(bytes[at]);
-    if (letter === 'x') {
-      made.push(parseInt(bytes.toString('latin1', at + 1, at + 3), 16));
-      at += 2;
-    } else {
-      made.push({ n: 10, r: 13, t: 9, '\\': 92 }[letter]);
-    }
-  }
-  return Uint8Array.from(made);
-}
+import { fileURLToPath } from 'node:url';
+import * as figpliers from 'figpliers';
+import { Document, Fault, clean, cleanDocument, errors, normalise, parse } from 'figpliers';
+import { check, end, rowsOf, unescaped } from './testing.mjs';
 
 const QUIRKS = ['no', 'limited', 'yes'];
 const numbers = (it) => `${it.errors ? '+' : 0},0,${QUIRKS.indexOf(it.quirks)},${Number(it.plain)}`;
@@ -51,6 +22,10 @@ function called(name, table, page) {
       const found = parse(page).select(table);
       return [0, numbers(normalise(page)), Buffer.from(Uint32Array.from(found, (it) => it.number).buffer)];
     }
+    if (name === 'errors') {
+      const lines = errors(page).map((it) => `${it.line}: ${it.message}\n`);
+      return [0, numbers(normalise(page)), Buffer.from(lines.join(''))];
+    }
     const told = normalise(...words);
     if (!name.startsWith('tree')) return [0, numbers(told), Buffer.from(told.text)];
     const document = parse(...words);
@@ -62,11 +37,11 @@ function called(name, table, page) {
   }
 }
 
-for (const row of readFileSync(process.argv[2], 'utf8').split('\n')) {
-  if (row === '' || row.startsWith('#')) continue;
-  const [name, table, page, answer, told, text] = row.split('\t');
+for (const row of rowsOf(process.argv[2])) {
+  const [name, table, page, answer, told, text] = row;
   const [gotAnswer, gotTold, gotText] = called(name, unescaped(table), unescaped(page));
-  check(gotAnswer === Number(answer) && gotTold === told && gotText.equals(Buffer.from(unescaped(text))), `${row} ${gotAnswer} ${gotTold}`);
+  const isText = gotText.equals(Buffer.from(unescaped(text)));
+  check(gotAnswer === Number(answer) && gotTold === told && isText, `${row} ${gotAnswer} ${gotTold}`);
 }
 
 check(parse('<p>'.repeat(1000)).elements('p').length === 1000, 'many elements');
@@ -91,5 +66,35 @@ for (const wrong of [() => parse(1), () => new Document(odd.image).select('p'), 
     check(fault instanceof TypeError, `${fault}`);
   }
 }
-console.log(`JavaScript: ${passed} passed, ${failed} failed`);
-process.exitCode = failed ? 1 : 0;
+// HTML of a part is what the library writes of the node in the whole image, here of one that has so many nodes that each part is small
+const source = "<p a='&'>b<svg xlink:href=c></svg><script>1<2</script><template><i>d</i><template x>y</template></template><!--f--><td>h";
+const whole = parse(source);
+const front = parse(source + '<hr>'.repeat(200));
+function* nodesIn(node) {
+  yield node;
+  for (const child of node.children) yield* nodesIn(child);
+  if (node.contents) yield* nodesIn(node.contents);
+}
+const body = (document) => [...nodesIn(document.root.lastChild)].slice(1).filter((it) => it.name !== 'hr');
+const [some, all] = [body(front), body(whole)];
+check(some.length === all.length && some.every((it, i) => it.html() === all[i].html() && it.text() === all[i].text()), 'HTML of parts');
+for (const node of all) {
+  const isRaw = node.name === 'script' || node.contents;
+  check(isRaw || node.kind !== 'element' || node.innerHtml() === node.children.map((it) => it.html()).join(''), `inside of ${node.name}`);
+}
+const broken = whole.image.slice();
+broken[36] ^= 1;
+try {
+  new Document(broken).html();
+  check(false, 'a changed image');
+} catch (fault) {
+  check(fault instanceof Fault && fault.answer === 48, `${fault}`);
+}
+check(parse("<a href='//['>").links('http://[')[0].url === '//[', 'links that cannot be read');
+// the examples of the types: a call and what it answers
+const types = readFileSync(fileURLToPath(import.meta.resolve('figpliers')).replace('index.mjs', 'index.d.ts'), 'utf8');
+const examples = [...types.matchAll(/@example (.*?) \/\/ (.*?)(?: \*\/)?$/gm)];
+const made = (code) => new Function('figpliers', `const { parse, errors } = figpliers; return ${code};`)(figpliers);
+for (const [, code, want] of examples) check(JSON.stringify(made(code)) === JSON.stringify(made(want)), code);
+check(examples.length === 6, 'the number of examples');
+end();

@@ -1,9 +1,9 @@
 // The tree of a page, read from its image (docs/TREE_IMAGE.md) as it is asked for: nothing is decoded before.
+import { bytesOf, decoder, ofNode, selected } from './library.mjs';
+import { ATTRIBUTE, HEADER, NODE, NO_NODE, copy, inside, wordOf } from './part.mjs';
 
-const NO_NODE = 0xffffffff;
-const HEADER = 32;
-const NODE = 48;
-const ATTRIBUTE = 24;
+// a node with more than this part of all nodes in it is written from the whole image
+const SHARE = 8;
 const KINDS = { 1: 'element', 3: 'text', 7: 'processing instruction', 8: 'comment', 9: 'document', 10: 'doctype', 11: 'contents' };
 const NAMESPACES = [
   '',
@@ -15,7 +15,6 @@ const NAMESPACES = [
   'http://www.w3.org/2000/xmlns/',
 ];
 const QUIRKS = ['no', 'limited', 'yes'];
-const decoder = new TextDecoder('utf-8', { fatal: true, ignoreBOM: true });
 
 class Image {
   constructor(bytes) {
@@ -57,7 +56,7 @@ export class Node {
   }
 
   #word(k) {
-    return this.#image.word(HEADER + NODE * this.#number + 4 * k);
+    return wordOf(this.#image, this.#number, k);
   }
 
   #other(k) {
@@ -173,23 +172,73 @@ export class Node {
     for (const node of this.walk()) if (node.kind === 'text') text += node.data;
     return text;
   }
+
+  html() {
+    const kind = this.#word(0) & 255;
+    if (kind === 9) return ofNode('fig_serialize', this.#image.bytes, 0);
+    if (kind === 11) return this.innerHtml();
+    const part = inside(this.#image, this.#number, this.#image.word(8) / NODE / SHARE);
+    if (!part) return ofNode('fig_serialize', this.#image.bytes, this.#number);
+    return ofNode('fig_serialize', copy(this.#image, part, false), 1);
+  }
+
+  innerHtml() {
+    const kind = this.#word(0) & 255;
+    if (kind === 9) return this.html();
+    // a template's contents come just behind it
+    if (kind === 11) return new Node(this.#image, this.#number - 1).innerHtml();
+    if (kind !== 1) return '';
+    // without attributes, so that the tags are as long as the name
+    const html = ofNode('fig_serialize', copy(this.#image, inside(this.#image, this.#number, Infinity), true), 1);
+    const name = this.name.length;
+    return html.slice(name + 2, Math.max(0, html.length - name - 3));
+  }
+}
+
+// A URL without the white space around it, and without tabs and line breaks, which are no part of it (URL Standard, section 4.4).
+function inLine(url) {
+  return url.replace(/^[ \t\n\f\r]+|[ \t\n\f\r]+$|[\t\n\r]/g, '');
+}
+
+function joined(base, url) {
+  if (base === null) return url;
+  return URL.canParse(url, base) ? new URL(url, base).href : url;
 }
 
 export class Document extends Node {
   #image;
-  #selected;
+  #page;
 
-  // `selected` gives the numbers of what selectors select.
-  constructor(bytes, selected) {
+  // `page` is the page's bytes, if it was read by the Standard's table.
+  constructor(bytes, page) {
     const image = new Image(bytes);
     super(image, 0);
     this.#image = image;
-    this.#selected = selected;
+    this.#page = page;
   }
 
   select(selectors) {
-    if (!this.#selected) throw new TypeError("nothing can be selected in this document: its page isn't known, or was read by a table");
-    return Array.from(this.#selected(selectors), (number) => new Node(this.#image, number));
+    if (!this.#page) throw new TypeError("nothing can be selected in this document: its page isn't known, or was read by a table");
+    return Array.from(selected(bytesOf(selectors), this.#page), (number) => new Node(this.#image, number));
+  }
+
+  selectOne(selectors) {
+    return this.select(selectors)[0] ?? null;
+  }
+
+  links(base = null) {
+    const written = this.elements('base').map((it) => it.attribute('href')).find((it) => it !== null);
+    let absolute = base;
+    if (written !== undefined && URL.canParse(inLine(written), base ?? undefined)) {
+      absolute = new URL(inLine(written), base ?? undefined).href;
+    }
+    const found = [];
+    for (const element of this.walk()) {
+      if (element.kind !== 'element' || element.namespace !== NAMESPACES[1] || !['a', 'area'].includes(element.name)) continue;
+      const url = element.attribute('href');
+      if (url !== null) found.push({ element, url: joined(absolute, inLine(url)) });
+    }
+    return found;
   }
 
   get image() {

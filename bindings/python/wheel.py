@@ -25,7 +25,7 @@ def read(path):
 def main(library, folder, licences):
     package = os.path.join(os.path.dirname(os.path.abspath(__file__)), NAME)
     info = f"{NAME}-{VERSION}.dist-info"
-    files = {f"{NAME}/{it}": read(os.path.join(package, it)) for it in ("__init__.py", "tree.py", "py.typed")}
+    files = {f"{NAME}/{it}": read(os.path.join(package, it)) for it in ("__init__.py", "library.py", "tree.py", "py.typed")}
     files[f"{NAME}/lib{NAME}.so"] = read(library)
     files[f"{info}/METADATA"] = METADATA.encode()
     files[f"{info}/WHEEL"] = WHEEL.encode()

@@ -9,10 +9,15 @@
 ['text', 'element', 'comment']
 >>> p.parent.name, p.previous is None, page.elements("title")[0].text()
 ('body', True, 'A page')
+>>> p.inner_html(), p.last_child.html()
+('One <b>two</b><!--three-->', '<!--three-->')
 """
 import struct
 from collections.abc import Mapping
-from typing import Callable, Iterable, Iterator, List, Optional, Tuple
+from typing import Iterator, List, Optional, Tuple
+from urllib.parse import urljoin, urlsplit
+
+from .library import FigReport, bytes_of, fig_select, fig_serialize, of_node, with_room, words_of
 
 _NO_NODE = 0xFFFFFFFF
 _HEADER = 32
@@ -36,6 +41,8 @@ NAMESPACES = (
     "http://www.w3.org/XML/1998/namespace",
     "http://www.w3.org/2000/xmlns/",
 )
+# a node with more than this part of all nodes in it is written from the whole image
+_SHARE = 8
 
 
 class _Image:
@@ -79,19 +86,88 @@ class _Image:
         at += self.texts
         return self.data[at : at + length].decode()
 
+    def attributes_of(self, words: Tuple[int, ...]) -> Iterator[Tuple[int, ...]]:
+        """The records of the attributes of an element, by the element's record."""
+        at = self.attributes + words[8]
+        return _ATTRIBUTE.iter_unpack(self.data[at : at + 24 * words[9]])
+
+    def inside(self, top: int, most: Optional[int]) -> Optional[List[int]]:
+        """The numbers of a node and of all nodes in it, the contents of a template just behind it; None if they are more than `most`."""
+        found: List[int] = []
+        waiting = [top]
+        while waiting:
+            if most is not None and len(found) > most:
+                return None
+            number = waiting.pop()
+            found.append(number)
+            words = self.node(number)
+            holders = [words]
+            if words[0] & 255 == 1 and words[10] != _NO_NODE:
+                found.append(words[10])
+                holders.append(self.node(words[10]))
+            for holder in holders:
+                child = holder[2]
+                while child != _NO_NODE:
+                    waiting.append(child)
+                    child = self.node(child)[5]
+        return found
+
+    def copy(self, numbers: List[int], bare: bool) -> bytes:
+        """The image of a document in which there are these nodes alone, the first of them as its child. `bare`: without its attributes."""
+        news = {number: new for new, number in enumerate(numbers, 1)}
+        records = bytearray(_NODE.pack(9, _NO_NODE, 1, 1, _NO_NODE, _NO_NODE, 0, 0, 0, 0, 0, 0))
+        attributes, texts = bytearray(), bytearray()
+        for number in numbers:
+            words = self.node(number)
+            kind = words[0] & 255
+            begin, end = words[6], words[6] + words[7]
+            shift = len(texts) - begin
+            more = (0, 0, 0, 0)
+            if kind == 1:
+                own = [] if bare and number == numbers[0] else list(self.attributes_of(words))
+                more = (len(attributes), len(own), news.get(words[10], _NO_NODE), 0)
+                for name_at, name, value_at, value, namespace, prefix in own:
+                    attributes += _ATTRIBUTE.pack(name_at + shift, name, value_at + shift, value, namespace, prefix)
+                    end = value_at + value
+            elif kind == 7:
+                more, end = (words[8] + shift, words[9], 0, 0), words[8] + words[9]
+            elif kind == 10:
+                more, end = (words[8] + shift, words[9], words[10] + shift, words[11]), words[10] + words[11]
+            links = [news.get(other, _NO_NODE) for other in words[1:6]]
+            if number == numbers[0]:
+                links[0] = 0
+            records += _NODE.pack(words[0], *links, 0 if kind == 11 else len(texts), words[7], *more)
+            texts += self.data[self.texts + begin : self.texts + end]
+        header = struct.pack("<4s5IQ", b"FIGT", 1, len(records), len(attributes), len(texts), 0, 0)
+        return header + records + attributes + texts
+
+    def html(self, top: int) -> str:
+        """A node as HTML. Of a small part of a tree an image of its own is made, since the library reads all of an image."""
+        numbers = self.inside(top, (self.attributes - _HEADER) // 48 // _SHARE)
+        if numbers is None:
+            return of_node(fig_serialize, self.data, top)
+        return of_node(fig_serialize, self.copy(numbers, False), 1)
+
+    def inner_html(self, top: int) -> str:
+        """What is in an element as HTML: what stands between its tags, where it is written without attributes."""
+        numbers = self.inside(top, None)
+        assert numbers is not None
+        html = of_node(fig_serialize, self.copy(numbers, True), 1)
+        name = len(self.text(*self.node(top)[6:8]))
+        return html[name + 2 : -name - 3]
+
 
 class Attributes(Mapping):
     """The attributes of an element by their names, as ``href`` or ``xlink:href``, in the order of the page."""
 
-    __slots__ = ("_image", "_at", "_count")
+    __slots__ = ("_image", "_words")
 
-    def __init__(self, image: _Image, at: int, count: int) -> None:
+    def __init__(self, image: _Image, words: Tuple[int, ...]) -> None:
         self._image = image
-        self._at = image.attributes + at
-        self._count = count
+        self._words = words if words[0] & 255 == 1 else (0,) * 12
 
     def _records(self) -> Iterator[Tuple[int, ...]]:
-        return (_ATTRIBUTE.unpack_from(self._image.data, self._at + 24 * k) for k in range(self._count))
+        return self._image.attributes_of(self._words)
 
     def __getitem__(self, name: str) -> str:
         for record in self._records():
@@ -103,7 +179,7 @@ class Attributes(Mapping):
         return (self._image.text(*record[:2]) for record in self._records())
 
     def __len__(self) -> int:
-        return self._count
+        return self._words[9]
 
     def __repr__(self) -> str:
         return repr(dict(self))
@@ -169,8 +245,7 @@ class Node:
     @property
     def attrs(self) -> Attributes:
         """The attributes of an element; of another node none."""
-        at, count = self._words[8:10] if self._words[0] & 255 == 1 else (0, 0)
-        return Attributes(self._image, at, count)
+        return Attributes(self._image, self._words)
 
     @property
     def parent(self) -> "Optional[Node]":
@@ -215,36 +290,98 @@ class Node:
 
     def elements(self, name: str, namespace: str = NAMESPACES[1]) -> "List[Node]":
         """The elements below this node that have a name, in tree order."""
+        return self._named([name], namespace)
+
+    def _named(self, names: List[str], namespace: str) -> "List[Node]":
         kind = 1 + 256 * NAMESPACES.index(namespace)
-        spelled = name.encode()
-        image, data, texts, length = self._image, self._image.data, self._image.texts, len(spelled)
+        image, data, texts = self._image, self._image.data, self._image.texts
+        spelled = {name.encode() for name in names}
+        lengths = {len(name) for name in spelled}
         records = image.records()
         found = []
         for number in image.below(self._number):
             words = records[number]
-            if words[7] == length and words[0] & 0xFFFF == kind and data.startswith(spelled, texts + words[6]):
-                found.append(Node(image, number))
+            if words[7] in lengths and words[0] & 0xFFFF == kind:
+                at = texts + words[6]
+                if data[at : at + words[7]] in spelled:
+                    found.append(Node(image, number))
         return found
 
     def text(self) -> str:
-        """The characters of this node, if it is a text, and of all texts below it (`textContent` of the DOM)."""
+        """The characters of this node, if it is a text, and of all texts below it (`textContent` of the DOM). Time grows with
+        the number of nodes below it.
+
+        >>> from figpliers import parse
+        >>> parse("<ul><li>One<li>and <b>two</b></ul>").select_one("ul").text()
+        'Oneand two'
+        """
         if self._words[0] & 255 == 3:
             return self.data
         below = map(self._image.records().__getitem__, self._image.below(self._number))
         return "".join(self._image.text(words[6], words[7]) for words in below if words[0] == 3)
 
+    def html(self) -> str:
+        """This node as HTML, with what is in it (HTML Standard, section 13.3); of the document and of a template's contents what is
+        in them. It is written by the library, in time that grows with what is in the node. A text on its own is escaped, also one of
+        a `script`. Raises MemoryError, and Fault where the image is of no tree.
+
+        >>> from figpliers import parse
+        >>> parse("<p id=a>1 &lt; 2<br>").select_one("p").html()
+        '<p id="a">1 &lt; 2<br></p>'
+        """
+        kind = self._words[0] & 255
+        if kind == 9:
+            return of_node(fig_serialize, self._image.data, self._number)
+        # a template's contents come just behind it
+        return self._image.inner_html(self._number - 1) if kind == 11 else self._image.html(self._number)
+
+    def inner_html(self) -> str:
+        """What is in this node as HTML, without the node itself (`innerHTML` of the DOM): of a template its contents, of a node
+        that can have no children the empty str. Raises as `html`.
+
+        >>> from figpliers import parse
+        >>> parse("<p id=a>1 &lt; 2<br>").select_one("p").inner_html()
+        '1 &lt; 2<br>'
+        """
+        kind = self._words[0] & 255
+        if kind == 1:
+            return self._image.inner_html(self._number)
+        return self.html() if kind in (9, 11) else ""
+
+
+def _in_line(url: str) -> str:
+    """A URL without the white space around it, and without tabs and line breaks, which are no part of it (URL Standard, section 4.4)."""
+    return url.strip(" \t\n\f\r").translate({9: None, 10: None, 13: None})
+
+
+def _joined(base: Optional[str], url: str) -> str:
+    try:
+        return url if base is None else urljoin(base, url)
+    except ValueError:
+        return url
+
+
+def _is_absolute(url: str) -> bool:
+    try:
+        return bool(urlsplit(url).scheme)
+    except ValueError:
+        return False
+
 
 class Document(Node):
-    """The document of a page: node 0 of its image.
+    """The document of a page: node 0 of its image. It can be pickled, and so sent to another process.
 
     ``parse`` makes one of a page. ``Document(image)`` makes one of an image alone, in which nothing can be selected.
     """
 
-    __slots__ = ("_selected",)
+    __slots__ = ("_page",)
 
-    def __init__(self, data: bytes, selected: Optional[Callable[[str], Iterable[int]]] = None) -> None:
+    def __init__(self, data: bytes, page: Optional[bytes] = None) -> None:
         super().__init__(_Image(data), 0)
-        self._selected = selected
+        self._page = page
+
+    def __reduce__(self):
+        return Document, (self._image.data, self._page)
 
     def select(self, selectors: str) -> List[Node]:
         """The elements that CSS selectors select (Selectors Level 4), in tree order: the page is read once more for it.
@@ -255,13 +392,31 @@ class Document(Node):
         >>> [item.text() for item in parse("<ul><li>a<li>b</ul>").select("ul > li:nth-child(2)")]
         ['b']
         """
-        if self._selected is None:
+        if self._page is None:
             raise TypeError("nothing can be selected in this document: its page isn't known, or was read by a table")
-        return [Node(self._image, number) for number in self._selected(selectors)]
+        numbers, _ = with_room(fig_select, words_of(bytes_of(selectors), self._page), 256, FigReport())
+        return [Node(self._image, number) for (number,) in struct.iter_unpack("<I", numbers)]
 
     def select_one(self, selectors: str) -> Optional[Node]:
         """The first element that selectors select. Raises as `select`."""
         return next(iter(self.select(selectors)), None)
+
+    def links(self, base: Optional[str] = None) -> List[Tuple[Node, str]]:
+        """Each `a` and `area` with an `href`, in tree order, with its URL, without the white space around it and the line breaks in it.
+
+        The URL is absolute, as ``urllib.parse.urljoin`` makes it, if the page has a `base` that is absolute or `base` is given, the
+        address of the page: what the page's `base` says counts first. A URL that cannot be read stays as it is written.
+
+        >>> from figpliers import parse
+        >>> [(link.text(), url) for link, url in parse("<a href=b?c>d</a>").links("http://example.org/a/")]
+        [('d', 'http://example.org/a/b?c')]
+        """
+        written = [_in_line(it.attrs["href"]) for it in self.elements("base") if "href" in it.attrs][:1]
+        absolute = _joined(base, written[0]) if written else base
+        if absolute is None or not _is_absolute(absolute):
+            absolute = base
+        found = ((it, it.attrs.get("href")) for it in self._named(["a", "area"], NAMESPACES[1]))
+        return [(it, _joined(absolute, _in_line(url))) for it, url in found if url is not None]
 
     @property
     def image(self) -> bytes:

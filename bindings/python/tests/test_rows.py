@@ -2,38 +2,18 @@
 import ctypes
 import doctest
 import os
-import sys
+import pickle
 import threading
 
 import figpliers
+import figpliers.library
+import figpliers.tree
+import testing
+from testing import check, rows_of
 
-HERE = os.path.dirname(os.path.abspath(__file__))
-passed = failed = 0
-
-
-def check(holds, what):
-    global passed, failed
-    if holds:
-        passed += 1
-    else:
-        failed += 1
-        print("Python:", what)
-
-
-def unescaped(field):
-    made, at = bytearray(), 0
-    data = field.encode()
-    while at < len(data):
-        if data[at] != 0x5C:
-            made.append(data[at])
-        elif data[at + 1 : at + 2] == b"x":
-            made.append(int(data[at + 2 : at + 4], 16))
-            at += 3
-        else:
-            made += {b"n": b"\n", b"t": b"\t", b"r": b"\r", b"\\": b"\\"}[data[at + 1 : at + 2]]
-            at += 1
-        at += 1
-    return bytes(made)
+def told(report):
+    """The numbers of a report as the rows have them."""
+    return f"{'+' if report.errors else 0},0,{('no', 'limited', 'yes').index(report.quirks)},{int(report.plain)}"
 
 
 def called(name, table, page):
@@ -42,39 +22,35 @@ def called(name, table, page):
         if name.startswith("clean"):
             text, counts = getattr(figpliers, name)(page)
             return 0, ",".join(map(str, (0, *counts))), text.encode()
+        if name == "errors":
+            text = "".join(f"{it.line}: {it.message}\n" for it in figpliers.errors(page))
+            return 0, told(figpliers.normalise(page)[1]), text.encode()
         words = (page, table) if name.endswith("_with") else (page,)
         if name == "select":
             # the table of a row is its selectors
             nodes = figpliers.parse(page).select(table)
-            report = figpliers.normalise(page)[1]
-            numbers = f"{'+' if report.errors else 0},0,{('no', 'limited', 'yes').index(report.quirks)},{int(report.plain)}"
-            return 0, numbers, b"".join(node._number.to_bytes(4, "little") for node in nodes)
+            return 0, told(figpliers.normalise(page)[1]), b"".join(node._number.to_bytes(4, "little") for node in nodes)
         if name.startswith("tree"):
             document = figpliers.parse(*words)
             text, report = document.image, figpliers.normalise(*words)[1]
             check((document.errors, document.quirks) == (report.errors, report.quirks), "the header of an image")
         else:
             text, report = figpliers.normalise(*words)
-        numbers = f"{'+' if report.errors else 0},0,{('no', 'limited', 'yes').index(report.quirks)},{int(report.plain)}"
-        return 0, numbers, text.encode() if isinstance(text, str) else text
+        return 0, told(report), text.encode() if isinstance(text, str) else text
     except figpliers.Fault as fault:
         numbers = f"{fault.at},0,0,0,0" if name.startswith("clean") else f"0,{fault.at},0,0"
         return fault.answer, numbers, b""
 
 
 def rows():
-    with open(os.path.join(HERE, "..", "..", "rows.tsv"), encoding="utf-8", newline="\n") as file:
-        for row in file:
-            if row.startswith("#"):
-                continue
-            name, table, page, answer, numbers, text = row.rstrip("\n").split("\t")
-            got = called(name, unescaped(table), unescaped(page))
-            check(got == (int(answer), numbers, unescaped(text)), f"{row}{got}")
+    for name, table, page, answer, numbers, text in rows_of("rows.tsv"):
+        got = called(name.decode(), table, page)
+        check(got == (int(answer), numbers.decode(), text), f"{name} {table} {page} {got}")
 
 
 def layout():
     """What test.sh compares with C's."""
-    structures = {"fig_report": figpliers._Report, "fig_cleaned": figpliers._Cleaned}
+    structures = {"fig_report": figpliers.library.FigReport, "fig_cleaned": figpliers.library.FigCleaned}
     for name, structure in structures.items():
         for field, kind in structure._fields_:
             yield f"{name}.{field} {getattr(structure, field).offset} {ctypes.sizeof(kind)}"
@@ -110,11 +86,32 @@ top = figpliers.element("<!DOCTYPE html><p id=a>b<svg><path/></svg>c")
 check(top.find("body/p").get("id") == "a", "an element")
 check(top.find("body/p/{http://www.w3.org/2000/svg}svg").tail == "c", "an element of SVG")
 check(len(figpliers.element("<p>" * 1000).find("body")) == 1000, "many elements of etree")
-for module, examples in ((figpliers, 5), (figpliers.tree, 8)):
+
+def of_node(call, document, number):
+    return figpliers.library.of_node(call, document.image, number)
+
+
+serialize, text_content = figpliers.library.fig_serialize, figpliers.library.fig_text_content
+for document in (odd, many, figpliers.parse("<template a=b><p>c<template>d</template></template><script>e<f</script><table>g<td>h")):
+    for number in range(len(document._image.records())):
+        node = figpliers.Node(document._image, number)
+        check(node.html() == of_node(serialize, document, number), f"HTML of node {number}")
+        check(node.text() == of_node(text_content, document, number), f"the text of node {number}")
+broken = bytearray(many.image)
+broken[36] ^= 1
+for call, answer in ((lambda: figpliers.Document(bytes(broken)).html(), 48), (lambda: of_node(serialize, odd, 1000), 49)):
+    try:
+        call()
+        check(False, "a fault")
+    except figpliers.Fault as fault:
+        check((fault.answer, fault.at) == (answer, 0) and str(pickle.loads(pickle.dumps(fault))) == str(fault), f"{fault}")
+sent = pickle.loads(pickle.dumps(figpliers.parse("<p>a<p>b")))
+check(sent.select_one("p + p").html() == "<p>b</p>", "a document that was sent to another process")
+check(odd.links() == [] and figpliers.parse("<a href='//['>").links("http://[")[0][1] == "//[", "links that cannot be read")
+for module, examples in ((figpliers, 6), (figpliers.tree, 17)):
     outcome = doctest.testmod(module)
     check(outcome.failed == 0 and outcome.attempted == examples, f"the examples of {module.__name__}")
 if "FIGPLIERS_LAYOUT" in os.environ:
-    with open(os.environ["FIGPLIERS_LAYOUT"], "w") as file:
+    with open(os.environ["FIGPLIERS_LAYOUT"], "w", encoding="ascii") as file:
         file.write("\n".join(layout()) + "\n")
-print(f"Python: {passed} passed, {failed} failed")
-sys.exit(failed != 0)
+testing.end()

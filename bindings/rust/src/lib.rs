@@ -14,6 +14,7 @@
 //! no memory and hands none out, so what is owned here is a `String` or a `Vec` and needs no `Drop` of its own. Calls share
 //! nothing and may be made from any thread.
 
+mod part;
 mod sys;
 mod tree;
 
@@ -54,6 +55,15 @@ pub struct Report {
     pub plain: bool,
 }
 
+/// A parse error of a page.
+#[derive(Clone, Debug, PartialEq, Eq, Hash)]
+pub struct ParseError {
+    /// The line of the page on which it was found, counted from 1.
+    pub line: u64,
+    /// The Standard's code of it, or words where it has none, which may change.
+    pub message: String,
+}
+
 /// What cleaning took away.
 #[derive(Clone, Copy, Debug, Default, PartialEq, Eq, Hash)]
 pub struct Cleaned {
@@ -91,6 +101,10 @@ pub enum Fault {
     SelectorNotUtf8 { at: u64 },
     /// The text is no selectors; so many characters stand before the first fault.
     Selector { at: u64 },
+    /// The bytes are not the image of a tree.
+    NotAnImage,
+    /// The tree has no node of that number.
+    NoSuchNode,
     /// Selectors were asked in a document that was read by a table of its own.
     OwnTable,
     /// An answer of a later library.
@@ -110,6 +124,8 @@ impl Fault {
             20 => Fault::TableValue { row: at },
             32 => Fault::SelectorNotUtf8 { at },
             33 => Fault::Selector { at },
+            48 => Fault::NotAnImage,
+            49 => Fault::NoSuchNode,
             _ => Fault::Other { answer, at },
         }
     }
@@ -128,6 +144,8 @@ impl fmt::Display for Fault {
             Fault::TableValue { row } => write!(f, "row {row} of the table has a value that is no character"),
             Fault::SelectorNotUtf8 { at } => write!(f, "the selectors are not UTF-8 at byte {at}"),
             Fault::Selector { at } => write!(f, "the selectors are wrong at character {at}"),
+            Fault::NotAnImage => write!(f, "the bytes are not the image of a tree"),
+            Fault::NoSuchNode => write!(f, "the tree has no node of that number"),
             Fault::OwnTable => write!(f, "nothing can be selected in a document with a table of its own"),
             Fault::Other { answer, at } => write!(f, "answer {answer} at {at}"),
         }
@@ -195,6 +213,20 @@ fn by_table(call: sys::CallWith, table: &[u8], page: &[u8], guess: usize) -> Res
     })
 }
 
+/// What a call writes of a node of an image.
+fn of_node(call: sys::CallOfNode, image: &[u8], node: u32) -> Result<String, Fault> {
+    // SAFETY: as above.
+    let (text, _) = with_room(image.len() / 2 + 64, |output, room, report| unsafe {
+        call(image.as_ptr(), image.len(), node, output, room, report)
+    })?;
+    Ok(text_of(text))
+}
+
+/// A node of an image as HTML.
+fn serialized(image: &[u8], node: u32) -> Result<String, Fault> {
+    of_node(sys::fig_serialize, image, node)
+}
+
 /// The text of what is proved to be UTF-8.
 fn text_of(bytes: Vec<u8>) -> String {
     String::from_utf8(bytes).expect("what is written is UTF-8")
@@ -244,6 +276,25 @@ pub fn normalise_with(table: impl AsRef<[u8]>, page: impl AsRef<[u8]>) -> Result
     let page = page.as_ref();
     let (text, told) = by_table(sys::fig_normalise_with, table.as_ref(), page, text_guess(page))?;
     Ok((text_of(text), report_of(told)))
+}
+
+/// The parse errors of a page, in the order in which they are found.
+///
+/// ```
+/// let errors = figpliers::errors("<!DOCTYPE html>\n<p id=a id=b>")?;
+/// assert_eq!((errors[0].line, errors[0].message.as_str()), (2, "duplicate-attribute"));
+/// # Ok::<(), figpliers::Fault>(())
+/// ```
+///
+/// Errors: as of [`normalise`].
+pub fn errors(page: impl AsRef<[u8]>) -> Result<Vec<ParseError>, Fault> {
+    let page = page.as_ref();
+    let (text, _) = by_standard(sys::fig_errors, page, page.len() / 4 + 1024)?;
+    let error = |it: &str| {
+        let (line, message) = it.split_once(": ").expect("a line number and words");
+        ParseError { line: line.parse().expect("a number"), message: message.to_string() }
+    };
+    Ok(text_of(text).lines().map(error).collect())
 }
 
 /// The document of a page, with its tree.

@@ -23,6 +23,7 @@ pub struct FigCleaned {
 
 pub type Call<R> = unsafe extern "C" fn(*const u8, usize, *mut u8, usize, *mut R) -> u32;
 pub type CallWith = unsafe extern "C" fn(*const u8, usize, *const u8, usize, *mut u8, usize, *mut FigReport) -> u32;
+pub type CallOfNode = unsafe extern "C" fn(*const u8, usize, u32, *mut u8, usize, *mut FigReport) -> u32;
 
 extern "C" {
     pub fn fig_normalise(page: *const u8, page_length: usize, output: *mut u8, room: usize, report: *mut FigReport) -> u32;
@@ -36,6 +37,15 @@ extern "C" {
     pub fn fig_select(
         selector: *const u8, selector_length: usize, page: *const u8, page_length: usize, output: *mut u8, room: usize,
         report: *mut FigReport,
+    ) -> u32;
+    pub fn fig_errors(page: *const u8, page_length: usize, output: *mut u8, room: usize, report: *mut FigReport) -> u32;
+    pub fn fig_serialize(
+        image: *const u8, image_length: usize, node: u32, output: *mut u8, room: usize, report: *mut FigReport,
+    ) -> u32;
+    // texts are read from the image, and compared with this in tests
+    #[cfg(test)]
+    pub fn fig_text_content(
+        image: *const u8, image_length: usize, node: u32, output: *mut u8, room: usize, report: *mut FigReport,
     ) -> u32;
     pub fn fig_clean(page: *const u8, page_length: usize, output: *mut u8, room: usize, report: *mut FigCleaned) -> u32;
     pub fn fig_clean_document(page: *const u8, page_length: usize, output: *mut u8, room: usize, report: *mut FigCleaned) -> u32;

@@ -1,12 +1,14 @@
 //! The tree of a page, read from its image (`docs/TREE_IMAGE.md`).
 
-use crate::{Fault, Quirks};
+use crate::{part, Fault, Quirks};
 use std::fmt;
 
-const NO_NODE: u32 = u32::MAX;
-const HEADER: usize = 32;
-const NODE: usize = 48;
-const ATTRIBUTE: usize = 24;
+pub(crate) const NO_NODE: u32 = u32::MAX;
+pub(crate) const HEADER: usize = 32;
+pub(crate) const NODE: usize = 48;
+pub(crate) const ATTRIBUTE: usize = 24;
+/// A node with more than this part of all nodes in it is written from the whole image.
+const SHARE: usize = 8;
 
 /// The document of a page, with its tree.
 ///
@@ -64,7 +66,7 @@ pub struct Attribute<'a> {
     pub namespace: Namespace,
 }
 
-fn word(image: &[u8], at: usize) -> u32 {
+pub(crate) fn word(image: &[u8], at: usize) -> u32 {
     u32::from_le_bytes(image[at..at + 4].try_into().expect("four bytes"))
 }
 
@@ -113,6 +115,24 @@ impl Document {
         let page = self.page.as_deref().ok_or(Fault::OwnTable)?;
         let numbers = crate::selected(selectors.as_ref(), page)?;
         Ok(numbers.into_iter().map(|number| Node { image: &self.image, number }).collect())
+    }
+
+    /// Each `a` and `area` with an `href`, in tree order, with its URL as it is written, but for the white space around it and the line
+    /// breaks in it (URL Standard, section 4.4). To make URLs absolute needs a crate for URLs.
+    ///
+    /// ```
+    /// let page = figpliers::parse("<a href=' b?c '>d</a>")?;
+    /// let [(link, url)] = &page.links()[..] else { panic!() };
+    /// assert_eq!((link.text().as_str(), url.as_str()), ("d", "b?c"));
+    /// # Ok::<(), figpliers::Fault>(())
+    /// ```
+    pub fn links(&self) -> Vec<(Node<'_>, String)> {
+        let is_link = |it: &Node<'_>| it.namespace() == Namespace::Html && matches!(it.name(), "a" | "area");
+        let url_of = |it: Node<'_>| {
+            let url = it.attribute("href")?.trim_matches([' ', '\t', '\n', '\x0C', '\r']);
+            Some(url.replace(['\t', '\n', '\r'], ""))
+        };
+        self.root().descendants().filter(is_link).filter_map(|it| Some((it, url_of(it)?))).collect()
     }
 
     /// How many parse errors were counted: 0 in a page without any.
@@ -266,8 +286,64 @@ impl<'a> Node<'a> {
     }
 
     /// The characters of this node, if it is a text, and of all texts below it (`textContent` of the DOM).
+    ///
+    /// ```
+    /// let page = figpliers::parse("<ul><li>One<li>and <b>two</b></ul>")?;
+    /// assert_eq!(page.select("ul")?[0].text(), "Oneand two");
+    /// # Ok::<(), figpliers::Fault>(())
+    /// ```
     pub fn text(self) -> String {
         std::iter::once(self).chain(self.descendants()).filter(|it| it.kind() == Kind::Text).map(Node::data).collect()
+    }
+
+    /// This node as HTML, with what is in it (HTML Standard, section 13.3); of the document and of a template's contents what is in
+    /// them. It is written by the library, in time that grows with what is in the node. A text on its own is escaped, also one of a
+    /// `script`.
+    ///
+    /// ```
+    /// let page = figpliers::parse("<p id=a>1 &lt; 2<br>")?;
+    /// assert_eq!(page.select("p")?[0].html()?, "<p id=\"a\">1 &lt; 2<br></p>");
+    /// # Ok::<(), figpliers::Fault>(())
+    /// ```
+    ///
+    /// Errors: [`Fault::Memory`].
+    pub fn html(self) -> Result<String, Fault> {
+        match self.kind() {
+            Kind::Document => crate::serialized(self.image, 0),
+            Kind::Contents => self.inner_html(),
+            _ => {
+                let nodes = word(self.image, 8) as usize / NODE;
+                match part::inside(self.image, self.number, nodes / SHARE) {
+                    Some(found) => crate::serialized(&part::copy(self.image, &found, false), 1),
+                    None => crate::serialized(self.image, self.number),
+                }
+            }
+        }
+    }
+
+    /// What is in this node as HTML, without the node itself (`innerHTML` of the DOM): of a template its contents, of a node that can
+    /// have no children the empty text.
+    ///
+    /// ```
+    /// let page = figpliers::parse("<p id=a>1 &lt; 2<br>")?;
+    /// assert_eq!(page.select("p")?[0].inner_html()?, "1 &lt; 2<br>");
+    /// # Ok::<(), figpliers::Fault>(())
+    /// ```
+    ///
+    /// Errors: [`Fault::Memory`].
+    pub fn inner_html(self) -> Result<String, Fault> {
+        let element = match self.kind() {
+            Kind::Document => return self.html(),
+            Kind::Element => self,
+            // they come just behind their template
+            Kind::Contents => Node { number: self.number - 1, ..self },
+            _ => return Ok(String::new()),
+        };
+        let found = part::inside(self.image, element.number, usize::MAX).expect("no more than there can be");
+        // without attributes, so that the tags are as long as the name
+        let html = crate::serialized(&part::copy(self.image, &found, true), 1)?;
+        let name = element.name().len();
+        Ok(html.get(name + 2..html.len().saturating_sub(name + 3)).unwrap_or("").to_string())
     }
 }
 
@@ -284,3 +360,26 @@ impl PartialEq for Node<'_> {
 }
 
 impl Eq for Node<'_> {}
+
+#[cfg(test)]
+mod tests {
+    use super::{word, Node, NODE};
+
+    /// HTML of a part, and texts, are what the library writes of the node in the whole image.
+    #[test]
+    fn each_node_as_in_the_whole_image() {
+        let odd = "<!DOCTYPE a PUBLIC 'b'><p id=a class='\"&'>b<svg xlink:href=c></svg></p><script a=b>1<2</script><br><?g>\
+            <template><i>d</i><template x>y</template></template>e<!--f--><table>g<td>h";
+        for page in ["", "<li>1".repeat(40).as_str(), odd] {
+            let page = crate::parse(page).unwrap();
+            for number in 0..(word(&page.image, 8) as usize / NODE) as u32 {
+                let node = Node { image: &page.image, number };
+                assert_eq!(node.html(), crate::serialized(&page.image, number), "{number}");
+                assert_eq!(Ok(node.text()), crate::of_node(crate::sys::fig_text_content, &page.image, number), "{number}");
+            }
+        }
+        let page = crate::parse(odd).unwrap();
+        assert_eq!(crate::serialized(&page.image, 1000), Err(crate::Fault::NoSuchNode));
+        assert_eq!(crate::serialized(b"FIGT", 0), Err(crate::Fault::NotAnImage));
+    }
+}

@@ -1,27 +1,9 @@
 //! The rows that all bindings are tested with, from several threads.
 
-use figpliers::{Cleaned, Document, Fault, Kind, Namespace, Quirks, Report};
+mod common;
 
-fn unescaped(field: &str) -> Vec<u8> {
-    let (mut bytes, mut left) = (Vec::new(), field.as_bytes().iter().copied());
-    while let Some(byte) = left.next() {
-        if byte != b'\\' {
-            bytes.push(byte);
-            continue;
-        }
-        match left.next().unwrap() {
-            b'x' => {
-                let digits = [left.next().unwrap(), left.next().unwrap()];
-                bytes.push(u8::from_str_radix(std::str::from_utf8(&digits).unwrap(), 16).unwrap());
-            }
-            b'n' => bytes.push(b'\n'),
-            b't' => bytes.push(b'\t'),
-            b'r' => bytes.push(b'\r'),
-            other => bytes.push(other),
-        }
-    }
-    bytes
-}
+use common::{rows_of, unescaped};
+use figpliers::{Cleaned, Document, Fault, Kind, Namespace, Quirks, Report};
 
 fn told(report: Report) -> String {
     let quirks = match report.quirks {
@@ -68,6 +50,10 @@ fn call(name: &str, table: &[u8], page: &[u8]) -> Result<(Vec<u8>, String), Faul
             let numbers = document.select(table)?.into_iter().flat_map(|node| node.number().to_le_bytes()).collect();
             (numbers, told(figpliers::normalise(page)?.1))
         }
+        "errors" => {
+            let lines: String = figpliers::errors(page)?.into_iter().map(|it| format!("{}: {}\n", it.line, it.message)).collect();
+            (lines.into_bytes(), told(figpliers::normalise(page)?.1))
+        }
         "clean" => figpliers::clean(page).map(|(text, counts)| (text.into_bytes(), counted(counts)))?,
         "clean_document" => figpliers::clean_document(page).map(|(text, counts)| (text.into_bytes(), counted(counts)))?,
         other => panic!("{other}"),
@@ -75,9 +61,8 @@ fn call(name: &str, table: &[u8], page: &[u8]) -> Result<(Vec<u8>, String), Faul
 }
 
 fn rows() -> usize {
-    let rows = std::fs::read_to_string(concat!(env!("CARGO_MANIFEST_DIR"), "/../rows.tsv")).unwrap();
     let mut count = 0;
-    for row in rows.lines().filter(|row| !row.starts_with('#')) {
+    for row in rows_of("rows.tsv") {
         let fields: Vec<&str> = row.split('\t').collect();
         let want: u32 = fields[3].parse().unwrap();
         match call(fields[0], &unescaped(fields[1]), &unescaped(fields[2])) {

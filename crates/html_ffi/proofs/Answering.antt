@@ -11,7 +11,7 @@ use Rattle.html_ffi.specs.declared.report.FigReport.{FigReport}
 use Rattle.html_ffi.specs.declared.answer.Answer.{Answer}
 use Rattle.html_ffi.specs.declared.answer.Answer.TheVariants.{Done, NotUtf8, TooShort, Memory, TooLarge, TableNotUtf8}
 use Rattle.html_ffi.specs.declared.answer.Answer.TheVariants.{TableLine, TableName, TableDuplicate, TableValue}
-use Rattle.html_ffi.specs.declared.answer.Answer.TheVariants.{SelectorNotUtf8, Selector}
+use Rattle.html_ffi.specs.declared.answer.Answer.TheVariants.{SelectorNotUtf8, Selector, NotAnImage, NoNode}
 
 module _ (Makes : List ℕ → Type 0) (None : Type 0) (Why : Answer → Type 0) (old new : List ℕ) where
   -- a text that was made was put in front of the room, or is too long for it
@@ -28,6 +28,8 @@ module _ (Makes : List ℕ → Type 0) (None : Type 0) (Why : Answer → Type 0)
   put-means text TableValue made is = absurd is
   put-means text SelectorNotUtf8 made is = absurd is
   put-means text Selector made is = absurd is
+  put-means text NotAnImage made is = absurd is
+  put-means text NoNode made is = absurd is
 
   -- there is no text
   pub none-means : (Why Done → ⊥) → (Why TooShort → ⊥) → (answer : Answer) → Why answer → None → new ≡ old
@@ -44,6 +46,8 @@ module _ (Makes : List ℕ → Type 0) (None : Type 0) (Why : Answer → Type 0)
   none-means done short TableValue why none same = record { why = why; none = none; same = same }
   none-means done short SelectorNotUtf8 why none same = record { why = why; none = none; same = same }
   none-means done short Selector why none same = record { why = why; none = none; same = same }
+  none-means done short NotAnImage why none same = record { why = why; none = none; same = same }
+  none-means done short NoNode why none same = record { why = why; none = none; same = same }
 
 -- of a page's text
 module _ (Is : (file page text : List ℕ) → Report → Type 0) (Why : ℕ → Answer → Type 0) (file page old new : List ℕ)

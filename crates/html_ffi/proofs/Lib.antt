@@ -1,3 +1,4 @@
 mod Answering
+mod ErrorLines
 mod Making
 mod Selecting

@@ -12,7 +12,7 @@ use Rattle.html_ffi.specs.Calls.{IsReportOf, IsSelected, IsSelection}
 use Rattle.html_ffi.specs.declared.answer.Answer.{Answer}
 use Rattle.html_ffi.specs.declared.answer.Answer.TheVariants.{Done, NotUtf8, TooShort, Memory, TooLarge, TableNotUtf8}
 use Rattle.html_ffi.specs.declared.answer.Answer.TheVariants.{TableLine, TableName, TableDuplicate, TableValue}
-use Rattle.html_ffi.specs.declared.answer.Answer.TheVariants.{SelectorNotUtf8, Selector}
+use Rattle.html_ffi.specs.declared.answer.Answer.TheVariants.{SelectorNotUtf8, Selector, NotAnImage, NoNode}
 use Rattle.html_ffi.proofs.Making.{page-made}
 
 -- what is wrong with the table or the page is so for a call that takes selectors too
@@ -30,6 +30,8 @@ fails-too file selector page TableDuplicate at why = why
 fails-too file selector page TableValue at why = why
 fails-too file selector page SelectorNotUtf8 at why = absurd why
 fails-too file selector page Selector at why = absurd why
+fails-too file selector page NotAnImage at why = absurd why
+fails-too file selector page NoNode at why = absurd why
 
 -- what selectors select in a page that was read to its end
 pub selection-made : (file selector page text : List ℕ) (rows : List Row) (f : Forest) (bytes : List ℕ) (report : Report)

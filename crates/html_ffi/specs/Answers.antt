@@ -15,13 +15,15 @@ use Rattle.html_selector_text.specs.Grammar.{parsed}
 use Rattle.html_selector_text.specs.declared.fault.SelectorError.{SelectorError}
 use Rattle.html_selector_text.specs.declared.fault.SelectorError.TheVariants as errors
 use Rattle.html_selector_text.specs.declared.fault.SyntaxFault.{SyntaxFault}
+use Rattle.html_image_reader.specs.declared.read.ReadFault.{ReadFault}
+use Rattle.html_image_reader.specs.declared.read.ReadFault.TheVariants as read
 use Rattle.html_tree_image.specs.Image.{is_too_large}
 use Rattle.html_tree_image.specs.declared.image.ImageFault.{ImageFault}
 use Rattle.html_tree_image.specs.declared.image.ImageFault.TheVariants as image
 use Rattle.html_ffi.specs.declared.answer.Answer.{Answer}
 use Rattle.html_ffi.specs.declared.answer.Answer.TheVariants.{Done, NotUtf8, TooShort, Memory, TooLarge, TableNotUtf8}
 use Rattle.html_ffi.specs.declared.answer.Answer.TheVariants.{TableLine, TableName, TableDuplicate, TableValue}
-use Rattle.html_ffi.specs.declared.answer.Answer.TheVariants.{SelectorNotUtf8, Selector}
+use Rattle.html_ffi.specs.declared.answer.Answer.TheVariants.{SelectorNotUtf8, Selector, NotAnImage, NoNode}
 use Rattle.html_ffi.specs.declared.answer.Failure.{Failure}
 
 -- ANSWERS
@@ -40,6 +42,8 @@ number_of TableDuplicate = 19
 number_of TableValue = 20
 number_of SelectorNotUtf8 = 32
 number_of Selector = 33
+number_of NotAnImage = 48
+number_of NoNode = 49
 
 abbrev pub failure : Answer → ℕ → Failure
 failure answer at = record { answer = answer; at = at }
@@ -56,6 +60,11 @@ failure_of normal.Refused = failure Memory 0
 abbrev pub image_failure_of : ImageFault → Failure
 image_failure_of image.Memory = failure Memory 0
 image_failure_of image.TooLarge = failure TooLarge 0
+
+-- of a block of bytes that is to be an image
+abbrev pub read_failure_of : ReadFault → Failure
+read_failure_of read.Memory = failure Memory 0
+read_failure_of read.NotAnImage = failure NotAnImage 0
 
 -- of a text of selectors
 abbrev pub selector_failure_of : SelectorError → Failure
@@ -99,6 +108,8 @@ Fails file page TableDuplicate at = HasBadRow file (table.Duplicate at)
 Fails file page TableValue at = HasBadRow file (table.BadValue at)
 Fails file page SelectorNotUtf8 at = ⊥
 Fails file page Selector at = ⊥
+Fails file page NotAnImage at = ⊥
+Fails file page NoNode at = ⊥
 
 -- A text is no selectors: the first fault is at this place, in characters.
 pub record IsNoSelector (text : List ℕ) (at : ℕ) : Type 0 where
@@ -131,6 +142,8 @@ IsPut text old new TableDuplicate = ⊥
 IsPut text old new TableValue = ⊥
 IsPut text old new SelectorNotUtf8 = ⊥
 IsPut text old new Selector = ⊥
+IsPut text old new NotAnImage = ⊥
+IsPut text old new NoNode = ⊥
 
 -- What an answer says: of a text that `Makes` says is the one that is asked for, or of why there is none, and then `None`.
 module _ (Makes : List ℕ → Type 0) (None : Type 0) (Why : Answer → Type 0) (old new : List ℕ) where
@@ -166,6 +179,8 @@ module _ (Makes : List ℕ → Type 0) (None : Type 0) (Why : Answer → Type 0)
   Means TableValue = HasNone TableValue
   Means SelectorNotUtf8 = HasNone SelectorNotUtf8
   Means Selector = HasNone Selector
+  Means NotAnImage = HasNone NotAnImage
+  Means NoNode = HasNone NoNode
 
 -- The number that C gets is that of an answer, which says this.
 pub record IsAnswer (Says : Answer → Type 0) (number : ℕ) : Type 0 where

@@ -1,3 +1,5 @@
 pub mod Answers
 pub mod Reports
 pub mod Calls
+pub mod Images
+pub mod Errors

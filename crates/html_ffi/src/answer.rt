@@ -1,9 +1,10 @@
 //! What a call answers.
 ghost use Rattle.std.specs.Prelude.{◌≡◌, ℕ, List};
-ghost use Rattle.html_ffi.specs.Answers.{Fails, failure_of, image_failure_of, number_of, row_failure_of};
+ghost use Rattle.html_ffi.specs.Answers.{Fails, failure_of, image_failure_of, number_of, read_failure_of, row_failure_of};
 ghost use Rattle.html_ffi.specs.Answers.{selector_failure_of, table_failure_of};
 ghost use Rattle.html_ffi.specs.declared.answer.Answer.TheVariants.{Memory};
 
+use html_image_reader::ReadFault;
 use html_normal::{NormalFault, TableFault, TableFileFault};
 use html_selector_text::SelectorError;
 use html_tree_image::ImageFault;
@@ -36,6 +37,10 @@ pub enum Answer {
     SelectorNotUtf8,
     /// The text is no selectors.
     Selector,
+    /// The bytes are not the image of a tree.
+    NotAnImage,
+    /// The tree has no node of that number.
+    NoNode,
 }
 
 impl Answer {
@@ -56,6 +61,8 @@ impl Answer {
             Answer::TableValue => 20,
             Answer::SelectorNotUtf8 => 32,
             Answer::Selector => 33,
+            Answer::NotAnImage => 48,
+            Answer::NoNode => 49,
         }
     }
 }
@@ -160,6 +167,20 @@ impl From<ImageFault> for Failure {
             ImageFault::Memory => no_memory(),
             ImageFault::TooLarge => Failure {
                 answer: Answer::TooLarge,
+                at: 0,
+            },
+        }
+    }
+}
+
+impl From<ReadFault> for Failure {
+    ghost from_gives = { λ fault made. made ≡ read_failure_of fault };
+
+    fn from(fault: ReadFault) -> Failure {
+        match fault {
+            ReadFault::Memory => no_memory(),
+            ReadFault::NotAnImage => Failure {
+                answer: Answer::NotAnImage,
                 at: 0,
             },
         }

@@ -5,9 +5,13 @@ ghost use Rattle.std.specs.Prelude.{◌≡◌, length};
 ghost use Rattle.html_ffi.specs.Answers.{IsAnswer};
 ghost use Rattle.html_ffi.specs.Calls.{IsCleanDocument, IsCleanFragment, IsNormalText, IsTreeImage};
 ghost use Rattle.html_ffi.specs.Calls.{MeansCleaned, MeansSelection, MeansText};
+ghost use Rattle.html_ffi.specs.Errors.{IsErrorList};
+ghost use Rattle.html_ffi.specs.Images.{IsHtml, IsTextContent, MeansNode};
 
 mod answer;
 mod clean;
+mod errors;
+mod image;
 mod normal;
 mod page;
 mod report;
@@ -19,7 +23,9 @@ mod tests;
 mod tree;
 
 use clean::{clean_document_by, clean_fragment_by};
+use errors::errors_by;
 use html_standard_references::STANDARD_ROWS;
+use image::{serialize_by, text_by};
 use normal::normalise_by;
 use report::{FigCleaned, FigReport};
 use select::select_by;
@@ -108,6 +114,21 @@ pub extern "C" fn fig_select(
     .number()
 }
 
+/// Writes a line for each parse error of `page` to `output`, in the order in which they are found: the number of the page's line, `: `,
+/// and the Standard's code of the error or words (HTML Standard, section 13.2.2). By the Standard's table of references.
+#[unsafe(no_mangle)]
+pub extern "C" fn fig_errors(
+    alloc: Global,
+    page: &[u8],
+    output: &mut [u8],
+    report: &mut FigReport,
+) -> u32
+    ensures answer { IsAnswer (MeansText IsErrorList STANDARD_ROWS.now page.now output.old output.new report.new) result }
+    ensures same_room { length output.new ≡ length output.old }
+{
+    errors_by(alloc, STANDARD_ROWS.as_bytes(), page, output, report).number()
+}
+
 /// Writes what the ready policy keeps of `page`, as a fragment in a `div`, to `output`.
 #[unsafe(no_mangle)]
 pub extern "C" fn fig_clean(
@@ -134,4 +155,36 @@ pub extern "C" fn fig_clean_document(
     ensures same_room { length output.new ≡ length output.old }
 {
     clean_document_by(alloc, STANDARD_ROWS.as_bytes(), page, output, report).number()
+}
+
+/// Writes a node of a tree, by its number in the tree's image, with what is in it as HTML (HTML Standard, section 13.3) to `output`; of
+/// the document and of a template's contents what is in them. `image` may come from anywhere.
+#[unsafe(no_mangle)]
+pub extern "C" fn fig_serialize(
+    alloc: Global,
+    image: &[u8],
+    node: u32,
+    output: &mut [u8],
+    report: &mut FigReport,
+) -> u32
+    ensures answer { IsAnswer (MeansNode IsHtml node image.now output.old output.new report.new) result }
+    ensures same_room { length output.new ≡ length output.old }
+{
+    serialize_by(alloc, image, node, output, report).number()
+}
+
+/// Writes the text of a node of a tree, by its number in the tree's image, to `output`: that of each text in it (DOM Standard, section
+/// 4.4, `textContent`). `image` may come from anywhere.
+#[unsafe(no_mangle)]
+pub extern "C" fn fig_text_content(
+    alloc: Global,
+    image: &[u8],
+    node: u32,
+    output: &mut [u8],
+    report: &mut FigReport,
+) -> u32
+    ensures answer { IsAnswer (MeansNode IsTextContent node image.now output.old output.new report.new) result }
+    ensures same_room { length output.new ≡ length output.old }
+{
+    text_by(alloc, image, node, output, report).number()
 }

@@ -2,21 +2,24 @@
 
 use crate::report::{FigCleaned, FigReport};
 use crate::{
-    fig_clean, fig_clean_document, fig_normalise, fig_normalise_with, fig_select, fig_tree,
-    fig_tree_with,
+    fig_clean, fig_clean_document, fig_errors, fig_normalise, fig_normalise_with, fig_select,
+    fig_serialize, fig_text_content, fig_tree, fig_tree_with,
 };
 use std::alloc::Global;
 
 /// The room that each call is given.
 const ROOM: usize = 400;
 
-/// A call whose report is on a page: its table or its selectors, if it takes one, and the page.
+/// A call whose report is on a page: its table or its selectors, if it takes one, and the page; or an image and a node.
 enum Page {
     Normal(&'static [u8]),
     NormalWith(&'static [u8], &'static [u8]),
     Tree(&'static [u8]),
     TreeWith(&'static [u8], &'static [u8]),
     Select(&'static [u8], &'static [u8]),
+    Serialize(&'static [u8], u32),
+    Text(&'static [u8], u32),
+    Errors(&'static [u8]),
 }
 
 /// The answer, and what the report has: `at`, the number of the quirks mode, and whether the document is plain; and what is written.
@@ -74,6 +77,34 @@ const PAGES: &[(Page, Seen)] = &[
     (Page::Select(b"p >", b"<p>"), (33, 3, 0, 0, b"")),
     (Page::Select(b"p\xFF", b"<p>"), (32, 1, 0, 0, b"")),
     (Page::Select(b"p", b"a\xFF"), (1, 1, 0, 0, b"")),
+    (
+        Page::Serialize(IMAGE, 0),
+        (
+            0,
+            0,
+            0,
+            1,
+            b"<!DOCTYPE html><html><head></head><body></body></html>",
+        ),
+    ),
+    (Page::Serialize(IMAGE, 4), (0, 0, 0, 1, b"<body></body>")),
+    (Page::Serialize(IMAGE, 5), (49, 0, 0, 0, b"")),
+    (Page::Serialize(b"FIGT", 0), (48, 0, 0, 0, b"")),
+    (Page::Text(IMAGE, 0), (0, 0, 0, 1, b"")),
+    (Page::Text(IMAGE, 5), (49, 0, 0, 0, b"")),
+    (Page::Text(b"", 0), (48, 0, 0, 0, b"")),
+    (
+        Page::Errors(b"<!DOCTYPE html>\n<p>&nosuch;\n<b b b></b>"),
+        (
+            0,
+            0,
+            0,
+            1,
+            b"2: unknown-named-character-reference\n3: duplicate-attribute\n",
+        ),
+    ),
+    (Page::Errors(b"<!DOCTYPE html>"), (0, 0, 0, 1, b"")),
+    (Page::Errors(b"a\xFF"), (1, 1, 0, 0, b"")),
 ];
 
 /// A call whose report is on a page that was cleaned.
@@ -126,6 +157,9 @@ fn call(alloc: Global, page: &Page, output: &mut [u8], report: &mut FigReport) -
         Page::Tree(page) => fig_tree(alloc, page, output, report),
         Page::TreeWith(table, page) => fig_tree_with(alloc, table, page, output, report),
         Page::Select(selector, page) => fig_select(alloc, selector, page, output, report),
+        Page::Serialize(image, node) => fig_serialize(alloc, image, *node, output, report),
+        Page::Text(image, node) => fig_text_content(alloc, image, *node, output, report),
+        Page::Errors(page) => fig_errors(alloc, page, output, report),
     }
 }
 

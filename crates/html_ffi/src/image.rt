@@ -1,0 +1,163 @@
+//! A node of a tree's image, as HTML and as text.
+ghost use Rattle.std.specs.Prelude.{◌≡◌, IfErr, IfOk, length};
+ghost use Rattle.std.specs.String.{string_bytes};
+ghost use Rattle.html_plain.specs.Grammar.{is_plain_forest};
+ghost use Rattle.html_ffi.specs.Images.{FailsOnNode, IsFound, IsHtml, IsMadeOfNode, IsTextContent, MeansNode, html_of, text_of};
+ghost use Rattle.html_ffi.specs.declared.answer.Answer.TheVariants.{Memory};
+
+use crate::answer::{Answer, Failure, no_memory};
+use crate::report::FigReport;
+use crate::room::put_front;
+use devices::VecWriter;
+use html_forest::{Forest, ForestNode, NodeId};
+use html_image_reader::{Image, read_image};
+use html_nodes::text_content;
+use html_normal::Report;
+use html_serialize::{SerializeOpts, serialize};
+use markup::TraversalScope;
+use std::alloc::Global;
+
+/// A node of a tree, with the report of the tree.
+#[derive(Drop)]
+struct Found {
+    forest: Forest,
+    report: Report,
+    id: NodeId,
+}
+
+/// The report of an image.
+fn report_of(image: &Image) -> Result<Report, Failure>
+    ensures plain { IfOk result (λ report. report.plain ≡ is_plain_forest image.now.forest) }
+    ensures quirks { IfOk result (λ report. report.quirks ≡ image.now.forest.quirks) }
+    ensures errors { IfOk result (λ report. report.errors ≡ image.now.errors) }
+    ensures err { IfErr result (λ failure. failure ≡ record { answer = Memory; at = 0 }) }
+{
+    match image.forest.is_plain() {
+        Ok(plain) => Ok(Report {
+            plain,
+            quirks: image.forest.quirks(),
+            errors: image.errors,
+        }),
+        Err(_) => Err(no_memory()),
+    }
+}
+
+/// A node of the tree of which a block of bytes is the image.
+fn find_node(alloc: Global, image: &[u8], node: u32) -> Result<Found, Failure>
+    ensures ok { IfOk result (λ found. IsFound image.now node found.forest found.id found.report) }
+    ensures err { IfErr result (λ failure. FailsOnNode image.now node failure.answer failure.at) }
+{
+    let read = match read_image(alloc, image) {
+        Ok(read) => read,
+        Err(fault) => return Err(Failure::from(fault)),
+    };
+    let id = NodeId::new(node as usize);
+    if read.forest.node(id).is_none() {
+        return Err(Failure {
+            answer: Answer::NoNode,
+            at: 0,
+        });
+    }
+    let report = report_of(&read)?;
+    Ok(Found {
+        forest: read.forest,
+        report,
+        id,
+    })
+}
+
+/// A node as HTML.
+fn html_of(alloc: Global, forest: &Forest, id: NodeId) -> Result<VecWriter, Failure>
+    ensures ok { IfOk result (λ writer. writer.written ≡ html_of forest.now id) }
+    ensures err { IfErr result (λ failure. failure ≡ record { answer = Memory; at = 0 }) }
+{
+    let mut writer = VecWriter::new(alloc);
+    let opts = SerializeOpts {
+        scripting_enabled: true,
+        traversal_scope: TraversalScope::IncludeNode,
+        create_missing_parent: false,
+    };
+    match serialize(alloc, &mut writer, &ForestNode { forest, id }, opts) {
+        Ok(()) => Ok(writer),
+        Err(_) => Err(no_memory()),
+    }
+}
+
+/// A node of an image as HTML, with the report of the image.
+fn node_html(alloc: Global, image: &[u8], node: u32) -> Result<(VecWriter, Report), Failure>
+    ensures ok { IfOk result (λ made. IsMadeOfNode IsHtml node image.now made.0.written made.1) }
+    ensures err { IfErr result (λ failure. FailsOnNode image.now node failure.answer failure.at) }
+{
+    let found = find_node(alloc, image, node)?;
+    let writer = html_of(alloc, &found.forest, found.id)?;
+    Ok((writer, found.report))
+}
+
+/// The text of a node.
+fn text_of(alloc: Global, forest: &Forest, id: NodeId) -> Result<String, Failure>
+    ensures ok { IfOk result (λ text. string_bytes text ≡ text_of forest.now id) }
+    ensures err { IfErr result (λ failure. failure ≡ record { answer = Memory; at = 0 }) }
+{
+    match text_content(alloc, forest, id) {
+        Ok(text) => Ok(text),
+        Err(_) => Err(no_memory()),
+    }
+}
+
+/// The text of a node of an image, with the report of the image.
+fn node_text(alloc: Global, image: &[u8], node: u32) -> Result<(String, Report), Failure>
+    ensures ok { IfOk result (λ made. IsMadeOfNode IsTextContent node image.now (string_bytes made.0) made.1) }
+    ensures err { IfErr result (λ failure. FailsOnNode image.now node failure.answer failure.at) }
+{
+    let found = find_node(alloc, image, node)?;
+    let text = text_of(alloc, &found.forest, found.id)?;
+    Ok((text, found.report))
+}
+
+/// Writes a node of an image as HTML to the front of room.
+pub(crate) fn serialize_by(
+    alloc: Global,
+    image: &[u8],
+    node: u32,
+    output: &mut [u8],
+    report: &mut FigReport,
+) -> Answer
+    ensures answer { MeansNode IsHtml node image.now output.old output.new report.new result }
+    ensures same_room { length output.new ≡ length output.old }
+{
+    match node_html(alloc, image, node) {
+        Ok(made) => {
+            let text = made.0.written();
+            *report = FigReport::new(text.len(), made.1);
+            put_front(output, text)
+        }
+        Err(failure) => {
+            *report = FigReport::nothing(failure.at);
+            failure.answer
+        }
+    }
+}
+
+/// Writes the text of a node of an image to the front of room.
+pub(crate) fn text_by(
+    alloc: Global,
+    image: &[u8],
+    node: u32,
+    output: &mut [u8],
+    report: &mut FigReport,
+) -> Answer
+    ensures answer { MeansNode IsTextContent node image.now output.old output.new report.new result }
+    ensures same_room { length output.new ≡ length output.old }
+{
+    match node_text(alloc, image, node) {
+        Ok(made) => {
+            let text = made.0.as_str().as_bytes();
+            *report = FigReport::new(text.len(), made.1);
+            put_front(output, text)
+        }
+        Err(failure) => {
+            *report = FigReport::nothing(failure.at);
+            failure.answer
+        }
+    }
+}
