@@ -1,6 +1,6 @@
 /* What lexbor's selectors find in a page, and how long that takes: lexbor_select PAGE SELECTOR..
 
-   Standard error gets a line for each selector, as from the program bench_selectors: how many elements were found, and the seconds. */
+   Standard error gets a line for each selector, as from `bench_pages select`: how many elements were found, and the seconds. */
 #include <lexbor/css/css.h>
 #include <lexbor/html/html.h>
 #include <lexbor/selectors/selectors.h>

@@ -1,8 +1,8 @@
 #!/usr/bin/env python3
 """How the time of a search grows with the page and with the selector.
 
-    (cd crates/bench_selectors && rt run)
-    python3 bench/selector_growth.py crates/bench_selectors/out/bench_selectors [COUNT] [ROUNDS]
+    (cd crates/bench_pages && rt run)
+    python3 bench/selector_growth.py crates/bench_pages/out/bench_pages [COUNT] [ROUNDS]
 
 Each page below has COUNT elements (5,000 by default), then twice, four and eight times as many; and each selector is made longer on a page of
 COUNT elements. A row has milliseconds, the best of ROUNDS (5 by default), and how many times as long the largest takes as the smallest. The
@@ -55,7 +55,7 @@ def seconds(program, page, selectors, rounds):
         path.write_text("<!doctype html><title>t</title><body>" + page)
         best = [float("inf")] * len(selectors)
         for _ in range(rounds):
-            done = subprocess.run([program, str(path), *selectors], capture_output=True, text=True, check=True)
+            done = subprocess.run([program, "select", str(path), *selectors], capture_output=True, text=True, check=True)
             assert "refused" not in done.stdout
             times = [float(t) for t in re.findall(r" found, ([0-9.e-]+) s, ", done.stderr)]
             assert len(times) == len(selectors)
@@ -70,7 +70,7 @@ def instructions(program, page, selectors):
         path.write_text("<!doctype html><title>t</title><body>" + page)
         counts = []
         for words in [[], *[[selector] for selector in selectors]]:
-            run = ["valgrind", "--tool=callgrind", "--callgrind-out-file=/dev/null", program, str(path), *words]
+            run = ["valgrind", "--tool=callgrind", "--callgrind-out-file=/dev/null", program, "select", str(path), *words]
             done = subprocess.run(run, capture_output=True, text=True, check=True)
             counts.append(int(re.search(r"Collected : (\d+)", done.stderr)[1]))
         return [(count - counts[0]) / 1e9 for count in counts[1:]]

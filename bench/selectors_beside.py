@@ -15,11 +15,11 @@ SELECTORS = [
 LINE = re.compile(r"^(.*): (\d+) found, ([0-9.e-]+) s(?:, ([0-9.e-]+) s with an index)?$", re.M)
 
 
-def asked(program, page):
+def asked(command, page):
     """How many elements each selector finds, and the microseconds that it took, in a process of its own: nothing was asked before."""
     rows = []
     for selector in SELECTORS:
-        done = subprocess.run([program, page, selector], capture_output=True, text=True, check=True)
+        done = subprocess.run([*command, page, selector], capture_output=True, text=True, check=True)
         [(_, found, *times)] = LINE.findall(done.stderr)
         rows.append((int(found), [1e6 * float(t) for t in times if t]))
     return rows
@@ -31,7 +31,7 @@ def least(one, other):
 
 
 def main():
-    ours, lexbor, page, rounds = sys.argv[1], sys.argv[2], sys.argv[3], int(sys.argv[4])
+    ours, lexbor, page, rounds = [sys.argv[1], "select"], [sys.argv[2]], sys.argv[3], int(sys.argv[4])
     here, there = asked(ours, page), asked(lexbor, page)
     for _ in range(rounds - 1):
         here, there = least(here, asked(ours, page)), least(there, asked(lexbor, page))

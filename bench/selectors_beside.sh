@@ -14,8 +14,8 @@ set -e
 top="$(cd "$(dirname "$0")/.." && pwd)"
 work=$(mktemp -d)
 trap 'rm -rf "$work"' EXIT
-[ -n "$SELECTORS" ] || (cd "$top/crates/bench_selectors" && rt run > /dev/null)
+[ -n "$SELECTORS" ] || (cd "$top/crates/bench_pages" && rt run > /dev/null)
 cc -O2 -I"$1/usr/include" -o "$work/lexbor_select" "$top/bench/lexbor_select.c" "$(ls "$1"/usr/lib/*/liblexbor_static.a)" -lm
 page=${2:-$work/page.html}
 [ -n "$2" ] || (cd "$top/bench" && python3 -c "from normal import Page; print(end=Page(1).text(1_000_000))") > "$page"
-python3 "$top/bench/selectors_beside.py" "${SELECTORS:-$top/crates/bench_selectors/out/bench_selectors}" "$work/lexbor_select" "$page" "${3:-20}"
+python3 "$top/bench/selectors_beside.py" "${SELECTORS:-$top/crates/bench_pages/out/bench_pages}" "$work/lexbor_select" "$page" "${3:-20}"

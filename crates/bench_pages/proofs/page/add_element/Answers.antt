@@ -1,7 +1,7 @@
 use Rattle.std.proofs.Common.{false}
 use Rattle.markup.specs.declared.flags.ElementFlags.{ElementFlags}
 use Rattle.markup.proofs.Forests.{IsMade-create_element}
-use Rattle.bench_serialize.proofs.page.add_element.Goals as goal
+use Rattle.bench_pages.proofs.page.add_element.Goals as goal
 
 -- A new element stands nowhere, so it may be put into the document.
 pub append-requires-clause-child : goal.append-requires-clause-child

@@ -1,11 +1,10 @@
-//! What selectors select in a page, and how long that takes: `bench_selectors FILE SELECTOR..`.
+//! What selectors select in a page, and how long that takes.
 //!
 //! Standard output gets a line for each selector: the numbers of the elements that are selected, counted from 0 in tree order, or
 //! `refused` where the text is no selector. Standard error gets how long the search took, by an index that is there, and with the making of
 //! one.
-#![tactic(auto)]
-
-use anyhow::{Context, Result, bail};
+use crate::files::bytes_of;
+use anyhow::{Result, bail};
 use html_forest::{Forest, NodeId};
 use html_nodes::{element_name, nodes_below};
 use html_pages::document_lossy;
@@ -14,40 +13,39 @@ use html_selectors::{Index, select_all};
 use html_standard_references::standard;
 use selectors::Selectors;
 use std::alloc::Global;
-use std::env;
-use std::fs::File;
-use std::io::Read;
 use std::rt::{Clock, Files};
 use std::time::Instant;
 
-fn main(rt: HostRuntime) -> Result<()> {
-    let alloc = rt.alloc();
-    let words: Vec<String> = env::args(&rt)?.skip(1).collect(alloc)?;
-    let Some(path) = words.get(0) else {
+/// The document of a page, with the Standard's references.
+fn page_of(alloc: Global, bytes: &[u8]) -> Result<Forest> {
+    let Ok(references) = standard(alloc) else {
+        bail!("no memory for the references");
+    };
+    let Ok(forest) = document_lossy(alloc, references, bytes) else {
+        bail!("no memory for the page");
+    };
+    Ok(forest)
+}
+
+/// Tells what each of some selectors selects in a page: the words are its name, and the selectors.
+pub(crate) fn select_each<R: Files + Clock + Print + Eprint>(
+    rt: &R,
+    alloc: Global,
+    words: &[&str],
+) -> Result<()> {
+    let Some((path, selectors)) = words.split_first() else {
         bail!("the name of a page is missing");
     };
-    let forest = page_of(&rt, alloc, path.as_str())?;
-    for word in words.iter().skip(1) {
-        match parse(alloc, word.as_str()) {
-            Ok(selectors) => measure(&rt, alloc, &forest, word.as_str(), &selectors)?,
+    let bytes = bytes_of(rt, alloc, path)?;
+    let forest = page_of(alloc, bytes.as_slice())?;
+    for word in selectors {
+        match parse(alloc, word) {
+            Ok(selectors) => measure(rt, alloc, &forest, word, &selectors)?,
             Err(SelectorError::Memory) => bail!("no memory for the selector"),
             Err(SelectorError::Syntax { .. }) => println!(rt; "refused")?,
         }
     }
     Ok(())
-}
-
-fn page_of<R: Files>(rt: &R, alloc: Global, path: &str) -> Result<Forest> {
-    let mut file = File::open(rt, path).context("the page")?;
-    let mut bytes = Vec::new(alloc);
-    file.read_to_end(&mut bytes)?;
-    let Ok(references) = standard(alloc) else {
-        bail!("no memory for the references");
-    };
-    let Ok(forest) = document_lossy(alloc, references, bytes.as_slice()) else {
-        bail!("no memory for the page");
-    };
-    Ok(forest)
 }
 
 fn measure<R: Clock + Print + Eprint>(

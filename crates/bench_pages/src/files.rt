@@ -1,37 +1,31 @@
-//! Judges documents, and reads back what is written of them: `bench_faithful FILE..`. A file is a page, or has trees (`trees.rt`) if its
-//! name ends in `.trees`.
+//! Judges the documents of files, and reads back what is written of them. A file is a page, or has trees (`trees.rt`) if its name ends
+//! in `.trees`.
 //!
 //! Standard output gets a line for each document that is judged faithful but is not read back, and for each that is read back but not judged
-//! faithful; and last how many there were. Standard error gets for each page how long it took to judge and to write it. The status is 1
-//! where a document is judged faithful that is not read back.
-#![tactic(auto)]
-
-mod conditions;
-mod counts;
-mod judged;
-mod trees;
-
+//! faithful; and last how many there were. Standard error gets for each page how long it took to judge and to write it.
 use crate::counts::Counts;
 use crate::judged::{judge, measure};
+use crate::trees;
 use anyhow::{Context, Result, bail};
 use html_forest::Forest;
 use html_pages::{References, document_lossy};
 use std::alloc::Global;
-use std::env;
 use std::fs::File;
 use std::io::Read;
-use std::process::ExitCode;
 use std::rt::{Clock, Files};
 
-fn main(rt: HostRuntime) -> Result<ExitCode> {
-    let alloc = rt.alloc();
-    let words: Vec<String> = env::args(&rt)?.skip(1).collect(alloc)?;
-    let mut counts = Counts::default();
-    for word in &words {
-        take_file(&rt, alloc, &mut counts, word.as_str())?;
+/// Judges the documents of files, and tells how many there were.
+pub(crate) fn judge_all<R: Files + Clock + Print + Eprint>(
+    rt: &R,
+    alloc: Global,
+    counts: &mut Counts,
+    paths: &[&str],
+) -> Result<()> {
+    for path in paths {
+        take_file(rt, alloc, counts, path)?;
     }
     println!(rt; "{counts}")?;
-    Ok(ExitCode::from(u8::from(counts.wrong > 0)))
+    Ok(())
 }
 
 fn take_file<R: Files + Clock + Print + Eprint>(
@@ -51,13 +45,15 @@ fn take_file<R: Files + Clock + Print + Eprint>(
     }
 }
 
-fn bytes_of<R: Files>(rt: &R, alloc: Global, path: &str) -> Result<Vec<u8>> {
+/// The bytes of a file.
+pub(crate) fn bytes_of<R: Files>(rt: &R, alloc: Global, path: &str) -> Result<Vec<u8>> {
     let mut file = File::open(rt, path).context("a page")?;
     let mut bytes = Vec::new(alloc);
     file.read_to_end(&mut bytes)?;
     Ok(bytes)
 }
 
+/// The document of a page, with the five references that a written text needs.
 fn page_of(alloc: Global, bytes: &[u8]) -> Result<Forest> {
     let Ok(references) = References::five(alloc) else {
         bail!("no memory for the references");

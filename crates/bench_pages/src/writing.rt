@@ -1,21 +1,13 @@
-//! Measures how fast a forest is written: `bench_serialize [ELEMENTS]`.
-//!
-//! Standard output gets how much was written, standard error how long it took.
-#![tactic(auto)]
-
-mod page;
-
-use anyhow::{Context, Result, bail};
+//! How fast a forest is written.
+use crate::page;
+use anyhow::{Result, bail};
 use html_forest::ForestNode;
 use html_serialize::{SerializeOpts, serialize};
 use markup::TreeSink;
 use markup::devices::MemWriter;
 use std::alloc::Global;
-use std::env;
-use std::rt::{Clock, Env};
+use std::rt::Clock;
 use std::time::Instant;
-
-const DEFAULT_ELEMENTS: usize = 100_000;
 
 // 400 characters, of which four are escaped.
 const MIXED: &str =
@@ -25,19 +17,14 @@ const MIXED: &str =
 const CLEAN: &str =
     "It was the best of times, and it was the worst of times, it was the age of wisdom, it was the age of foolishness, it was the epoch of belief, it was the epoch of incredulity, it was the season of Light, it was the season of Darkness, it was the spring of hope, and it was the winter of despair, we had everything before us, we had nothing before us, we were all going direct to Heaven, we were all going";
 
-fn main(rt: HostRuntime) -> Result<()> {
-    let count = wanted(&rt)?;
-    measure(&rt, rt.alloc(), "mixed", count, MIXED)?;
-    measure(&rt, rt.alloc(), "clean", count, CLEAN)
-}
-
-fn wanted<R: Env + Alloc>(rt: &R) -> Result<usize> {
-    let mut arguments = env::args(rt)?;
-    let _program = arguments.next();
-    match arguments.next() {
-        Some(argument) => argument.as_str().parse().context("the number of elements"),
-        None => Ok(DEFAULT_ELEMENTS),
-    }
+/// Tells how long it takes to write forests of so many elements: with texts of which something is escaped, and with others.
+pub(crate) fn measure_both<R: Clock + Print + Eprint>(
+    rt: &R,
+    alloc: Global,
+    count: usize,
+) -> Result<()> {
+    measure(rt, alloc, "mixed", count, MIXED)?;
+    measure(rt, alloc, "clean", count, CLEAN)
 }
 
 fn measure<R: Clock + Print + Eprint>(

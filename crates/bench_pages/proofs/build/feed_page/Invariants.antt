@@ -2,7 +2,7 @@ use Rattle.std.proofs.Common.{length}
 use denote.Text.{Utf8}
 use denote.Shadow.{shadow}
 use Rattle.html_tokenizer.specs.Calls.{IsReadyIf, refusal}
-use Rattle.bench_tree.proofs.build.feed_page.Given as goal
+use Rattle.bench_pages.proofs.build.feed_page.Given as goal
 
 abbrev pub invariant-loop-rest : goal.invariant-loop-rest
 invariant-loop-rest g l =

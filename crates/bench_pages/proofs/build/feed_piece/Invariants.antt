@@ -1,5 +1,5 @@
 use Rattle.html_tokenizer.specs.Calls.{IsReadyIf, refusal}
-use Rattle.bench_tree.proofs.build.feed_piece.Given as goal
+use Rattle.bench_pages.proofs.build.feed_piece.Given as goal
 
 abbrev pub invariant-pauses : goal.invariant-pauses
 invariant-pauses g l =

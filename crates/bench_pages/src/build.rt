@@ -1,13 +1,16 @@
-//! Building the tree of a page that is read in pieces.
+//! How fast a page becomes a tree that is read in pieces.
 ghost use Rattle.std.specs.Prelude.{IfOk};
 ghost use Rattle.html_tokenizer.specs.Calls.{IsReadyIf, refusal};
 
+use anyhow::{Result as Outcome, bail};
 use html_forest::Forest;
 use html_tokenizer::{BufferQueue, References, TokenSink, Tokenizer, TokenizerOpts};
 use html_tree_builder::{TreeBuilder, TreeBuilderOpts};
 use markup::{ParseFault, TokenizerResult};
 use std::alloc::Global;
-use text_pieces::{PIECE, split_piece};
+use std::rt::Clock;
+use std::time::Instant;
+use text_pieces::{PIECE, page_of, split_piece};
 
 /// A tokenizer at the front of its input, with the five names of references that a written text needs.
 fn tokenizer_over<S: TokenSink + Drop>(alloc: Global, sink: S) -> Result<Tokenizer<S>, ParseFault>
@@ -73,9 +76,29 @@ fn read_over<S: TokenSink + Drop>(alloc: Global, sink: S, page: &str) -> Result<
 }
 
 /// The tree of a page.
-pub(crate) fn build(alloc: Global, page: &str) -> Result<Forest, ParseFault> {
+fn build(alloc: Global, page: &str) -> Result<Forest, ParseFault> {
     let forest = Forest::new(alloc)?;
     let builder = TreeBuilder::new(alloc, forest, TreeBuilderOpts::default());
     let builder = read_over(alloc, builder, page)?;
     Ok(builder.sink)
+}
+
+/// Tells how long it takes to build the tree of a page of so many bytes.
+pub(crate) fn measure<R: Clock + Print + Eprint>(
+    rt: &R,
+    alloc: Global,
+    bytes: usize,
+) -> Outcome<()> {
+    let Ok(page) = page_of(alloc, bytes) else {
+        bail!("no memory");
+    };
+    let start = Instant::now(rt)?;
+    let Ok(forest) = build(alloc, page.as_str()) else {
+        bail!("the page was not read");
+    };
+    let seconds = start.elapsed(rt)?.as_secs_f64();
+    let (length, errors) = (page.len(), forest.error_count());
+    println!(rt; "{length} bytes, {errors} errors")?;
+    eprintln!(rt; "tree: {seconds} s")?;
+    Ok(())
 }
