@@ -115,13 +115,24 @@ const CELL: &[&str] = &[
 ];
 
 const USERS: &[(&str, &[&str])] = &[
-    ("a", &["rel"]),
+    ("a", &["name", "rel"]),
     ("code", &["class"]),
+    ("data", &["value"]),
     ("details", &["open"]),
+    ("div", &["align"]),
+    ("h1", &["align"]),
+    ("h2", &["align"]),
+    ("h3", &["align"]),
+    ("h4", &["align"]),
+    ("h5", &["align"]),
+    ("h6", &["align"]),
     ("input", &["checked", "disabled", "type"]),
     ("li", &["value"]),
     ("ol", &["reversed", "type"]),
+    ("p", &["align"]),
+    ("picture", &[]),
     ("section", &[]),
+    ("source", &["media", "sizes", "srcset", "type"]),
     ("time", &["datetime"]),
 ];
 
@@ -145,7 +156,7 @@ const KEPT: &[Kept] = &[
         bare: BARE,
         elements: LINKS,
         others: USERS,
-        everywhere: &["dir", "lang", "title"],
+        everywhere: &["dir", "id", "lang", "title"],
     },
 ];
 
@@ -259,7 +270,13 @@ const URLS: &[&str] = &[
     "ping",
     "poster",
     "src",
+    "srcset",
 ];
+
+/// Attributes whose values are names that a page's own scripts and links find, and what these names begin with.
+const NAMES: &[&str] = &["id", "name"];
+
+const PREFIX: &str = "user-content-";
 
 /// What URLs of scripts, and of documents with their own text, begin with.
 const RUN: &[&str] = &["javascript:", "vbscript:", "data:"];
@@ -327,6 +344,11 @@ fn runs(url: &str) -> bool {
     false
 }
 
+/// Whether an attribute has a value that no policy keeps: a URL that runs a script, or a name that may be one of the page's.
+fn is_harmful(name: &str, value: &str) -> bool {
+    has(URLS, name) && runs(value) || has(NAMES, name) && !value.starts_with(PREFIX)
+}
+
 impl Kept {
     /// The policy that it is of.
     fn policy(&self, alloc: Global) -> Result<Policy, ParseFault> {
@@ -363,7 +385,7 @@ fn put_attribute(
 ) -> Result<(), AllocError> {
     let name = attribute.name.local.as_str();
     let value = attribute.value.as_str();
-    if kept.has_attribute(element, name) && !(has(URLS, name) && runs(value)) {
+    if kept.has_attribute(element, name) && !is_harmful(name, value) {
         return Ok(());
     }
     let words = format!(in alloc;
