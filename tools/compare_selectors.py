@@ -1,13 +1,13 @@
 #!/usr/bin/env python3
 """Compares what selectors select with Chromium's querySelectorAll.
 
-Each page of a folder is parsed by Chromium, without a window, with DOMParser, and by the program bench_selectors, and each of the
+Each page of a folder is parsed by Chromium, without a window, with DOMParser, and by the program bench_pages, and each of the
 selectors below, with some that are made of each page's own names, is asked of both. What is compared is which elements are found, by
 their numbers in tree order. It is run from the top of the repository:
 
     apt-get install chromium
-    (cd crates/bench_selectors && rt run)
-    python3 tools/compare_selectors.py crates/bench_selectors/out/bench_selectors FOLDER [PAGES]
+    (cd crates/bench_pages && rt run)
+    python3 tools/compare_selectors.py crates/bench_pages/out/bench_pages FOLDER [PAGES]
 
 It takes PAGES pages of at most 60 kB (100 by default), prints each question that is answered otherwise, and ends with
 `N pages, M questions, K with an answer, D different, W wanted`. Wanted differences are those that docs/DIFFERENCES.md names.
@@ -63,7 +63,7 @@ document.getElementById("out").textContent = JSON.stringify(answers);
 
 def ours(program, path, selectors):
     """What the program answers: the same."""
-    done = subprocess.run([program, path, *selectors], capture_output=True, text=True, timeout=600, check=True)
+    done = subprocess.run([program, "select", path, *selectors], capture_output=True, text=True, timeout=600, check=True)
     lines = done.stdout.split("\n")[:len(selectors)]
     return [None if line == "refused" else [int(number) for number in line.split()] for line in lines]
 

@@ -1,12 +1,12 @@
 #!/usr/bin/env python3
-"""Trees that no page need give, for the program bench_faithful.
+"""Trees that no page need give, for the program bench_pages.
 
-    (cd crates/bench_faithful && rt run -- TREES)
+    (cd crates/bench_pages && rt run -- judge TREES)
     python3 tools/mutated_trees.py COUNT SEED FILE.dat.. > TREES
 
 Each `#document` of the files, which have html5lib's format, is a tree. COUNT of them are drawn with SEED, and changed in up to five places: a
 node is moved, doubled, renamed, put into another, taken out of its parent, or taken away; a text, a comment or an attribute comes
-in. `crates/bench_faithful/src/trees.rt` has the format that is written. The name of TREES has to end in `.trees`.
+in. `crates/bench_pages/src/trees.rt` has the format that is written. The name of TREES has to end in `.trees`.
 """
 import copy
 import random

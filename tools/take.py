@@ -3,10 +3,11 @@
     python3 tools/take.py REPOSITORY CRATE..       at the top of Figpliers
     python3 tools/take.py --check REPOSITORY
 
-The crates go into REPOSITORY/crates, and their lines into its crates.txt. Run again, it brings the
-copies up to date: a copy has just the files that the crate has here, but for its out/. Edits that the
-prover must refuse (must-fail/) stay behind: they are Figpliers' own gate. `--check` lists the files
-of copies that are not as they are here, and ends with 1 where there are any.
+The crates go into REPOSITORY/crates, and their lines into its crates.txt. Figpliers' license goes to
+REPOSITORY/LICENSE-figpliers: it has to stay with the copies. Run again, it brings the copies up to
+date: a copy has just the files that the crate has here, but for its out/. Edits that the prover must
+refuse (must-fail/) stay behind: they are Figpliers' own gate. `--check` lists the files of copies
+that are not as they are here, and ends with 1 where there are any.
 """
 
 import filecmp
@@ -16,6 +17,7 @@ from pathlib import Path
 
 ROOT = Path(__file__).resolve().parent.parent
 LEFT_BEHIND = ("out", "must-fail")
+LICENSE = ROOT / "LICENSE"
 
 
 def crates_of(text: str) -> dict[str, str]:
@@ -64,6 +66,17 @@ def take(crate: Path, copy: Path) -> None:
             (copy / file).unlink()
 
 
+def has_license(target: Path) -> bool:
+    """Whether a repository has the license of the copies."""
+    copy = license_in(target)
+    return copy.is_file() and filecmp.cmp(LICENSE, copy, shallow=False)
+
+
+def license_in(target: Path) -> Path:
+    """Where the license of the copies is."""
+    return target / "LICENSE-figpliers"
+
+
 def main(words: list[str]) -> int:
     ours = crates_of((ROOT / "crates.txt").read_text())
     if len(words) < 2:
@@ -74,6 +87,7 @@ def main(words: list[str]) -> int:
         copies = [target / "crates" / name for name in sorted(set(ours) & set(theirs))]
         changed = [copy / file for copy in copies for file in differing(ROOT / "crates" / copy.name, copy)]
         changed += [target / "crates.txt" for name in set(ours) & set(theirs) if ours[name] != theirs[name]]
+        changed += [] if has_license(target) else [license_in(target)]
         for file in changed:
             print(file)
         return 1 if changed else 0
@@ -86,6 +100,7 @@ def main(words: list[str]) -> int:
     names = below(ours, wanted)
     for name in names:
         take(ROOT / "crates" / name, target / "crates" / name)
+    shutil.copyfile(LICENSE, license_in(target))
     kept = [line for line in theirs if not set(crates_of(line)) & set(names)]
     lines.write_text("".join(line + "\n" for line in kept + [ours[name] for name in names]))
     print(f"{len(names)} crates:", " ".join(names))

@@ -42,6 +42,7 @@ if [ "${1:-}" != --unproved ]; then
     rt check
 fi
 python3 "$top/tools/take.py" --check "$mine"
+cmp "$top/LICENSE" "$mine/LICENSE-figpliers"
 echo "// changed" >> "$mine/crates/devices/src/lib.rt"
 if python3 "$top/tools/take.py" --check "$mine"; then
     echo "a changed copy was not told" >&2
