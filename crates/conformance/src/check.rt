@@ -1,6 +1,6 @@
 //! Running rows, and reporting those that differ.
 
-use crate::{attacks, tokens, trees, written};
+use crate::{attacks, selecting, tokens, trees, written};
 use markup::ParseFault;
 use row_format::headings::line_of;
 use row_format::{Counts, HOWS, Heading, How, Part, Row, is_as_expected};
@@ -19,6 +19,7 @@ fn seen(alloc: Global, row: &Row, heading: Heading, how: How) -> Result<String, 
         | Heading::Encoding
         | Heading::Fault => written::seen(alloc, row, heading, how),
         Heading::Outside => attacks::seen(alloc, row, how),
+        Heading::Selector => selecting::selector(alloc, row),
         _ => trees::seen(alloc, row, heading, how),
     }
 }

@@ -10,6 +10,7 @@ mod attacks;
 mod check;
 mod lines;
 mod listing;
+mod selecting;
 mod settings;
 mod tokens;
 mod trees;

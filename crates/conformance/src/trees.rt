@@ -5,6 +5,7 @@ ghost use Rattle.html_parser.specs.Read.{stopped_by};
 
 use crate::lines::{put_line, text_of, without_last, yes_or_no};
 use crate::listing::Listing;
+use crate::selecting::selected;
 use crate::settings::{context, parse_opts, references, scripting};
 use devices::VecWriter;
 use html_extracts::{links_below, shown_text, write_tree};
@@ -191,6 +192,7 @@ fn seen_of(
         Heading::Links => links(alloc, forest, top),
         Heading::Shown => shown_text(alloc, forest, top),
         Heading::ReadBack => read_back(alloc, row, forest),
+        Heading::Selected => selected(alloc, row, forest),
         _ => codes(alloc, page.noted.errors.as_slice()),
     }
 }

@@ -60,6 +60,10 @@ pub enum Heading {
     Encoding,
     /// The status of the program, and its words, where a table of references is none.
     Fault,
+    /// A selector as it is written, or why a text is none.
+    Selector,
+    /// What selectors select in a page: in each line a selector, `=>`, and the ids.
+    Selected,
 }
 
 const HEADINGS: &[(&str, Heading)] = &[
@@ -98,6 +102,8 @@ const HEADINGS: &[(&str, Heading)] = &[
     ("#outside", Heading::Outside),
     ("#encoding", Heading::Encoding),
     ("#fault", Heading::Fault),
+    ("#selector", Heading::Selector),
+    ("#selected", Heading::Selected),
 ];
 
 /// The heading that a line is.
@@ -149,7 +155,7 @@ impl Heading {
     /// Whether it is compared in runs with exact errors, or in those without.
     pub fn is_expected_if(self, exact: bool) -> bool {
         match self {
-            Heading::Codes | Heading::Outside => !exact,
+            Heading::Codes | Heading::Outside | Heading::Selector | Heading::Selected => !exact,
             Heading::ExactCodes => exact,
             _ => true,
         }

@@ -1,9 +1,8 @@
-//! Tests of selectors: which texts are selectors, what they select in a page, and that what takes memory does so.
+//! Tests of selectors: long texts, calls that a page doesn't reach, and that there is an answer where there is memory. Which texts are
+//! selectors, and what they select, is in the rows of `conformance`.
 #![tactic(auto)]
 
 #[cfg(test)]
 mod found;
-#[cfg(test)]
-mod rows;
 #[cfg(test)]
 mod texts;

@@ -1,106 +1,9 @@
-//! Which texts are selectors, and where the others are at fault.
+//! Long texts of selectors. Short ones are rows of `conformance`.
 use html_forest::Forest;
 use html_selector_text::{Selector, parse, to_text};
 use html_selectors::select_all;
 use std::alloc::Global;
 use std::test::Fail;
-
-// Texts, with nothing for selectors and else the words of the error.
-const ROWS: [(&str, &str); 56] = [
-    ("p", ""),
-    (" ul > li ", ""),
-    ("a, b", ""),
-    ("#main .code", ""),
-    ("[href^=\"http\"]", ""),
-    ("[a=b i]", ""),
-    ("[ a = 'b' S ]", ""),
-    ("svg|a", ""),
-    ("*|*", ""),
-    ("|a", ""),
-    ("[*|href]", ""),
-    (":nth-child(2n+1)", ""),
-    (":nth-last-child(-n + 3 of .a, p)", ""),
-    (":nth-of-type( odd )", ""),
-    (":is(p, , ::before)", ""),
-    (":is()", ""),
-    (":not(:has(> a, + b))", ""),
-    (":disabled", ""),
-    ("p /* c */ a", ""),
-    ("\\70 .\\31 a", ""),
-    (":is(a", ""),
-    ("[a=\"b", ""),
-    ("", "at character 0: a selector is missing"),
-    ("a,", "at character 2: a selector is missing"),
-    ("a > > b", "at character 4: this continues no selector"),
-    ("a b)", "at character 3: this continues no selector"),
-    (". a", "at character 1: a name is missing"),
-    // `.1` is a number.
-    (".1", "at character 0: this continues no selector"),
-    ("#1", "at character 0: this continues no selector"),
-    ("a/**/b", "at character 5: this continues no selector"),
-    ("a\r\n  !", "at character 5: this continues no selector"),
-    (
-        "[a=\"\n\"]",
-        "at character 3: neither a name nor a string follows the operator",
-    ),
-    (":nth-child(2n/**/+ 1)", ""),
-    (":nth-child(+n-3)", ""),
-    (":nth-child(-N+ 3)", ""),
-    (
-        ":nth-child(2.0n)",
-        "at character 1: this is no An+B, as `2n+1`",
-    ),
-    (":is(url(a,b), [)], p)", ""),
-    (":is(url( \"a\" ), p)", ""),
-    ("-->a", "at character 0: this continues no selector"),
-    ("<!--a", "at character 0: this continues no selector"),
-    ("--a", ""),
-    ("a:DISABLED", ""),
-    (":not(a:disabled):optional", ""),
-    (
-        "[a!b]",
-        "at character 2: neither an operator nor `]` follows the name of an attribute",
-    ),
-    (
-        "[a=]",
-        "at character 3: neither a name nor a string follows the operator",
-    ),
-    (
-        "[a=b c]",
-        "at character 5: neither `i` nor `s` nor `]` follows the value",
-    ),
-    (
-        ":nth-child(2 p)",
-        "at character 13: a closing parenthesis is missing",
-    ),
-    (
-        "a:foo",
-        "at character 2: no pseudo-class of that name is known",
-    ),
-    (
-        ":foo(a)",
-        "at character 1: no pseudo-class of that name is known",
-    ),
-    (
-        "a::before",
-        "at character 2: a pseudo-element is no element",
-    ),
-    (
-        "x|a",
-        "at character 0: no namespace of that prefix is known",
-    ),
-    (
-        ":nth-child(- n)",
-        "at character 1: this is no An+B, as `2n+1`",
-    ),
-    (
-        ":has(:has(a))",
-        "at character 10: `:has()` stands in `:has()`",
-    ),
-    (":not()", "at character 5: a selector is missing"),
-    ("a || b", "at character 3: a name is missing"),
-    ("a & b", "at character 2: this continues no selector"),
-];
 
 // Why a text is no selector, in words.
 fn fault_of(alloc: Global, text: &str) -> Result<String, Fail> {
@@ -108,16 +11,6 @@ fn fault_of(alloc: Global, text: &str) -> Result<String, Fail> {
         Ok(_) => Ok(String::new(alloc)),
         Err(error) => Ok(format!(in alloc; "{error}")?),
     }
-}
-
-#[test]
-fn texts_are_selectors_or_faulty(rt: HostRuntime) -> Result<(), Fail> {
-    let alloc = rt.alloc();
-    for (text, wanted) in ROWS {
-        let fault = fault_of(alloc, text)?;
-        assert!(rt; fault.as_str() == wanted, "{text}: {fault}");
-    }
-    Ok(())
 }
 
 #[test]
@@ -211,56 +104,6 @@ fn long_texts_take_no_stack(rt: HostRuntime) -> Result<(), Fail> {
 fn written(alloc: Global, text: &str) -> Result<String, Fail> {
     let selector = Selector::parse(alloc, text)?;
     Ok(format!(in alloc; "{selector}")?)
-}
-
-// Texts, and the same as they are written.
-const WRITTEN: [(&str, &str); 31] = [
-    ("p", "p"),
-    ("*", "*"),
-    ("*.a", ".a"),
-    ("svg|*", "svg|*"),
-    ("|a", "|a"),
-    ("*|a", "a"),
-    ("html|A", "html|A"),
-    ("A#b.c", "A#b.c"),
-    ("\\31 a", "\\31 a"),
-    ("-\\31", "-\\31 "),
-    ("\\-", "\\-"),
-    ("a\\:b\\a c", "a\\:b\\a c"),
-    ("\\000E9", "\u{E9}"),
-    ("[a]", "[a]"),
-    ("[ svg|a = b i ]", "[svg|a=\"b\" i]"),
-    ("[*|a~='\"\\\\' S]", "[*|a~=\"\\\"\\\\\" s]"),
-    ("a>b+c~d  e", "a > b + c ~ d e"),
-    ("a,b , c", "a, b, c"),
-    (":ROOT:Empty", ":root:empty"),
-    (":only-child", ":first-child:last-child"),
-    (":nth-of-type(odd)", ":nth-of-type(2n+1)"),
-    (":nth-child(-N+ 3)", ":nth-child(-n+3)"),
-    (":nth-last-of-type(n-2", ":nth-last-of-type(n)"),
-    (
-        ":nth-last-child(3n - 4 of a, b)",
-        ":nth-last-child(3n+2 of a, b)",
-    ),
-    (":nth-child(10)", ":nth-child(10)"),
-    (":where(a,!,b)", ":is(a, b)"),
-    (":not(a):is(b)", ":not(a):is(b)"),
-    (":has(a,> b c)", ":has(a, > b c)"),
-    (":is(:has(a))", ":is(:has(a))"),
-    (":is()", ":is()"),
-    (":link", ":is(html|a[href], html|area[href])"),
-];
-
-#[test]
-fn selectors_are_written(rt: HostRuntime) -> Result<(), Fail> {
-    let alloc = rt.alloc();
-    for (text, wanted) in WRITTEN {
-        let once = written(alloc, text)?;
-        assert!(rt; once.as_str() == wanted, "{text}: {once}");
-        let twice = written(alloc, once.as_str())?;
-        assert!(rt; twice.as_str() == wanted, "{once}: {twice}");
-    }
-    Ok(())
 }
 
 #[test]
