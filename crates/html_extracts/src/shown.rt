@@ -39,7 +39,8 @@ pub fn is_shown(forest: &Forest, id: NodeId) -> bool
 }
 
 /// The texts below a node that are shown, joined in their order, without a break between them. What stands in a template is not below
-/// it. Takes the memory of the text.
+/// it. Of a text its parent alone is asked, so that of `<svg><style><g>x` the `x` is shown; `html_inner_text` leaves out all that is in an
+/// element that is not rendered. Takes the memory of the text.
 pub fn shown_text(alloc: Global, forest: &Forest, top: NodeId) -> Result<String, ParseFault>
     ensures ok { IfOk result (λ text. chars (string_bytes text) ≡ texts_of forest.now
         (filter (spec.is_shown forest.now) (below forest.now top))) }
