@@ -12,6 +12,7 @@ use Rattle.html_ffi.specs.declared.answer.Answer.{Answer}
 use Rattle.html_ffi.specs.declared.answer.Answer.TheVariants.{Done, NotUtf8, TooShort, Memory, TooLarge, TableNotUtf8}
 use Rattle.html_ffi.specs.declared.answer.Answer.TheVariants.{TableLine, TableName, TableDuplicate, TableValue}
 use Rattle.html_ffi.specs.declared.answer.Answer.TheVariants.{SelectorNotUtf8, Selector, NotAnImage, NoNode}
+use Rattle.html_ffi.specs.declared.answer.Answer.TheVariants.{PolicyNotUtf8, PolicyLine, NeverKept, NoPolicy}
 
 module _ (Makes : List ℕ → Type 0) (None : Type 0) (Why : Answer → Type 0) (old new : List ℕ) where
   -- a text that was made was put in front of the room, or is too long for it
@@ -30,6 +31,10 @@ module _ (Makes : List ℕ → Type 0) (None : Type 0) (Why : Answer → Type 0)
   put-means text Selector made is = absurd is
   put-means text NotAnImage made is = absurd is
   put-means text NoNode made is = absurd is
+  put-means text PolicyNotUtf8 made is = absurd is
+  put-means text PolicyLine made is = absurd is
+  put-means text NeverKept made is = absurd is
+  put-means text NoPolicy made is = absurd is
 
   -- there is no text
   pub none-means : (Why Done → ⊥) → (Why TooShort → ⊥) → (answer : Answer) → Why answer → None → new ≡ old
@@ -48,6 +53,10 @@ module _ (Makes : List ℕ → Type 0) (None : Type 0) (Why : Answer → Type 0)
   none-means done short Selector why none same = record { why = why; none = none; same = same }
   none-means done short NotAnImage why none same = record { why = why; none = none; same = same }
   none-means done short NoNode why none same = record { why = why; none = none; same = same }
+  none-means done short PolicyNotUtf8 why none same = record { why = why; none = none; same = same }
+  none-means done short PolicyLine why none same = record { why = why; none = none; same = same }
+  none-means done short NeverKept why none same = record { why = why; none = none; same = same }
+  none-means done short NoPolicy why none same = record { why = why; none = none; same = same }
 
 -- of a page's text
 module _ (Is : (file page text : List ℕ) → Report → Type 0) (Why : ℕ → Answer → Type 0) (file page old new : List ℕ)
@@ -68,19 +77,30 @@ module _ (Is : (file page text : List ℕ) → Report → Type 0) (Why : ℕ →
       (short report.at) answer (subst (λ (n : ℕ). Why n answer) (sym there) fails) (none ∙ ap nothing_at (sym there)) same
 
 -- of what was kept of a page
-module _ (Is : (file page text : List ℕ) → Cleaned → Type 0) (file page old new : List ℕ) (report : FigCleaned) (answer : Answer) where
-  pub cleaned-put : (text lent : List ℕ) (count : ℕ) (counts : Cleaned) → Is file page text counts → lent ≡ text
-      → count ≡ length lent → report ≡ cleaned_of count counts → IsPut lent old new answer → MeansCleaned Is file page old new report answer
-  cleaned-put text lent count counts is same counted report_is put =
-      put-means (IsReportedClean Is file page report) (report ≡ nothing_cleaned_at report.at) (λ a. Fails file page a report.at)
-      old new text answer
+module _ (Is : (file page text : List ℕ) → Cleaned → Type 0) (Why : ℕ → Answer → Type 0) (file page old new : List ℕ)
+    (report : FigCleaned) (answer : Answer) where
+  pub kept-put : (text lent : List ℕ) (count : ℕ) (counts : Cleaned) → Is file page text counts → lent ≡ text
+      → count ≡ length lent → report ≡ cleaned_of count counts → IsPut lent old new answer
+      → Means (IsReportedClean Is file page report) (report ≡ nothing_cleaned_at report.at) (Why report.at) old new answer
+  kept-put text lent count counts is same counted report_is put =
+      put-means (IsReportedClean Is file page report) (report ≡ nothing_cleaned_at report.at) (Why report.at) old new text answer
       (record { counts = counts; is = is; report_is = report_is ∙ ap (λ n. cleaned_of n counts) (counted ∙ ap length same) })
       (subst (λ (t : List ℕ). IsPut t old new answer) same put)
 
+  pub kept-none : ((n : ℕ) → Why n Done → ⊥) → ((n : ℕ) → Why n TooShort → ⊥) → (at : ℕ) → Why at answer
+      → report ≡ nothing_cleaned_at at → new ≡ old
+      → Means (IsReportedClean Is file page report) (report ≡ nothing_cleaned_at report.at) (Why report.at) old new answer
+  kept-none done short at fails none same =
+      let there : report.at ≡ at = ap (λ (r : FigCleaned). r.at) none in
+      none-means (IsReportedClean Is file page report) (report ≡ nothing_cleaned_at report.at) (Why report.at) old new (done report.at)
+      (short report.at) answer (subst (λ (n : ℕ). Why n answer) (sym there) fails) (none ∙ ap nothing_cleaned_at (sym there)) same
+
+-- the same where nothing but the table and the page can be at fault
+module _ (Is : (file page text : List ℕ) → Cleaned → Type 0) (file page old new : List ℕ) (report : FigCleaned) (answer : Answer) where
+  pub cleaned-put : (text lent : List ℕ) (count : ℕ) (counts : Cleaned) → Is file page text counts → lent ≡ text
+      → count ≡ length lent → report ≡ cleaned_of count counts → IsPut lent old new answer → MeansCleaned Is file page old new report answer
+  cleaned-put = kept-put Is (λ at a. Fails file page a at) file page old new report answer
+
   pub cleaned-none : (at : ℕ) → Fails file page answer at → report ≡ nothing_cleaned_at at → new ≡ old
       → MeansCleaned Is file page old new report answer
-  cleaned-none at fails none same =
-      let there : report.at ≡ at = ap (λ (r : FigCleaned). r.at) none in
-      none-means (IsReportedClean Is file page report) (report ≡ nothing_cleaned_at report.at) (λ a. Fails file page a report.at)
-      old new (λ (w : ⊥). w) (λ (w : ⊥). w) answer
-      (subst (λ (n : ℕ). Fails file page answer n) (sym there) fails) (none ∙ ap nothing_cleaned_at (sym there)) same
+  cleaned-none = kept-none Is (λ at a. Fails file page a at) file page old new report answer (λ n (w : ⊥). w) (λ n (w : ⊥). w)

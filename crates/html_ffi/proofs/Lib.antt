@@ -1,4 +1,5 @@
 mod Answering
-mod ErrorLines
+mod Lines
 mod Making
+mod Policies
 mod Selecting

@@ -1,6 +1,6 @@
 -- What a call answers, and what that says of the caller's room.
-use Rattle.std.specs.Prelude.{◌≡◌, ℕ, ◌<◌, true, List, [], ◌++◌, Some, Err, length, drop}
-use Rattle.std.specs.Str.{IsValidUpTo, chars}
+use Rattle.std.specs.Prelude.{◌≡◌, ℕ, ◌<◌, true, List, [], ◌++◌, Some, length, drop}
+use Rattle.std.specs.Str.{IsValidUpTo}
 use Rattle.markup.specs.Forest.{Forest}
 use Rattle.html_input.specs.TableFault.{HasBadLine, HasBadRow, IsTableFile}
 use Rattle.html_input.specs.declared.table.TableFileFault.{TableFileFault}
@@ -11,10 +11,10 @@ use Rattle.html_tokens.specs.declared.table.TableFault.TheVariants as table
 use Rattle.html_normal.specs.Document.{IsDocument}
 use Rattle.html_normal.specs.declared.fault.NormalFault.{NormalFault}
 use Rattle.html_normal.specs.declared.fault.NormalFault.TheVariants as normal
-use Rattle.html_selector_text.specs.Grammar.{parsed}
+use Rattle.html_policy_text.specs.declared.reading.PolicyFault.{PolicyFault}
+use Rattle.html_policy_text.specs.declared.reading.PolicyFault.TheVariants as policy
 use Rattle.html_selector_text.specs.declared.fault.SelectorError.{SelectorError}
 use Rattle.html_selector_text.specs.declared.fault.SelectorError.TheVariants as errors
-use Rattle.html_selector_text.specs.declared.fault.SyntaxFault.{SyntaxFault}
 use Rattle.html_image_reader.specs.declared.read.ReadFault.{ReadFault}
 use Rattle.html_image_reader.specs.declared.read.ReadFault.TheVariants as read
 use Rattle.html_tree_image.specs.Image.{is_too_large}
@@ -24,6 +24,7 @@ use Rattle.html_ffi.specs.declared.answer.Answer.{Answer}
 use Rattle.html_ffi.specs.declared.answer.Answer.TheVariants.{Done, NotUtf8, TooShort, Memory, TooLarge, TableNotUtf8}
 use Rattle.html_ffi.specs.declared.answer.Answer.TheVariants.{TableLine, TableName, TableDuplicate, TableValue}
 use Rattle.html_ffi.specs.declared.answer.Answer.TheVariants.{SelectorNotUtf8, Selector, NotAnImage, NoNode}
+use Rattle.html_ffi.specs.declared.answer.Answer.TheVariants.{PolicyNotUtf8, PolicyLine, NeverKept, NoPolicy}
 use Rattle.html_ffi.specs.declared.answer.Failure.{Failure}
 
 -- ANSWERS
@@ -44,6 +45,10 @@ number_of SelectorNotUtf8 = 32
 number_of Selector = 33
 number_of NotAnImage = 48
 number_of NoNode = 49
+number_of PolicyNotUtf8 = 64
+number_of PolicyLine = 65
+number_of NeverKept = 66
+number_of NoPolicy = 67
 
 abbrev pub failure : Answer → ℕ → Failure
 failure answer at = record { answer = answer; at = at }
@@ -70,6 +75,11 @@ read_failure_of read.NotAnImage = failure NotAnImage 0
 abbrev pub selector_failure_of : SelectorError → Failure
 selector_failure_of errors.Memory = failure Memory 0
 selector_failure_of (errors.Syntax fault at) = failure Selector at
+
+-- of a policy's text
+abbrev pub policy_failure_of : PolicyFault → Failure
+policy_failure_of policy.Memory = failure Memory 0
+policy_failure_of (policy.Line number problem) = failure PolicyLine number
 
 -- of the rows of a table
 abbrev pub row_failure_of : TableFault → Failure
@@ -110,17 +120,10 @@ Fails file page SelectorNotUtf8 at = ⊥
 Fails file page Selector at = ⊥
 Fails file page NotAnImage at = ⊥
 Fails file page NoNode at = ⊥
-
--- A text is no selectors: the first fault is at this place, in characters.
-pub record IsNoSelector (text : List ℕ) (at : ℕ) : Type 0 where
-  pub fault : SyntaxFault
-  pub is : parsed (chars text) ≡ Err (record { fault = fault; at = at })
-
--- the same of a call that takes a text of selectors too
-abbrev pub FailsToSelect : (file selector page : List ℕ) → Answer → ℕ → Type 0
-FailsToSelect file selector page SelectorNotUtf8 at = IsValidUpTo selector at
-FailsToSelect file selector page Selector at = IsNoSelector selector at
-FailsToSelect file selector page answer at = Fails file page answer at
+Fails file page PolicyNotUtf8 at = ⊥
+Fails file page PolicyLine at = ⊥
+Fails file page NeverKept at = ⊥
+Fails file page NoPolicy at = ⊥
 
 -- why there is no image of a forest, whatever page has it as its document
 abbrev pub FailsOver : Forest → Answer → ℕ → Type 0
@@ -144,6 +147,10 @@ IsPut text old new SelectorNotUtf8 = ⊥
 IsPut text old new Selector = ⊥
 IsPut text old new NotAnImage = ⊥
 IsPut text old new NoNode = ⊥
+IsPut text old new PolicyNotUtf8 = ⊥
+IsPut text old new PolicyLine = ⊥
+IsPut text old new NeverKept = ⊥
+IsPut text old new NoPolicy = ⊥
 
 -- What an answer says: of a text that `Makes` says is the one that is asked for, or of why there is none, and then `None`.
 module _ (Makes : List ℕ → Type 0) (None : Type 0) (Why : Answer → Type 0) (old new : List ℕ) where
@@ -181,6 +188,10 @@ module _ (Makes : List ℕ → Type 0) (None : Type 0) (Why : Answer → Type 0)
   Means Selector = HasNone Selector
   Means NotAnImage = HasNone NotAnImage
   Means NoNode = HasNone NoNode
+  Means PolicyNotUtf8 = HasNone PolicyNotUtf8
+  Means PolicyLine = HasNone PolicyLine
+  Means NeverKept = HasNone NeverKept
+  Means NoPolicy = HasNone NoPolicy
 
 -- The number that C gets is that of an answer, which says this.
 pub record IsAnswer (Says : Answer → Type 0) (number : ℕ) : Type 0 where

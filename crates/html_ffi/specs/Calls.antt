@@ -1,6 +1,6 @@
 -- The texts that calls make of a page, by the table of references that a file's bytes hold.
 use Rattle.std.specs.Prelude.{◌≡◌, ℕ, false, List, [], length, Some}
-use Rattle.std.specs.Str.{IsUtf8, chars}
+use Rattle.std.specs.Str.{chars}
 use Rattle.markup.specs.Forest.{Forest}
 use Rattle.markup.specs.TreeLaws.{with_errors}
 use Rattle.html_clean.specs.Ready.{IsTextAndLinks}
@@ -13,9 +13,8 @@ use Rattle.html_normal.specs.Normal.{IsNormalised}
 use Rattle.html_normal.specs.declared.report.Report.{Report}
 use Rattle.html_plain.specs.Grammar.{is_plain_forest}
 use Rattle.html_tokens.specs.Table.{Row}
-use Rattle.html_select.specs.Found.{IsFound}
-use Rattle.html_tree_image.specs.Image.{image_of, words}
-use Rattle.html_ffi.specs.Answers.{Fails, FailsToSelect, Means}
+use Rattle.html_tree_image.specs.Image.{image_of}
+use Rattle.html_ffi.specs.Answers.{Fails, Means}
 use Rattle.html_ffi.specs.Reports.{cleaned_of, nothing_at, nothing_cleaned_at, report_of}
 use Rattle.html_ffi.specs.declared.answer.Answer.{Answer}
 use Rattle.html_ffi.specs.declared.report.FigCleaned.{FigCleaned}
@@ -50,17 +49,6 @@ IsImageOf f bytes = bytes ≡ image_of f
 -- Bytes are the image of a page's document, with the report of the page.
 abbrev pub IsTreeImage : (file page bytes : List ℕ) → Report → Type 0
 IsTreeImage file page bytes report = IsMadeOf IsImageOf file page bytes report
-
--- Bytes are the numbers of the nodes that selectors select in a forest, in tree order.
-pub record IsSelected (selector : List ℕ) (f : Forest) (bytes : List ℕ) : Type 0 where
-  pub found : List ℕ
-  pub is_found : IsFound (chars selector) f 0 found
-  pub numbers : bytes ≡ words found
-
--- Bytes are the numbers of what selectors select in a page's document, with the report of the page.
-pub record IsSelection (selector file page bytes : List ℕ) (report : Report) : Type 0 where
-  pub utf8 : IsUtf8 selector
-  pub selected : IsMadeOf (IsSelected selector) file page bytes report
 
 -- A text is what the ready policy keeps of a page as a document, and so much was taken away.
 pub record IsCleanDocument (file page text : List ℕ) (counts : Cleaned) : Type 0 where
@@ -99,8 +87,3 @@ MeansText Is file page old new report = Means (IsReported Is file page report) (
 abbrev pub MeansCleaned : (Is : (file page text : List ℕ) → Cleaned → Type 0) → (file page old new : List ℕ) → FigCleaned → Answer → Type 0
 MeansCleaned Is file page old new report = Means (IsReportedClean Is file page report)
     (report ≡ nothing_cleaned_at report.at) (λ answer. Fails file page answer report.at) old new
-
--- the same of a call that takes selectors too
-abbrev pub MeansSelection : (file selector page old new : List ℕ) → FigReport → Answer → Type 0
-MeansSelection file selector page old new report = Means (IsReported (IsSelection selector) file page report)
-    (report ≡ nothing_at report.at) (λ answer. FailsToSelect file selector page answer report.at) old new

@@ -1,5 +1,7 @@
 pub mod Answers
 pub mod Reports
 pub mod Calls
+pub mod Decoding
 pub mod Images
+pub mod Policies
 pub mod Errors

@@ -25,6 +25,10 @@ report_of count report = record {
   plain = flag_of report.plain;
 }
 
+-- the report of a text of so many bytes that is of no page
+abbrev pub of_text : ℕ → FigReport
+of_text count = record { length = count; errors = 0; at = 0; quirks = 0; plain = 0 }
+
 -- the report of a page of which no text was made, with the place of the fault
 abbrev pub nothing_at : ℕ → FigReport
 nothing_at at = record { length = 0; errors = 0; at = at; quirks = 0; plain = 0 }

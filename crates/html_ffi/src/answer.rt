@@ -1,11 +1,12 @@
 //! What a call answers.
 ghost use Rattle.std.specs.Prelude.{◌≡◌, ℕ, List};
-ghost use Rattle.html_ffi.specs.Answers.{Fails, failure_of, image_failure_of, number_of, read_failure_of, row_failure_of};
+ghost use Rattle.html_ffi.specs.Answers.{Fails, failure_of, image_failure_of, number_of, policy_failure_of, read_failure_of, row_failure_of};
 ghost use Rattle.html_ffi.specs.Answers.{selector_failure_of, table_failure_of};
 ghost use Rattle.html_ffi.specs.declared.answer.Answer.TheVariants.{Memory};
 
 use html_image_reader::ReadFault;
 use html_normal::{NormalFault, TableFault, TableFileFault};
+use html_policy_text::PolicyFault;
 use html_selector_text::SelectorError;
 use html_tree_image::ImageFault;
 use std::alloc::{AllocError, AllocFailed};
@@ -41,6 +42,14 @@ pub enum Answer {
     NotAnImage,
     /// The tree has no node of that number.
     NoNode,
+    /// The policy's text, or the name of a ready policy, is not UTF-8.
+    PolicyNotUtf8,
+    /// A line of the policy's text is no rule.
+    PolicyLine,
+    /// The policy names an element, an attribute or a scheme that is never kept.
+    NeverKept,
+    /// There is no ready policy of that name.
+    NoPolicy,
 }
 
 impl Answer {
@@ -63,6 +72,10 @@ impl Answer {
             Answer::Selector => 33,
             Answer::NotAnImage => 48,
             Answer::NoNode => 49,
+            Answer::PolicyNotUtf8 => 64,
+            Answer::PolicyLine => 65,
+            Answer::NeverKept => 66,
+            Answer::NoPolicy => 67,
         }
     }
 }
@@ -196,6 +209,20 @@ impl From<SelectorError> for Failure {
             SelectorError::Syntax { at, .. } => Failure {
                 answer: Answer::Selector,
                 at: at as u64,
+            },
+        }
+    }
+}
+
+impl From<PolicyFault> for Failure {
+    ghost from_gives = { λ fault made. made ≡ policy_failure_of fault };
+
+    fn from(fault: PolicyFault) -> Failure {
+        match fault {
+            PolicyFault::Memory => no_memory(),
+            PolicyFault::Line { line, .. } => Failure {
+                answer: Answer::PolicyLine,
+                at: line as u64,
             },
         }
     }

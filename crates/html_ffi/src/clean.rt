@@ -1,12 +1,15 @@
-//! What the ready policy keeps of a page.
+//! What a policy keeps of a page.
 ghost use Rattle.std.specs.Prelude.{◌≡◌, ℕ, List, [], Some, IfErr, IfOk, length};
+ghost use Rattle.html_clean.specs.Checks.{never_kept, never_kept_in_fragment};
 ghost use Rattle.html_clean.specs.Ready.{IsTextAndLinks};
 ghost use Rattle.html_clean_document.specs.Clean.{IsCleaned, IsDocumentOf, IsFragmentOf, div_name};
 ghost use Rattle.html_ffi.specs.Answers.{Fails};
 ghost use Rattle.html_ffi.specs.Calls.{IsCleanDocument, IsCleanFragment, MeansCleaned};
+ghost use Rattle.html_ffi.specs.Policies.{FailsToClean, IsDocumentKeptBy, IsFragmentKeptBy, MeansDocumentBy, MeansFragmentBy};
 
 use crate::answer::{Answer, Failure, no_memory};
 use crate::page::{COUNTED, Page};
+use crate::policy::{policy_for_documents, policy_for_fragments};
 use crate::report::FigCleaned;
 use crate::room::put_front;
 use crate::table::table_of;
@@ -127,6 +130,78 @@ pub(crate) fn clean_fragment_by(
     ensures same_room { length output.new ≡ length output.old }
 {
     match clean_fragment_text(alloc, file, page) {
+        Ok(made) => {
+            let text = made.0.written();
+            *report = FigCleaned::new(text.len(), made.1);
+            put_front(output, text)
+        }
+        Err(failure) => {
+            *report = FigCleaned::nothing(failure.at);
+            failure.answer
+        }
+    }
+}
+
+/// What a policy's text keeps of a page as a document.
+fn document_kept_by(alloc: Global, file: &[u8], policy: &[u8], page: &[u8]) -> Made
+    ensures ok { IfOk result (λ made. IsDocumentKeptBy policy.now file.now page.now made.0.written made.1) }
+    ensures err { IfErr result (λ failure. FailsToClean never_kept file.now policy.now page.now failure.answer failure.at) }
+{
+    let policy = policy_for_documents(alloc, policy)?;
+    let table = table_of(alloc, file)?;
+    let made = kept_of_document(alloc, table, page, &policy)?;
+    Ok(made)
+}
+
+/// What a policy's text keeps of a page as a fragment in a `div`.
+fn fragment_kept_by(alloc: Global, file: &[u8], policy: &[u8], page: &[u8]) -> Made
+    ensures ok { IfOk result (λ made. IsFragmentKeptBy policy.now file.now page.now made.0.written made.1) }
+    ensures err { IfErr result (λ failure. FailsToClean never_kept_in_fragment file.now policy.now page.now failure.answer failure.at) }
+{
+    let policy = policy_for_fragments(alloc, policy)?;
+    let table = table_of(alloc, file)?;
+    let made = kept_of_fragment(alloc, table, page, &policy)?;
+    Ok(made)
+}
+
+/// Writes what a policy's text keeps of a page as a document to the front of room.
+pub(crate) fn clean_document_with(
+    alloc: Global,
+    file: &[u8],
+    policy: &[u8],
+    page: &[u8],
+    output: &mut [u8],
+    report: &mut FigCleaned,
+) -> Answer
+    ensures answer { MeansDocumentBy file.now policy.now page.now output.old output.new report.new result }
+    ensures same_room { length output.new ≡ length output.old }
+{
+    match document_kept_by(alloc, file, policy, page) {
+        Ok(made) => {
+            let text = made.0.written();
+            *report = FigCleaned::new(text.len(), made.1);
+            put_front(output, text)
+        }
+        Err(failure) => {
+            *report = FigCleaned::nothing(failure.at);
+            failure.answer
+        }
+    }
+}
+
+/// Writes what a policy's text keeps of a page as a fragment in a `div` to the front of room.
+pub(crate) fn clean_fragment_with(
+    alloc: Global,
+    file: &[u8],
+    policy: &[u8],
+    page: &[u8],
+    output: &mut [u8],
+    report: &mut FigCleaned,
+) -> Answer
+    ensures answer { MeansFragmentBy file.now policy.now page.now output.old output.new report.new result }
+    ensures same_room { length output.new ≡ length output.old }
+{
+    match fragment_kept_by(alloc, file, policy, page) {
         Ok(made) => {
             let text = made.0.written();
             *report = FigCleaned::new(text.len(), made.1);

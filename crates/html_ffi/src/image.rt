@@ -1,28 +1,31 @@
-//! A node of a tree's image, as HTML and as text.
-ghost use Rattle.std.specs.Prelude.{◌≡◌, IfErr, IfOk, length};
+//! A node of a tree's image, as HTML and as text, and the links in it.
+ghost use Rattle.std.specs.Prelude.{◌≡◌, ◌++◌, IfErr, IfOk, length};
+ghost use Rattle.std.specs.List.{flat_map};
 ghost use Rattle.std.specs.String.{string_bytes};
 ghost use Rattle.html_plain.specs.Grammar.{is_plain_forest};
-ghost use Rattle.html_ffi.specs.Images.{FailsOnNode, IsFound, IsHtml, IsMadeOfNode, IsTextContent, MeansNode, html_of, text_of};
+ghost use Rattle.html_ffi.specs.Images.{FailsOnNode, IsFound, IsHtml, IsLinkList, IsMadeOfNode, IsTextContent, MeansNode, html_of};
+ghost use Rattle.html_ffi.specs.Images.{link_line, link_lines, text_of};
 ghost use Rattle.html_ffi.specs.declared.answer.Answer.TheVariants.{Memory};
 
 use crate::answer::{Answer, Failure, no_memory};
 use crate::report::FigReport;
 use crate::room::put_front;
 use devices::VecWriter;
+use html_extracts::links_below;
 use html_forest::{Forest, ForestNode, NodeId};
 use html_image_reader::{Image, read_image};
 use html_nodes::text_content;
 use html_normal::Report;
 use html_serialize::{SerializeOpts, serialize};
-use markup::TraversalScope;
-use std::alloc::Global;
+use markup::{Text, TraversalScope};
+use std::alloc::{AllocError, Global};
 
 /// A node of a tree, with the report of the tree.
 #[derive(Drop)]
-struct Found {
-    forest: Forest,
-    report: Report,
-    id: NodeId,
+pub(crate) struct Found {
+    pub(crate) forest: Forest,
+    pub(crate) report: Report,
+    pub(crate) id: NodeId,
 }
 
 /// The report of an image.
@@ -43,7 +46,7 @@ fn report_of(image: &Image) -> Result<Report, Failure>
 }
 
 /// A node of the tree of which a block of bytes is the image.
-fn find_node(alloc: Global, image: &[u8], node: u32) -> Result<Found, Failure>
+pub(crate) fn find_node(alloc: Global, image: &[u8], node: u32) -> Result<Found, Failure>
     ensures ok { IfOk result (λ found. IsFound image.now node found.forest found.id found.report) }
     ensures err { IfErr result (λ failure. FailsOnNode image.now node failure.answer failure.at) }
 {
@@ -112,6 +115,71 @@ fn node_text(alloc: Global, image: &[u8], node: u32) -> Result<(String, Report),
     let found = find_node(alloc, image, node)?;
     let text = text_of(alloc, &found.forest, found.id)?;
     Ok((text, found.report))
+}
+
+/// Puts a link and a line feed behind a text.
+fn push_link(text: &mut String, link: &Text) -> Result<(), AllocError>
+    ensures { IfOk result (λ _. string_bytes text.new ≡ string_bytes text.old ++ link_line link.now) }
+{
+    text.push_str(link.as_str())?;
+    text.push('\n')
+}
+
+/// Links, each with a line feed behind it.
+fn lines_of(alloc: Global, links: &[Text]) -> Result<String, Failure>
+    ensures ok { IfOk result (λ text. string_bytes text ≡ flat_map link_line links.now) }
+    ensures err { IfErr result (λ failure. failure ≡ record { answer = Memory; at = 0 }) }
+{
+    let mut text = String::new(alloc);
+    for link in links {
+        push_link(&mut text, link)?;
+    }
+    Ok(text)
+}
+
+/// The links of the elements in a node, each with a line feed behind it.
+fn links_of(alloc: Global, forest: &Forest, id: NodeId) -> Result<String, Failure>
+    ensures ok { IfOk result (λ text. string_bytes text ≡ link_lines forest.now id) }
+    ensures err { IfErr result (λ failure. failure ≡ record { answer = Memory; at = 0 }) }
+{
+    let Ok(links) = links_below(alloc, forest, id) else {
+        return Err(no_memory());
+    };
+    lines_of(alloc, links.as_slice())
+}
+
+/// The links in a node of an image, with the report of the image.
+fn node_links(alloc: Global, image: &[u8], node: u32) -> Result<(String, Report), Failure>
+    ensures ok { IfOk result (λ made. IsMadeOfNode IsLinkList node image.now (string_bytes made.0) made.1) }
+    ensures err { IfErr result (λ failure. FailsOnNode image.now node failure.answer failure.at) }
+{
+    let found = find_node(alloc, image, node)?;
+    let text = links_of(alloc, &found.forest, found.id)?;
+    Ok((text, found.report))
+}
+
+/// Writes the links in a node of an image to the front of room.
+pub(crate) fn links_by(
+    alloc: Global,
+    image: &[u8],
+    node: u32,
+    output: &mut [u8],
+    report: &mut FigReport,
+) -> Answer
+    ensures answer { MeansNode IsLinkList node image.now output.old output.new report.new result }
+    ensures same_room { length output.new ≡ length output.old }
+{
+    match node_links(alloc, image, node) {
+        Ok(made) => {
+            let text = made.0.as_str().as_bytes();
+            *report = FigReport::new(text.len(), made.1);
+            put_front(output, text)
+        }
+        Err(failure) => {
+            *report = FigReport::nothing(failure.at);
+            failure.answer
+        }
+    }
 }
 
 /// Writes a node of an image as HTML to the front of room.

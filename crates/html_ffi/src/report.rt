@@ -1,6 +1,6 @@
 //! What C gets beside an answer.
 ghost use Rattle.std.specs.Prelude.{◌≡◌};
-ghost use Rattle.html_ffi.specs.Reports.{cleaned_of, flag_of, nothing_at, nothing_cleaned_at, quirks_number, report_of};
+ghost use Rattle.html_ffi.specs.Reports.{cleaned_of, flag_of, nothing_at, nothing_cleaned_at, of_text, quirks_number, report_of};
 
 use html_clean::Cleaned;
 use html_normal::Report;
@@ -28,7 +28,7 @@ pub struct FigReport {
 pub struct FigCleaned {
     /// How many bytes the text has.
     pub length: usize,
-    /// Where the page stops to be UTF-8; else 0.
+    /// Where the page or the policy stops to be UTF-8, or the line of the policy that is at fault; else 0.
     pub at: u64,
     /// Elements that gave way to what stands in them.
     pub unwrapped: u64,
@@ -38,6 +38,22 @@ pub struct FigCleaned {
     pub attributes: u64,
     /// Comments and processing instructions.
     pub comments: u64,
+}
+
+/// The report of a page that was decoded.
+#[repr(C)]
+#[derive(Clone, Copy)]
+pub struct FigDecoded {
+    /// How many bytes the text has.
+    pub length: usize,
+    /// How many errors the page has in its encoding, at most `u64::MAX`. Each stands as U+FFFD in the text.
+    pub errors: u64,
+    /// 0.
+    pub at: u64,
+    /// The number of the encoding.
+    pub encoding: u8,
+    /// How it was found out: 0 by a byte order mark, 1 by the label, 2 by a declaration in the page, 3 by nothing.
+    pub why: u8,
 }
 
 /// A flag of C's.
@@ -69,6 +85,19 @@ impl FigReport {
             at: 0,
             quirks: quirks_number(report.quirks),
             plain: flag(report.plain),
+        }
+    }
+
+    /// The report of a text of so many bytes that is of no page.
+    pub(crate) fn of_text(length: usize) -> FigReport
+        ensures { result ≡ of_text length }
+    {
+        FigReport {
+            length,
+            errors: 0,
+            at: 0,
+            quirks: 0,
+            plain: 0,
         }
     }
 

@@ -1,25 +1,29 @@
 //! Rows of the calls that C has: a page, the answer, and what is written. All rows of the packages are in `bindings/rows.tsv`.
 
-use crate::report::{FigCleaned, FigReport};
+use crate::report::{FigCleaned, FigDecoded, FigReport};
 use crate::{
-    fig_clean, fig_clean_document, fig_errors, fig_normalise, fig_normalise_with, fig_select,
-    fig_serialize, fig_text_content, fig_tree, fig_tree_with,
+    fig_clean, fig_clean_by, fig_clean_document, fig_clean_document_by, fig_decode, fig_errors,
+    fig_links, fig_normalise, fig_normalise_with, fig_policy, fig_select, fig_serialize,
+    fig_text_content, fig_tree, fig_tree_with,
 };
 use std::alloc::Global;
 
 /// The room that each call is given.
 const ROOM: usize = 400;
 
-/// A call whose report is on a page: its table or its selectors, if it takes one, and the page; or an image and a node.
+/// A call whose report is on a page: its table, if it takes one, and the page; or an image and a node, after selectors if it takes some; or
+/// the name of a ready policy.
 enum Page {
     Normal(&'static [u8]),
     NormalWith(&'static [u8], &'static [u8]),
     Tree(&'static [u8]),
     TreeWith(&'static [u8], &'static [u8]),
-    Select(&'static [u8], &'static [u8]),
+    Select(&'static [u8], &'static [u8], u32),
     Serialize(&'static [u8], u32),
     Text(&'static [u8], u32),
     Errors(&'static [u8]),
+    Ready(&'static [u8]),
+    Links(&'static [u8], u32),
 }
 
 /// The answer, and what the report has: `at`, the number of the quirks mode, and whether the document is plain; and what is written.
@@ -70,13 +74,18 @@ const PAGES: &[(Page, Seen)] = &[
     (Page::TreeWith(b"x", b"a"), (17, 1, 0, 0, b"")),
     (Page::Tree(b"a\xC0"), (1, 1, 0, 0, b"")),
     (
-        Page::Select(b"p + p, body > :first-child", b"<!DOCTYPE html><p>a<p>b"),
-        (0, 0, 0, 1, b"\x05\0\0\0\x07\0\0\0"),
+        Page::Select(b"head + body, :root", IMAGE, 0),
+        (0, 0, 0, 1, b"\x02\0\0\0\x04\0\0\0"),
     ),
-    (Page::Select(b"ul", b"<!DOCTYPE html>"), (0, 0, 0, 1, b"")),
-    (Page::Select(b"p >", b"<p>"), (33, 3, 0, 0, b"")),
-    (Page::Select(b"p\xFF", b"<p>"), (32, 1, 0, 0, b"")),
-    (Page::Select(b"p", b"a\xFF"), (1, 1, 0, 0, b"")),
+    (
+        Page::Select(b":scope > *", IMAGE, 2),
+        (0, 0, 0, 1, b"\x03\0\0\0\x04\0\0\0"),
+    ),
+    (Page::Select(b"ul", IMAGE, 0), (0, 0, 0, 1, b"")),
+    (Page::Select(b"p >", IMAGE, 0), (33, 3, 0, 0, b"")),
+    (Page::Select(b"p\xFF", IMAGE, 0), (32, 1, 0, 0, b"")),
+    (Page::Select(b"p", IMAGE, 5), (49, 0, 0, 0, b"")),
+    (Page::Select(b"p", b"FIGT", 0), (48, 0, 0, 0, b"")),
     (
         Page::Serialize(IMAGE, 0),
         (
@@ -93,6 +102,8 @@ const PAGES: &[(Page, Seen)] = &[
     (Page::Text(IMAGE, 0), (0, 0, 0, 1, b"")),
     (Page::Text(IMAGE, 5), (49, 0, 0, 0, b"")),
     (Page::Text(b"", 0), (48, 0, 0, 0, b"")),
+    (Page::Links(IMAGE, 0), (0, 0, 0, 1, b"")),
+    (Page::Links(IMAGE, 5), (49, 0, 0, 0, b"")),
     (
         Page::Errors(b"<!DOCTYPE html>\n<p>&nosuch;\n<b b b></b>"),
         (
@@ -105,12 +116,26 @@ const PAGES: &[(Page, Seen)] = &[
     ),
     (Page::Errors(b"<!DOCTYPE html>"), (0, 0, 0, 1, b"")),
     (Page::Errors(b"a\xFF"), (1, 1, 0, 0, b"")),
+    (
+        Page::Ready(b"text-alone"),
+        (
+            0,
+            0,
+            0,
+            0,
+            b"drop head iframe noembed noframes noscript script style template title\n",
+        ),
+    ),
+    (Page::Ready(b"text"), (67, 0, 0, 0, b"")),
+    (Page::Ready(b"mail\xFF"), (64, 4, 0, 0, b"")),
 ];
 
-/// A call whose report is on a page that was cleaned.
+/// A call whose report is on a page that was cleaned: the policy, if it takes one, and the page.
 enum Dirty {
     Fragment(&'static [u8]),
     Document(&'static [u8]),
+    FragmentBy(&'static [u8], &'static [u8]),
+    DocumentBy(&'static [u8], &'static [u8]),
 }
 
 /// The answer, and what the report has: `at`, and how many elements were unwrapped and dropped, attributes and comments dropped; and what
@@ -129,6 +154,61 @@ const CLEANED: &[(Dirty, Kept)] = &[
         (0, 0, [2, 1, 1, 0], b"<p>a</p>"),
     ),
     (Dirty::Document(b"a\xFF"), (1, 1, [0, 0, 0, 0], b"")),
+    (
+        Dirty::FragmentBy(
+            b"keep p\nkeep a href\nscheme https\n",
+            b"<p id=x><a href=https:b>c</a><a href=http:d><b>e",
+        ),
+        (
+            0,
+            0,
+            [1, 0, 2, 0],
+            b"<p><a href=\"https:b\">c</a><a>e</a></p>",
+        ),
+    ),
+    (
+        Dirty::FragmentBy(b"", b"<p>a<script>b"),
+        (0, 0, [2, 0, 0, 0], b"ab"),
+    ),
+    (
+        Dirty::FragmentBy(b"keep p\nsave b", b"a"),
+        (65, 2, [0, 0, 0, 0], b""),
+    ),
+    (
+        Dirty::FragmentBy(b"keep p\xC3", b"a"),
+        (64, 6, [0, 0, 0, 0], b""),
+    ),
+    (
+        Dirty::FragmentBy(b"keep body", b"a"),
+        (66, 0, [0, 0, 0, 0], b""),
+    ),
+    (
+        Dirty::FragmentBy(b"keep p", b"\xFF"),
+        (1, 0, [0, 0, 0, 0], b""),
+    ),
+    (
+        Dirty::DocumentBy(b"keep body", b"<p>a"),
+        (0, 0, [3, 0, 0, 0], b"<body>a</body>"),
+    ),
+    (
+        Dirty::DocumentBy(b"keep script", b"a"),
+        (66, 0, [0, 0, 0, 0], b""),
+    ),
+];
+
+/// The label and the page; the number of errors, the encoding, and how it was found out; and what is written.
+type DecodedRow = ((&'static [u8], &'static [u8]), (u64, u8, u8), &'static [u8]);
+
+const DECODED: &[DecodedRow] = &[
+    ((b"koi8-r", b"<p>\xD1"), (0, 20, 1), b"<p>\xD1\x8F"),
+    ((b"", b"\xFF\xFEa\0\xE9\0"), (0, 27, 0), b"a\xC3\xA9"),
+    (
+        (b"none", b"<meta charset=koi8-r>\xD1"),
+        (0, 20, 2),
+        b"<meta charset=koi8-r>\xD1\x8F",
+    ),
+    ((b"", b"caf\xE9"), (0, 31, 3), b"caf\xC3\xA9"),
+    ((b"utf8", b"a\xFFb"), (1, 25, 1), b"a\xEF\xBF\xBDb"),
 ];
 
 /// A report that no call writes.
@@ -156,10 +236,14 @@ fn call(alloc: Global, page: &Page, output: &mut [u8], report: &mut FigReport) -
         Page::NormalWith(table, page) => fig_normalise_with(alloc, table, page, output, report),
         Page::Tree(page) => fig_tree(alloc, page, output, report),
         Page::TreeWith(table, page) => fig_tree_with(alloc, table, page, output, report),
-        Page::Select(selector, page) => fig_select(alloc, selector, page, output, report),
+        Page::Select(selector, image, node) => fig_select(
+            alloc, selector, image, *node, output, report,
+        ),
         Page::Serialize(image, node) => fig_serialize(alloc, image, *node, output, report),
         Page::Text(image, node) => fig_text_content(alloc, image, *node, output, report),
         Page::Errors(page) => fig_errors(alloc, page, output, report),
+        Page::Ready(name) => fig_policy(alloc, name, output, report),
+        Page::Links(image, node) => fig_links(alloc, image, *node, output, report),
     }
 }
 
@@ -177,15 +261,24 @@ fn is_seen(alloc: Global, page: &Page, seen: &Seen) -> bool {
         && output.starts_with(text)
 }
 
+/// Makes a call that cleans.
+fn clean(alloc: Global, page: &Dirty, output: &mut [u8], report: &mut FigCleaned) -> u32 {
+    match page {
+        Dirty::Fragment(page) => fig_clean(alloc, page, output, report),
+        Dirty::Document(page) => fig_clean_document(alloc, page, output, report),
+        Dirty::FragmentBy(policy, page) => fig_clean_by(alloc, policy, page, output, report),
+        Dirty::DocumentBy(policy, page) => fig_clean_document_by(
+            alloc, policy, page, output, report,
+        ),
+    }
+}
+
 /// Whether a call that cleans is seen so.
 fn is_kept(alloc: Global, page: &Dirty, kept: &Kept) -> bool {
     let (answer, at, counts, text) = *kept;
     let mut output = [0; ROOM];
     let mut report = NO_COUNTS;
-    let is = match page {
-        Dirty::Fragment(page) => fig_clean(alloc, page, &mut output, &mut report),
-        Dirty::Document(page) => fig_clean_document(alloc, page, &mut output, &mut report),
-    };
+    let is = clean(alloc, page, &mut output, &mut report);
     is == answer
         && report.at == at
         && [
@@ -205,11 +298,51 @@ fn pages_are_written(rt: HostRuntime) {
     }
 }
 
+/// Whether a page is decoded so.
+fn is_decoded(alloc: Global, row: &DecodedRow) -> bool {
+    let ((label, page), (errors, encoding, why), text) = *row;
+    let mut output = [0; ROOM];
+    let mut report = FigDecoded {
+        length: 77,
+        errors: 77,
+        at: 77,
+        encoding: 77,
+        why: 77,
+    };
+    fig_decode(alloc, label, page, &mut output, &mut report) == 0
+        && report.errors == errors
+        && report.at == 0
+        && report.encoding == encoding
+        && report.why == why
+        && report.length == text.len()
+        && output.starts_with(text)
+}
+
+#[test]
+fn pages_are_decoded(rt: HostRuntime) {
+    for row in DECODED {
+        assert!(rt; is_decoded(rt.alloc(), row), "{}", row.1.1);
+    }
+}
+
 #[test]
 fn pages_are_cleaned(rt: HostRuntime) {
     for (page, kept) in CLEANED {
         assert!(rt; is_kept(rt.alloc(), page, kept), "{} {}", kept.0, kept.1);
     }
+}
+
+#[test]
+fn links_are_listed(rt: HostRuntime) {
+    let alloc = rt.alloc();
+    let mut image = [0; 2000];
+    let mut report = NO_REPORT;
+    let page = b"<a href='/a\n?b'><img src=\xC3\xA9><i src=c></i><base href=d>";
+    let answer = fig_tree(alloc, page, &mut image, &mut report);
+    assert!(rt; answer == 0);
+    let mut output = [0; ROOM];
+    let answer = fig_links(alloc, &image[..report.length], 0, &mut output, &mut report);
+    assert!(rt; answer == 0 && report.length == 8 && output.starts_with(b"/a?b\n\xC3\xA9\n"));
 }
 
 #[test]
