@@ -2,7 +2,7 @@
 # test.sh: the bindings that build.sh made, on the rows of rows.tsv and tasks.tsv, and the examples of docs/BINDINGS.md: C under the
 # address and the undefined-behaviour sanitizer, by the static and by the shared library and by the Debian package; Rust by cargo; Python
 # from the wheel. Then whether all have the structs alike, which names are to be seen, and the recipes of docs/AT_SCALE.md. Needs a C compiler with the sanitizers, cargo, python3 with pip, pkg-config or none, dpkg-deb;
-# where js/build.sh made the npm package, also node and npm, and tests its types if tsc is there. The recipes need GNU parallel and the
+# where js/build.sh made the npm package, also node and npm. Types are tested where mypy and tsc are there. The recipes need GNU parallel and the
 # program figpliers, in the path or built; and dask.distributed.
 here=$(cd "$(dirname "$0")" && pwd)
 out=$here/out
@@ -46,10 +46,11 @@ python() {
     python3 -m pip install -q --no-deps --no-index --target "$work/python" "$out"/figpliers-*.whl \
         && cd "$work" && PYTHONPATH=$work/python FIGPLIERS_LAYOUT=$work/layout.python python3 "$here/python/tests/test_rows.py"
 }
+python_types() { cd "$here/python" && mypy --strict figpliers && echo "mypy: 1 passed"; }
 python_tasks() { PYTHONPATH=$work/python python3 "$here/python/tests/test_tasks.py"; }
 layouts() {
     "$work/static" "$here/rows.tsv" | grep '^fig_' > "$work/layout.c"
-    test "$(wc -l < "$work/layout.c")" = 13 && cmp "$work/layout.c" "$work/layout.rust" && cmp "$work/layout.c" "$work/layout.python"
+    test "$(wc -l < "$work/layout.c")" = 19 && cmp "$work/layout.c" "$work/layout.rust" && cmp "$work/layout.c" "$work/layout.python"
 }
 c_tasks() { $cc $flags -I"$here/c" "$here/c/tasks.c" "$out/libfigpliers.a" -o "$work/tasks" && "$work/tasks" "$here/tasks.tsv"; }
 links() {
@@ -118,6 +119,7 @@ try "Rust, shared library" rust --features shared
 unset LD_LIBRARY_PATH
 try "Python, wheel" python
 try "Python, the usual tasks" python_tasks
+if command -v mypy > /dev/null; then try "Python, types" python_types; fi
 try "Python, the example of the documentation" example_python
 try "sizes and offsets of the structs" layouts
 if ls "$out"/figpliers-*.tgz > /dev/null 2>&1; then

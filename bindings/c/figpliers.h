@@ -41,7 +41,11 @@ enum fig_answer {
     FIG_SELECTOR_NOT_UTF8 = 32, /* the selectors are not UTF-8: their longest front that is has `at` bytes */
     FIG_SELECTOR = 33,          /* the text is no selectors: `at` characters stand before the first fault */
     FIG_NOT_AN_IMAGE = 48,      /* the bytes are not the image of a tree */
-    FIG_NO_SUCH_NODE = 49       /* the tree has no node of that number */
+    FIG_NO_SUCH_NODE = 49,      /* the tree has no node of that number */
+    FIG_POLICY_NOT_UTF8 = 64,   /* the policy, or the name of a ready one, is not UTF-8: its longest front that is has `at` bytes */
+    FIG_POLICY_LINE = 65,       /* line `at` of the policy, counted from 1, is no rule */
+    FIG_NEVER_KEPT = 66,        /* the policy names an element, an attribute or a scheme that is never kept */
+    FIG_NO_SUCH_POLICY = 67     /* there is no ready policy of that name */
 };
 
 /* What is told of a page. Where an answer is neither FIG_DONE nor FIG_TOO_SHORT all is 0 but `at`. */
@@ -63,12 +67,38 @@ typedef struct fig_cleaned {
     uint64_t comments;   /* comments and processing instructions */
 } fig_cleaned;
 
+/* What is told of a page that was decoded. */
+typedef struct fig_decoded {
+    size_t length;    /* how many bytes the text has */
+    uint64_t errors;  /* how many errors the page has in its encoding: each stands as U+FFFD in the text */
+    uint64_t at;      /* 0 */
+    uint8_t encoding; /* the encoding: fig_encoding_name gives its name */
+    uint8_t why;      /* how it was found out: 0 by a byte order mark, 1 by the label, 2 by a declaration in the page, 3 by nothing */
+} fig_decoded;
+
 /* A page is the bytes of an HTML document in UTF-8, in full; a byte order mark in front is dropped. No text is refused.
  *
  * The table of named character references is the Standard's, with 2,231 names, or one that is handed in to the calls that end
  * in `_with`: the bytes of lines of a name, a space and one to six hexadecimal digits, and for a second character a space and
  * its digits, as in "eacute; E9". A table of length 0 has no name. To read the Standard's table takes some 0.4
  * milliseconds a call, so a short table of one's own is quicker for many small pages. */
+
+/* Writes the text of a page that is in any encoding in UTF-8, for the calls below: in the encoding of its byte order mark, or of `label`,
+ * which came with it, as in a header of HTTP ("utf-8", "windows-1252", ..); where neither is there, in that which the page declares, or
+ * in windows-1252. A label that names no encoding, as one of length 0, says nothing. No page is refused. */
+uint32_t fig_decode(const uint8_t *label, size_t label_length, const uint8_t *page, size_t page_length, uint8_t *output, size_t room,
+                    fig_decoded *report);
+
+/* The name of an encoding, as the Encoding Standard writes it. */
+static inline const char *fig_encoding_name(uint8_t encoding) {
+    static const char *const names[] = {
+        "Big5", "EUC-JP", "EUC-KR", "gb18030", "GBK", "IBM866", "ISO-2022-JP", "ISO-8859-2", "ISO-8859-3", "ISO-8859-4",
+        "ISO-8859-5", "ISO-8859-6", "ISO-8859-7", "ISO-8859-8", "ISO-8859-8-I", "ISO-8859-10", "ISO-8859-13", "ISO-8859-14",
+        "ISO-8859-15", "ISO-8859-16", "KOI8-R", "KOI8-U", "macintosh", "replacement", "Shift_JIS", "UTF-8", "UTF-16BE",
+        "UTF-16LE", "windows-874", "windows-1250", "windows-1251", "windows-1252", "windows-1253", "windows-1254", "windows-1255",
+        "windows-1256", "windows-1257", "windows-1258", "x-mac-cyrillic", "x-user-defined"};
+    return encoding < sizeof names / sizeof *names ? names[encoding] : "";
+}
 
 /* Writes the normal text of a page: that of the document which the HTML Standard gives it. */
 uint32_t fig_normalise(const uint8_t *page, size_t page_length, uint8_t *output, size_t room, fig_report *report);
@@ -81,11 +111,6 @@ uint32_t fig_tree(const uint8_t *page, size_t page_length, uint8_t *output, size
 uint32_t fig_tree_with(const uint8_t *table, size_t table_length, const uint8_t *page, size_t page_length,
                        uint8_t *output, size_t room, fig_report *report);
 
-/* Writes the numbers of the nodes of a page's tree that CSS selectors select (Selectors Level 4), in tree order: four bytes for each, the
- * lowest first. They are the nodes of the image that fig_tree writes of the same page. */
-uint32_t fig_select(const uint8_t *selector, size_t selector_length, const uint8_t *page, size_t page_length,
-                    uint8_t *output, size_t room, fig_report *report);
-
 /* Writes a line for each parse error of a page, in the order in which they are found: the number of the page's line, ": ", and the
  * Standard's code of the error, or words where it has none, which may change. `errors` of the report is the number of these lines. */
 uint32_t fig_errors(const uint8_t *page, size_t page_length, uint8_t *output, size_t room, fig_report *report);
@@ -96,11 +121,34 @@ uint32_t fig_errors(const uint8_t *page, size_t page_length, uint8_t *output, si
 uint32_t fig_serialize(const uint8_t *image, size_t image_length, uint32_t node, uint8_t *output, size_t room, fig_report *report);
 uint32_t fig_text_content(const uint8_t *image, size_t image_length, uint32_t node, uint8_t *output, size_t room, fig_report *report);
 
+/* Writes where the elements below a node lead, in tree order, each with a line feed behind it: the `href` of each `a`, `area` and `link`, the
+ * `src` of each `img`, `script`, frame, `embed`, `input` and of media, as it is written but for tabs and line breaks. The image and the
+ * report are as of fig_serialize. */
+uint32_t fig_links(const uint8_t *image, size_t image_length, uint32_t node, uint8_t *output, size_t room, fig_report *report);
+
+/* Writes the numbers of the nodes below a node that CSS selectors select (Selectors Level 4), in tree order: four bytes for each, the lowest
+ * first. Node 0 asks for the whole document. `:scope` is the node, or where it is no element the first element in it. The image and the
+ * report are as of fig_serialize. */
+uint32_t fig_select(const uint8_t *selector, size_t selector_length, const uint8_t *image, size_t image_length, uint32_t node,
+                    uint8_t *output, size_t room, fig_report *report);
+
 /* Writes what the ready policy keeps of a page: text, links, tables and formatting, no script, no style, no event. Every reader
  * that follows the Standard is told by it just the tags and texts that were kept, wherever it is put among elements and texts.
  * fig_clean reads the page as what stands in a `div`, fig_clean_document as a document. */
 uint32_t fig_clean(const uint8_t *page, size_t page_length, uint8_t *output, size_t room, fig_cleaned *report);
 uint32_t fig_clean_document(const uint8_t *page, size_t page_length, uint8_t *output, size_t room, fig_cleaned *report);
+
+/* The same by a policy of one's own: a text of rules, one a line, as "keep a href" and "scheme https" (docs/CLEANING.md lists them). A
+ * policy of no rule keeps texts alone. What would let a script in is refused (FIG_NEVER_KEPT), and so are `html`, `head` and `body` by
+ * fig_clean_by. */
+uint32_t fig_clean_by(const uint8_t *policy, size_t policy_length, const uint8_t *page, size_t page_length, uint8_t *output, size_t room,
+                      fig_cleaned *report);
+uint32_t fig_clean_document_by(const uint8_t *policy, size_t policy_length, const uint8_t *page, size_t page_length, uint8_t *output,
+                               size_t room, fig_cleaned *report);
+
+/* Writes the text of a ready policy, to be used as it is or with further lines: "text-alone", "text-and-links" (that of fig_clean),
+ * "user-content" or "mail". Of the report all is 0 but `length`. */
+uint32_t fig_policy(const uint8_t *name, size_t name_length, uint8_t *output, size_t room, fig_report *report);
 
 /* READING AN IMAGE
  *

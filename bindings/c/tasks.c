@@ -77,7 +77,12 @@ static void on_node(const char *task, bytes image, uint32_t node) {
     else if (!strcmp(task, "attributes")) put_attributes(image.at, node);
     else if (!strcmp(task, "children")) put_children(image.at, node);
     else if (!strcmp(task, "parent")) put_name(image.at, fig_parent(image.at, node));
-    else {
+    else if (!strcmp(task, "urls")) {
+        bytes text = written(fig_links, image, node);
+        put((const char *)text.at, text.length);
+        free(text.at);
+        return;
+    } else {
         bytes text = written(strcmp(task, "text") ? fig_serialize : fig_text_content, image, node);
         fig_text it = {(const char *)text.at, text.length};
         put_text(strcmp(task, "inner_html") ? it : fig_inner(image.at, node, text.at, text.length));
@@ -93,7 +98,7 @@ static void on_nodes(const char *task, bytes selectors, bytes page) {
     fig_report report;
     if (!selectors.length)
         for (uint32_t node = 0; node != FIG_NO_NODE; node = following(image.at, node)) on_node(task, image, node);
-    else if (fig_select(selectors.at, selectors.length, page.at, page.length, numbers, sizeof numbers, &report) != FIG_DONE)
+    else if (fig_select(selectors.at, selectors.length, image.at, image.length, 0, numbers, sizeof numbers, &report) != FIG_DONE)
         put_word("no selectors");
     else
         for (size_t at = 0; at < report.length; at += 4) on_node(task, image, fig_word(numbers + at));
@@ -123,14 +128,16 @@ static void links(bytes page) {
     free(image.at);
 }
 
-static void on_page(const char *task, bytes page) {
+static void on_page(const char *task, bytes argument, bytes page) {
     static uint8_t text[1 << 12];
     fig_report report;
     fig_cleaned cleaned;
     if (!strcmp(task, "links")) {
         links(page);
     } else if (!strcmp(task, "clean")) {
-        if (fig_clean(page.at, page.length, text, sizeof text, &cleaned) == FIG_DONE) put((char *)text, cleaned.length);
+        uint32_t told = argument.length ? fig_clean_by(argument.at, argument.length, page.at, page.length, text, sizeof text, &cleaned)
+                                        : fig_clean(page.at, page.length, text, sizeof text, &cleaned);
+        if (told == FIG_DONE) put((char *)text, cleaned.length);
     } else {
         if (fig_errors(page.at, page.length, text, sizeof text, &report) == FIG_DONE) put((char *)text, report.length);
     }
@@ -145,7 +152,7 @@ int main(int argc, char **argv) {
         if (!strcmp(fields[0], "links_at")) continue;
         bytes argument = unescaped(fields[1]), page = unescaped(fields[2]), want = unescaped(fields[3]);
         answer.length = 0;
-        if (!strcmp(fields[0], "links") || !strcmp(fields[0], "clean") || !strcmp(fields[0], "errors")) on_page(fields[0], page);
+        if (!strcmp(fields[0], "links") || !strcmp(fields[0], "clean") || !strcmp(fields[0], "errors")) on_page(fields[0], argument, page);
         else on_nodes(fields[0], argument, page);
         put("", 0);
         answer.at[answer.length] = 0;

@@ -11,24 +11,49 @@ typedef struct told {
     char numbers[128];
 } told;
 
+/* What selectors select in the image of a page's tree; or why there is no image. */
+static uint32_t selected(bytes selectors, bytes page, uint8_t *output, size_t room, fig_report *report) {
+    uint32_t answer = fig_tree(page.at, page.length, NULL, 0, report);
+    if (answer != FIG_TOO_SHORT) return answer;
+    bytes image = {memory(report->length), report->length};
+    if (fig_tree(page.at, page.length, image.at, image.length, report) != FIG_DONE) abort();
+    memset(report, 0xA5, sizeof *report);
+    answer = fig_select(selectors.at, selectors.length, image.at, image.length, 0, output, room, report);
+    free(image.at);
+    return answer;
+}
+
 /* Makes a row's call, and writes its report as the rows have it. */
 static told call(const char *name, bytes table, bytes page, uint8_t *output, size_t room) {
     told it;
     if (!strncmp(name, "clean", 5)) {
         fig_cleaned r;
         memset(&r, 0xA5, sizeof r);
-        it.answer = (strcmp(name, "clean") ? fig_clean_document : fig_clean)(page.at, page.length, output, room, &r);
+        if (!strcmp(name, "clean_by")) it.answer = fig_clean_by(table.at, table.length, page.at, page.length, output, room, &r);
+        else if (!strcmp(name, "clean_document_by"))
+            it.answer = fig_clean_document_by(table.at, table.length, page.at, page.length, output, room, &r);
+        else it.answer = (strcmp(name, "clean") ? fig_clean_document : fig_clean)(page.at, page.length, output, room, &r);
         it.length = r.length;
         snprintf(it.numbers, sizeof it.numbers, "%llu,%llu,%llu,%llu,%llu", (unsigned long long)r.at, (unsigned long long)r.unwrapped,
                  (unsigned long long)r.dropped, (unsigned long long)r.attributes, (unsigned long long)r.comments);
+        return it;
+    }
+    if (!strcmp(name, "decode")) {
+        fig_decoded r;
+        memset(&r, 0xA5, sizeof r);
+        it.answer = fig_decode(table.at, table.length, page.at, page.length, output, room, &r);
+        it.length = r.length;
+        snprintf(it.numbers, sizeof it.numbers, "%s,%llu,%s,%u", r.errors ? "+" : "0", (unsigned long long)r.at,
+                 fig_encoding_name(r.encoding), r.why);
         return it;
     }
     fig_report r;
     memset(&r, 0xA5, sizeof r);
     if (!strcmp(name, "normalise")) it.answer = fig_normalise(page.at, page.length, output, room, &r);
     else if (!strcmp(name, "errors")) it.answer = fig_errors(page.at, page.length, output, room, &r);
+    else if (!strcmp(name, "policy")) it.answer = fig_policy(page.at, page.length, output, room, &r);
     else if (!strcmp(name, "tree")) it.answer = fig_tree(page.at, page.length, output, room, &r);
-    else if (!strcmp(name, "select")) it.answer = fig_select(table.at, table.length, page.at, page.length, output, room, &r);
+    else if (!strcmp(name, "select")) it.answer = selected(table, page, output, room, &r);
     else it.answer = (strcmp(name, "tree_with") ? fig_normalise_with : fig_tree_with)(
              table.at, table.length, page.at, page.length, output, room, &r);
     it.length = r.length;
@@ -170,7 +195,8 @@ int main(int argc, char **argv) {
     ALL(fig_report, length), ALL(fig_report, errors), ALL(fig_report, at), ALL(fig_report, quirks), ALL(fig_report, plain);
     ALL(fig_cleaned, length), ALL(fig_cleaned, at), ALL(fig_cleaned, unwrapped), ALL(fig_cleaned, dropped);
     ALL(fig_cleaned, attributes), ALL(fig_cleaned, comments);
-    printf("fig_report %zu\nfig_cleaned %zu\n", sizeof(fig_report), sizeof(fig_cleaned));
+    ALL(fig_decoded, length), ALL(fig_decoded, errors), ALL(fig_decoded, at), ALL(fig_decoded, encoding), ALL(fig_decoded, why);
+    printf("fig_report %zu\nfig_cleaned %zu\nfig_decoded %zu\n", sizeof(fig_report), sizeof(fig_cleaned), sizeof(fig_decoded));
     rows(argv[1]);
     image();
     large();

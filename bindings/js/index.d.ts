@@ -61,6 +61,16 @@ export declare class Node {
    * also one of a `script`. A Fault where the image is of no tree.
    * @example parse('<p id=a>1 &lt; 2<br>').elements('p')[0].html() // '<p id="a">1 &lt; 2<br></p>' */
   html(): string;
+  /** The elements below this node that CSS selectors select (Selectors Level 4), in tree order. `:scope` is this node, or where it is no
+   * element the first element in it. The library reads the whole image for it. A Fault where the text is no selectors.
+   * @example parse('<ul><li>a<li>b</ul>').select('li + li').map((it) => it.text()) // ['b'] */
+  select(selectors: Page): Node[];
+  /** The first element below this node that selectors select, or null. Throws as `select`. */
+  selectOne(selectors: Page): Node | null;
+  /** Where the elements below this node lead, in tree order: the `href` of each `a`, `area` and `link`, the `src` of each `img`, `script`,
+   * frame, `embed`, `input` and of media, as it is written but for tabs and line breaks. The library reads the whole image for it.
+   * @example parse('<link href=a><p><img src=b><a href=c>d</a>').urls() // ['a', 'b', 'c'] */
+  urls(): string[];
   /** What is in this node as HTML, without the node itself (`innerHTML` of the DOM): of a template its contents, of a node that can have
    * no children the empty string. A Fault as of `html`.
    * @example parse('<p id=a>1 &lt; 2<br>').elements('p')[0].innerHtml() // '1 &lt; 2<br>' */
@@ -68,18 +78,12 @@ export declare class Node {
 }
 
 export declare class Document extends Node {
-  /** Makes a document of its image alone, in which nothing can be selected. */
+  /** Makes a document of its image. */
   constructor(image: Uint8Array);
   /** The bytes of the image (docs/TREE_IMAGE.md), which another process or language may read. */
   readonly image: Uint8Array;
   readonly errors: number;
   readonly quirks: Quirks;
-  /** The elements that CSS selectors select (Selectors Level 4), in tree order: the page is read once more for it. A TypeError where the
-   * page isn't known, or was read by a table.
-   * @example parse('<ul><li>a<li>b</ul>').select('li + li').map((it) => it.text()) // ['b'] */
-  select(selectors: Page): Node[];
-  /** The first element that selectors select, or null. Throws as `select`. */
-  selectOne(selectors: Page): Node | null;
   /** Each `a` and `area` with an `href`, in tree order, with its URL, without the white space around it and the line breaks in it. The URL
    * is absolute, as `URL` makes it, if the page has a `base` that is absolute or `base` is given, the address of the page: what the page's
    * `base` says counts first. A URL that cannot be read stays as it is written.
@@ -105,6 +109,15 @@ export interface ParseError {
   message: string;
 }
 
+/** A page in UTF-8: its text, the name of its encoding as the Encoding Standard writes it, how that was found out, and how many errors
+ * the page has in it, each of which stands as U+FFFD in the text. */
+export interface Decoded {
+  text: string;
+  encoding: string;
+  why: 'mark' | 'label' | 'declaration' | 'nothing';
+  errors: number;
+}
+
 /** What cleaning kept, and how much it took away. */
 export interface Cleaned {
   text: string;
@@ -119,9 +132,17 @@ export declare function normalise(page: Page, table?: Page): Normal;
 /** The parse errors of a page, in the order in which they are found.
  * @example errors('<!DOCTYPE html>\n<p id=a id=b>') // [{ line: 2, message: 'duplicate-attribute' }] */
 export declare function errors(page: Page): ParseError[];
+/** The text of a page that is in any encoding: in that of its byte order mark, or of `label`, which came with it, as in a header of HTTP;
+ * where neither is there, in that which the page declares, or in windows-1252. A label that names no encoding says nothing.
+ * @example decode(Uint8Array.of(0x63, 0xe9)).text // 'c\u00e9' */
+export declare function decode(page: Uint8Array, label?: string): Decoded;
 /** The document of a page. */
 export declare function parse(page: Page, table?: Page): Document;
-/** What the ready policy keeps of a page, read as what stands in a `div`. */
-export declare function clean(page: Page): Cleaned;
+/** What a policy keeps of a page, read as what stands in a `div`. `policy` has a rule in each line, as in docs/CLEANING.md; without it
+ * text, links, tables and formatting are kept.
+ * @example clean('<p id=x><b>c', 'keep p').text // '<p>c</p>' */
+export declare function clean(page: Page, policy?: Page): Cleaned;
 /** The same of a page that is read as a document. */
-export declare function cleanDocument(page: Page): Cleaned;
+export declare function cleanDocument(page: Page, policy?: Page): Cleaned;
+/** The text of a ready policy: that of `clean` is `text-and-links`. */
+export declare function policy(name: 'text-alone' | 'text-and-links' | 'user-content' | 'mail'): string;

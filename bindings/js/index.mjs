@@ -23,9 +23,7 @@ export function normalise(page, table) {
 }
 
 export function parse(page, table) {
-  const bytes = bytesOf(page);
-  const known = table === undefined ? bytes : undefined;
-  return byTable('fig_tree', bytes, table, 4, (image) => new Document(image.slice(), known));
+  return byTable('fig_tree', page, table, 4, (image) => new Document(image.slice()));
 }
 
 export function errors(page) {
@@ -34,9 +32,27 @@ export function errors(page) {
   return lines.map((it) => ({ line: parseInt(it, 10), message: it.slice(it.indexOf(': ') + 2) }));
 }
 
-function cleaned(name, page) {
+const ENCODINGS = [
+  'Big5', 'EUC-JP', 'EUC-KR', 'gb18030', 'GBK', 'IBM866', 'ISO-2022-JP', 'ISO-8859-2', 'ISO-8859-3', 'ISO-8859-4',
+  'ISO-8859-5', 'ISO-8859-6', 'ISO-8859-7', 'ISO-8859-8', 'ISO-8859-8-I', 'ISO-8859-10', 'ISO-8859-13', 'ISO-8859-14',
+  'ISO-8859-15', 'ISO-8859-16', 'KOI8-R', 'KOI8-U', 'macintosh', 'replacement', 'Shift_JIS', 'UTF-8', 'UTF-16BE', 'UTF-16LE',
+  'windows-874', 'windows-1250', 'windows-1251', 'windows-1252', 'windows-1253', 'windows-1254', 'windows-1255',
+  'windows-1256', 'windows-1257', 'windows-1258', 'x-mac-cyrillic', 'x-user-defined',
+];
+
+export function decode(page, label = '') {
+  return call('fig_decode', [bytesOf(label), bytesOf(page)], [], Math.ceil(page.length * 1.25) + 256, 16, (output, told) => ({
+    text: decoder.decode(output),
+    encoding: ENCODINGS[told.getUint8(24)],
+    why: ['mark', 'label', 'declaration', 'nothing'][told.getUint8(25)],
+    errors: Number(told.getBigUint64(8, true)),
+  }));
+}
+
+function cleaned(name, page, policy) {
   const text = bytesOf(page);
-  return call(name, [text], [], Math.ceil(text.length * 1.25) + 256, 8, (output, told) => ({
+  const [of, texts] = policy === undefined ? [name, [text]] : [`${name}_by`, [bytesOf(policy), text]];
+  return call(of, texts, [], Math.ceil(text.length * 1.25) + 256, 8, (output, told) => ({
     text: decoder.decode(output),
     unwrapped: Number(told.getBigUint64(16, true)),
     dropped: Number(told.getBigUint64(24, true)),
@@ -45,5 +61,9 @@ function cleaned(name, page) {
   }));
 }
 
-export const clean = (page) => cleaned('fig_clean', page);
-export const cleanDocument = (page) => cleaned('fig_clean_document', page);
+export const clean = (page, policy) => cleaned('fig_clean', page, policy);
+export const cleanDocument = (page, policy) => cleaned('fig_clean_document', page, policy);
+
+export function policy(name) {
+  return call('fig_policy', [bytesOf(name)], [], 4096, 16, (output) => decoder.decode(output));
+}

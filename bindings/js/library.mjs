@@ -21,6 +21,10 @@ const WORDS = {
   33: (at) => `the selectors are wrong at character ${at}`,
   48: () => 'the bytes are not the image of a tree',
   49: () => 'the tree has no node of that number',
+  64: (at) => `the policy is not UTF-8 at byte ${at}`,
+  65: (at) => `line ${at} of the policy is no rule`,
+  66: () => 'the policy names what is never kept',
+  67: () => 'there is no ready policy of that name',
 };
 
 export class Fault extends Error {
@@ -83,7 +87,7 @@ export function ofNode(name, image, node) {
   return call(name, [image], [node], (image.length >> 1) + 64, 16, (output) => decoder.decode(output));
 }
 
-// The numbers of the nodes that selectors select in the document of a page.
-export function selected(selectors, page) {
-  return call('fig_select', [bytesOf(selectors), page], [], 256, 16, (output) => new Uint32Array(output.slice().buffer));
+// The numbers of the nodes below a node of an image that selectors select.
+export function selected(selectors, image, node) {
+  return call('fig_select', [selectors, image], [node], 256, 16, (output) => new Uint32Array(output.slice().buffer));
 }

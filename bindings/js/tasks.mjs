@@ -15,11 +15,12 @@ const onNode = {
 };
 
 function answer(task, argument, page) {
-  if (task === 'clean') return clean(page).text;
+  if (task === 'clean') return clean(page, argument || undefined).text;
   if (task === 'errors') return errors(page).map((it) => `${it.line}: ${it.message}\n`).join('');
   const document = parse(page);
   if (task.startsWith('links')) return document.links(argument || null).map((it) => `${it.url}\n`).join('');
   const nodes = argument ? document.select(argument) : [document, ...document.walk()];
+  if (task === 'urls') return nodes.flatMap((node) => node.urls()).map((url) => `${url}\n`).join('');
   return nodes.map((node) => `${onNode[task](node)}\n`).join('');
 }
 

@@ -2,7 +2,7 @@
 import { readFileSync } from 'node:fs';
 import { fileURLToPath } from 'node:url';
 import * as figpliers from 'figpliers';
-import { Document, Fault, clean, cleanDocument, errors, normalise, parse } from 'figpliers';
+import { Document, Fault, clean, cleanDocument, decode, errors, normalise, parse, policy } from 'figpliers';
 import { check, end, rowsOf, unescaped } from './testing.mjs';
 
 const QUIRKS = ['no', 'limited', 'yes'];
@@ -14,9 +14,16 @@ function called(name, table, page) {
   const words = name.endsWith('_with') ? [page, table] : [page];
   try {
     if (name.startsWith('clean')) {
-      const it = (name === 'clean' ? clean : cleanDocument)(page);
+      const words = name.endsWith('_by') ? [page, table] : [page];
+      const it = (name.startsWith('clean_document') ? cleanDocument : clean)(...words);
       return [0, counts(it), Buffer.from(it.text)];
     }
+    if (name === 'decode') {
+      const it = decode(page, new TextDecoder().decode(table));
+      const why = ['mark', 'label', 'declaration', 'nothing'].indexOf(it.why);
+      return [0, `${it.errors ? '+' : 0},0,${it.encoding},${why}`, Buffer.from(it.text)];
+    }
+    if (name === 'policy') return [0, '0,0,0,0', Buffer.from(policy(page))];
     if (name === 'select') {
       // the table of a row is its selectors
       const found = parse(page).select(table);
@@ -58,7 +65,9 @@ check(template.previous.isSame(p) && template.next.data === 'g' && odd.root.last
 check(new Document(odd.image.slice()).elements('p')[0].text() === 'd', 'an image that was handed on');
 check(odd.select('p > *')[0].isSame(svg), 'what is selected');
 check(clean('<b onclick=x>a</b><script>b</script>').text === '<b>a</b>', 'what is kept');
-for (const wrong of [() => parse(1), () => new Document(odd.image).select('p'), () => new Document(new Uint8Array(40))]) {
+check(new Document(odd.image).select('svg').length === 1, 'selectors on an image alone');
+check(odd.select('body')[0].select(':scope > *').length === 2, 'selectors below a node');
+for (const wrong of [() => parse(1), () => new Document(new Uint8Array(40))]) {
   try {
     wrong();
     check(false, 'a wrong argument');
@@ -94,7 +103,7 @@ check(parse("<a href='//['>").links('http://[')[0].url === '//[', 'links that ca
 // the examples of the types: a call and what it answers
 const types = readFileSync(fileURLToPath(import.meta.resolve('figpliers')).replace('index.mjs', 'index.d.ts'), 'utf8');
 const examples = [...types.matchAll(/@example (.*?) \/\/ (.*?)(?: \*\/)?$/gm)];
-const made = (code) => new Function('figpliers', `const { parse, errors } = figpliers; return ${code};`)(figpliers);
+const made = (code) => new Function('figpliers', `const { clean, decode, errors, parse } = figpliers; return ${code};`)(figpliers);
 for (const [, code, want] of examples) check(JSON.stringify(made(code)) === JSON.stringify(made(want)), code);
-check(examples.length === 6, 'the number of examples');
+check(examples.length === 9, 'the number of examples');
 end();

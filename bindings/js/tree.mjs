@@ -193,6 +193,18 @@ export class Node {
     const name = this.name.length;
     return html.slice(name + 2, Math.max(0, html.length - name - 3));
   }
+
+  select(selectors) {
+    return Array.from(selected(bytesOf(selectors), this.#image.bytes, this.#number), (number) => new Node(this.#image, number));
+  }
+
+  selectOne(selectors) {
+    return this.select(selectors)[0] ?? null;
+  }
+
+  urls() {
+    return ofNode('fig_links', this.#image.bytes, this.#number).split('\n').slice(0, -1);
+  }
 }
 
 // A URL without the white space around it, and without tabs and line breaks, which are no part of it (URL Standard, section 4.4).
@@ -207,23 +219,11 @@ function joined(base, url) {
 
 export class Document extends Node {
   #image;
-  #page;
 
-  // `page` is the page's bytes, if it was read by the Standard's table.
-  constructor(bytes, page) {
+  constructor(bytes) {
     const image = new Image(bytes);
     super(image, 0);
     this.#image = image;
-    this.#page = page;
-  }
-
-  select(selectors) {
-    if (!this.#page) throw new TypeError("nothing can be selected in this document: its page isn't known, or was read by a table");
-    return Array.from(selected(bytesOf(selectors), this.#page), (number) => new Node(this.#image, number));
-  }
-
-  selectOne(selectors) {
-    return this.select(selectors)[0] ?? null;
   }
 
   links(base = null) {

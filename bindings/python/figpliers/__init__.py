@@ -10,19 +10,21 @@ Report(errors=0, quirks='no', plain=True)
 >>> clean("<b onclick=x>a</b><script>b</script>")[0]
 '<b>a</b>'
 
-A page is a str, or bytes in UTF-8. The texts are what the library's contracts say (its figpliers.h). Calls share nothing, and other
-threads run while one is made.
+A page is a str, or bytes in UTF-8, or a file that is open for reading either; anything else raises TypeError. The texts are what the
+library's contracts say (its figpliers.h). Calls share nothing, and other threads run while one is made.
 """
-from typing import Callable, List, NamedTuple, Optional, Tuple
+from typing import IO, Callable, List, NamedTuple, Optional, Tuple, Union
 from xml.etree.ElementTree import Element, TreeBuilder
 
-from .library import Fault, FigCleaned, FigReport, Page, bytes_of, with_room, words_of
-from .library import fig_clean, fig_clean_document, fig_errors, fig_normalise, fig_normalise_with, fig_tree, fig_tree_with
+from .library import ENCODINGS, Fault, FigCleaned, FigDecoded, FigReport, Page, bytes_of, with_room, words_of
+from .library import fig_clean, fig_clean_by, fig_clean_document, fig_clean_document_by, fig_decode, fig_errors, fig_normalise
+from .library import fig_normalise_with, fig_policy, fig_tree, fig_tree_with
 from .tree import NAMESPACES, Attributes, Document, Node
 
 __all__ = [
     "Attributes",
     "Cleaned",
+    "Decoded",
     "Document",
     "Fault",
     "Node",
@@ -30,10 +32,12 @@ __all__ = [
     "Report",
     "clean",
     "clean_document",
+    "decode",
     "element",
     "errors",
     "normalise",
     "parse",
+    "policy",
 ]
 __version__ = "0.1.0"
 
@@ -65,16 +69,28 @@ class Cleaned(NamedTuple):
     comments: int
 
 
+class Decoded(NamedTuple):
+    """A page in UTF-8: its text, the name of its encoding as the Encoding Standard writes it, how that was found out ("mark", "label",
+    "declaration" or "nothing"), and how many errors the page has in it, each of which stands as U+FFFD in the text."""
+
+    text: str
+    encoding: str
+    why: str
+    errors: int
+
+
 def _told(report: FigReport) -> Report:
     return Report(report.errors, ("no", "limited", "yes")[report.quirks], bool(report.plain))
 
 
-def _by(call, call_with, page: Page, table: Optional[Page], times: int, more: int):
-    page = bytes_of(page)
-    room = len(page) * times // 4 + more
+def _by(
+    call: Callable[..., int], call_with: Callable[..., int], page: Page, table: Optional[Page], times: int, more: int
+) -> Tuple[bytes, FigReport]:
+    text = bytes_of(page)
+    room = len(text) * times // 4 + more
     if table is None:
-        return with_room(call, words_of(page), room, FigReport())
-    return with_room(call_with, words_of(bytes_of(table), page), room, FigReport())
+        return with_room(call, words_of(text), room, FigReport())
+    return with_room(call_with, words_of(bytes_of(table), text), room, FigReport())
 
 
 def normalise(page: Page, table: Optional[Page] = None) -> Tuple[str, Report]:
@@ -87,11 +103,27 @@ def normalise(page: Page, table: Optional[Page] = None) -> Tuple[str, Report]:
     return text.decode(), _told(report)
 
 
+def decode(page: Union[bytes, bytearray, memoryview, IO[bytes]], label: Optional[str] = None) -> Decoded:
+    """The text of a page that is in any encoding: in that of its byte order mark, or of `label`, which came with it, as in a header of
+    HTTP; where neither is there, in that which the page declares, or in windows-1252. A label that names no encoding says nothing.
+    Raises MemoryError.
+
+    >>> decode(b"<meta charset=koi8-r><p>\\xd1")
+    Decoded(text='<meta charset=koi8-r><p>я', encoding='KOI8-R', why='declaration', errors=0)
+    """
+    if isinstance(page, str):
+        raise TypeError("a str is decoded already")
+    coded = bytes_of(page)
+    words = words_of((label or "").encode(errors="replace"), coded)
+    text, report = with_room(fig_decode, words, len(coded) * 5 // 4 + 256, FigDecoded())
+    why = ("mark", "label", "declaration", "nothing")[report.why]
+    return Decoded(text.decode(), ENCODINGS[report.encoding], why, report.errors)
+
+
 def parse(page: Page, table: Optional[Page] = None) -> Document:
     """The document of a page. `table` is as in `normalise`. Raises Fault or MemoryError."""
-    page = bytes_of(page)
     image, _ = _by(fig_tree, fig_tree_with, page, table, 16, 1024)
-    return Document(image, page if table is None else None)
+    return Document(image)
 
 
 def errors(page: Page) -> List[ParseError]:
@@ -100,8 +132,8 @@ def errors(page: Page) -> List[ParseError]:
     >>> errors("<!DOCTYPE html>\\n<p id=a id=b>")
     [ParseError(line=2, message='duplicate-attribute')]
     """
-    page = bytes_of(page)
-    text, _ = with_room(fig_errors, words_of(page), len(page) // 4 + 1024, FigReport())
+    coded = bytes_of(page)
+    text, _ = with_room(fig_errors, words_of(coded), len(coded) // 4 + 1024, FigReport())
     found = (line.split(": ", 1) for line in text.decode().split("\n")[:-1])
     return [ParseError(int(line), message) for line, message in found]
 
@@ -134,18 +166,38 @@ def element(page: Page, table: Optional[Page] = None) -> Element:
     return builder.close()
 
 
-def _cleaned_by(call: Callable[..., int], page: Page) -> Tuple[str, Cleaned]:
-    page = bytes_of(page)
-    text, report = with_room(call, words_of(page), len(page) * 5 // 4 + 256, FigCleaned())
+def _cleaned(call: Callable[..., int], call_by: Callable[..., int], page: Page, policy: Optional[Page]) -> Tuple[str, Cleaned]:
+    coded = bytes_of(page)
+    room = len(coded) * 5 // 4 + 256
+    if policy is None:
+        text, report = with_room(call, words_of(coded), room, FigCleaned())
+    else:
+        text, report = with_room(call_by, words_of(bytes_of(policy), coded), room, FigCleaned())
     return text.decode(), Cleaned(report.unwrapped, report.dropped, report.attributes, report.comments)
 
 
-def clean(page: Page) -> Tuple[str, Cleaned]:
-    """What the ready policy keeps of a page, read as what stands in a div: text, links, tables and formatting. Raises Fault or
-    MemoryError."""
-    return _cleaned_by(fig_clean, page)
+def clean(page: Page, policy: Optional[Page] = None) -> Tuple[str, Cleaned]:
+    """What a policy keeps of a page, read as what stands in a div: without `policy` text, links, tables and formatting. Raises Fault or
+    MemoryError.
+
+    `policy` has a rule in each line, as in docs/CLEANING.md; the function `policy` gives the ready ones.
+
+    >>> clean("<p id=x><a href=https://b>c</a><b>d", policy="keep p\\nkeep a href\\nscheme https")[0]
+    '<p><a href="https://b">c</a>d</p>'
+    """
+    return _cleaned(fig_clean, fig_clean_by, page, policy)
 
 
-def clean_document(page: Page) -> Tuple[str, Cleaned]:
+def clean_document(page: Page, policy: Optional[Page] = None) -> Tuple[str, Cleaned]:
     """The same of a page that is read as a document. Raises Fault or MemoryError."""
-    return _cleaned_by(fig_clean_document, page)
+    return _cleaned(fig_clean_document, fig_clean_document_by, page, policy)
+
+
+def policy(name: str) -> str:
+    """The text of a ready policy: "text-alone", "text-and-links" (that of `clean`), "user-content" or "mail". Raises Fault or
+    MemoryError.
+
+    >>> policy("text-alone")
+    'drop head iframe noembed noframes noscript script style template title\\n'
+    """
+    return with_room(fig_policy, words_of(bytes_of(name)), 4096, FigReport())[0].decode()

@@ -1,9 +1,11 @@
 """The calls of the C library (its figpliers.h)."""
 import ctypes
 import os
-from typing import Callable, List, Tuple, Union
+from typing import IO, Any, Callable, List, Tuple, Type, TypeVar, Union
 
-Page = Union[str, bytes, bytearray]
+# a page: its text, or its bytes in UTF-8, or a file that is open for reading either
+Page = Union[str, bytes, bytearray, memoryview, IO[bytes], IO[str]]
+Words = List[Union[bytes, int]]
 
 
 class Fault(ValueError):
@@ -21,6 +23,10 @@ class Fault(ValueError):
         33: "the selectors are wrong at character {}",
         48: "the bytes are not the image of a tree",
         49: "the tree has no node of that number",
+        64: "the policy is not UTF-8 at byte {}",
+        65: "line {} of the policy is no rule",
+        66: "the policy names what is never kept",
+        67: "there is no ready policy of that name",
     }
 
     def __init__(self, answer: int, at: int) -> None:
@@ -28,7 +34,7 @@ class Fault(ValueError):
         self.answer = answer
         self.at = at
 
-    def __reduce__(self):
+    def __reduce__(self) -> Tuple[Type["Fault"], Tuple[int, int]]:
         return Fault, (self.answer, self.at)
 
 
@@ -53,40 +59,80 @@ class FigCleaned(ctypes.Structure):
     ]
 
 
+class FigDecoded(ctypes.Structure):
+    _fields_ = [
+        ("length", ctypes.c_size_t),
+        ("errors", ctypes.c_uint64),
+        ("at", ctypes.c_uint64),
+        ("encoding", ctypes.c_uint8),
+        ("why", ctypes.c_uint8),
+    ]
+
+
+ENCODINGS = (
+    "Big5", "EUC-JP", "EUC-KR", "gb18030", "GBK", "IBM866", "ISO-2022-JP", "ISO-8859-2", "ISO-8859-3", "ISO-8859-4",
+    "ISO-8859-5", "ISO-8859-6", "ISO-8859-7", "ISO-8859-8", "ISO-8859-8-I", "ISO-8859-10", "ISO-8859-13", "ISO-8859-14",
+    "ISO-8859-15", "ISO-8859-16", "KOI8-R", "KOI8-U", "macintosh", "replacement", "Shift_JIS", "UTF-8", "UTF-16BE",
+    "UTF-16LE", "windows-874", "windows-1250", "windows-1251", "windows-1252", "windows-1253", "windows-1254",
+    "windows-1255", "windows-1256", "windows-1257", "windows-1258", "x-mac-cyrillic", "x-user-defined",
+)
+
 _FOLDER = os.path.dirname(os.path.abspath(__file__))
 _library = ctypes.CDLL(os.environ.get("FIGPLIERS_SO") or os.path.join(_FOLDER, "libfigpliers.so"))
 _TEXT = [ctypes.c_char_p, ctypes.c_size_t]
 
 
-def _declared(name: str, words: list, report: type) -> Callable[..., int]:
-    call = getattr(_library, name)
+def _declared(name: str, words: List[Any], report: Type[ctypes.Structure]) -> Callable[..., int]:
+    call: Any = getattr(_library, name)
     call.argtypes = [*words, ctypes.c_void_p, ctypes.c_size_t, ctypes.POINTER(report)]
     call.restype = ctypes.c_uint32
-    return call
+    made: Callable[..., int] = call
+    return made
 
 
 fig_normalise = _declared("fig_normalise", _TEXT, FigReport)
 fig_normalise_with = _declared("fig_normalise_with", _TEXT * 2, FigReport)
 fig_tree = _declared("fig_tree", _TEXT, FigReport)
 fig_tree_with = _declared("fig_tree_with", _TEXT * 2, FigReport)
-fig_select = _declared("fig_select", _TEXT * 2, FigReport)
+fig_select = _declared("fig_select", [*_TEXT * 2, ctypes.c_uint32], FigReport)
 fig_errors = _declared("fig_errors", _TEXT, FigReport)
+fig_decode = _declared("fig_decode", _TEXT * 2, FigDecoded)
 fig_serialize = _declared("fig_serialize", [*_TEXT, ctypes.c_uint32], FigReport)
+fig_links = _declared("fig_links", [*_TEXT, ctypes.c_uint32], FigReport)
 fig_text_content = _declared("fig_text_content", [*_TEXT, ctypes.c_uint32], FigReport)
 fig_clean = _declared("fig_clean", _TEXT, FigCleaned)
 fig_clean_document = _declared("fig_clean_document", _TEXT, FigCleaned)
+fig_clean_by = _declared("fig_clean_by", _TEXT * 2, FigCleaned)
+fig_clean_document_by = _declared("fig_clean_document_by", _TEXT * 2, FigCleaned)
+fig_policy = _declared("fig_policy", _TEXT, FigReport)
+
+
+_Report = TypeVar("_Report", FigReport, FigCleaned, FigDecoded)
 
 
 def bytes_of(text: Page) -> bytes:
-    return text.encode() if isinstance(text, str) else bytes(text)
+    """The bytes of a page. Raises TypeError where it is none, and Fault where it has a lone surrogate."""
+    if isinstance(text, str):
+        try:
+            return text.encode()
+        except UnicodeEncodeError as error:
+            raise Fault(1, len(text[: error.start].encode())) from None
+    if isinstance(text, (bytes, bytearray, memoryview)):
+        return bytes(text)
+    if hasattr(text, "read"):
+        return bytes_of(text.read())
+    raise TypeError(f"a page is a str, bytes or a file that is open for reading, not {type(text).__name__}")
 
 
-def words_of(*texts: bytes) -> list:
+def words_of(*texts: bytes) -> Words:
     """What a call takes of texts."""
-    return [word for text in texts for word in (text, len(text))]
+    words: Words = []
+    for text in texts:
+        words += [text, len(text)]
+    return words
 
 
-def with_room(call: Callable[..., int], words: list, room: int, report) -> Tuple[bytes, "ctypes.Structure"]:
+def with_room(call: Callable[..., int], words: Words, room: int, report: _Report) -> Tuple[bytes, _Report]:
     """Makes a call with room for a text, and again with as much as it is told to want where that was too short."""
     while True:
         output = bytearray(room)

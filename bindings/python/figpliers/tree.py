@@ -14,10 +14,10 @@
 """
 import struct
 from collections.abc import Mapping
-from typing import Iterator, List, Optional, Tuple
+from typing import Iterator, List, Optional, Tuple, Type
 from urllib.parse import urljoin, urlsplit
 
-from .library import FigReport, bytes_of, fig_select, fig_serialize, of_node, with_room, words_of
+from .library import FigReport, bytes_of, fig_links, fig_select, fig_serialize, of_node, with_room, words_of
 
 _NO_NODE = 0xFFFFFFFF
 _HEADER = 32
@@ -157,7 +157,7 @@ class _Image:
         return html[name + 2 : -name - 3]
 
 
-class Attributes(Mapping):
+class Attributes(Mapping[str, str]):
     """The attributes of an element by their names, as ``href`` or ``xlink:href``, in the order of the page."""
 
     __slots__ = ("_image", "_words")
@@ -348,6 +348,35 @@ class Node:
             return self._image.inner_html(self._number)
         return self.html() if kind in (9, 11) else ""
 
+    def select(self, selectors: str) -> "List[Node]":
+        """The elements below this node that CSS selectors select (Selectors Level 4), in tree order. `:scope` is this node, or where it
+        is no element the first element in it. The library reads the whole image for it.
+
+        Raises Fault where the text is no selectors, and as `html`.
+
+        >>> from figpliers import parse
+        >>> [item.text() for item in parse("<ul><li>a<li>b</ul>").select("ul > li:nth-child(2)")]
+        ['b']
+        """
+        words = words_of(bytes_of(selectors), self._image.data)
+        numbers, _ = with_room(fig_select, [*words, self._number], 256, FigReport())
+        return [Node(self._image, number) for (number,) in struct.iter_unpack("<I", numbers)]
+
+    def select_one(self, selectors: str) -> "Optional[Node]":
+        """The first element below this node that selectors select. Raises as `select`."""
+        return next(iter(self.select(selectors)), None)
+
+    def urls(self) -> List[str]:
+        """Where the elements below this node lead, in tree order: the `href` of each `a`, `area` and `link`, the `src` of each `img`,
+        `script`, frame, `embed`, `input` and of media, as it is written but for tabs and line breaks. The library reads the whole image
+        for it. Raises as `html`.
+
+        >>> from figpliers import parse
+        >>> parse("<link href=a><p><img src=b><a href=c>d</a>").urls()
+        ['a', 'b', 'c']
+        """
+        return of_node(fig_links, self._image.data, self._number).split("\n")[:-1]
+
 
 def _in_line(url: str) -> str:
     """A URL without the white space around it, and without tabs and line breaks, which are no part of it (URL Standard, section 4.4)."""
@@ -371,35 +400,16 @@ def _is_absolute(url: str) -> bool:
 class Document(Node):
     """The document of a page: node 0 of its image. It can be pickled, and so sent to another process.
 
-    ``parse`` makes one of a page. ``Document(image)`` makes one of an image alone, in which nothing can be selected.
+    ``parse`` makes one of a page, ``Document(image)`` one of an image.
     """
 
-    __slots__ = ("_page",)
+    __slots__ = ()
 
-    def __init__(self, data: bytes, page: Optional[bytes] = None) -> None:
+    def __init__(self, data: bytes) -> None:
         super().__init__(_Image(data), 0)
-        self._page = page
 
-    def __reduce__(self):
-        return Document, (self._image.data, self._page)
-
-    def select(self, selectors: str) -> List[Node]:
-        """The elements that CSS selectors select (Selectors Level 4), in tree order: the page is read once more for it.
-
-        Raises Fault where the text is no selectors, and TypeError where only the image is known, or the page has a table of its own.
-
-        >>> from figpliers import parse
-        >>> [item.text() for item in parse("<ul><li>a<li>b</ul>").select("ul > li:nth-child(2)")]
-        ['b']
-        """
-        if self._page is None:
-            raise TypeError("nothing can be selected in this document: its page isn't known, or was read by a table")
-        numbers, _ = with_room(fig_select, words_of(bytes_of(selectors), self._page), 256, FigReport())
-        return [Node(self._image, number) for (number,) in struct.iter_unpack("<I", numbers)]
-
-    def select_one(self, selectors: str) -> Optional[Node]:
-        """The first element that selectors select. Raises as `select`."""
-        return next(iter(self.select(selectors)), None)
+    def __reduce__(self) -> Tuple[Type["Document"], Tuple[bytes]]:
+        return Document, (self._image.data,)
 
     def links(self, base: Optional[str] = None) -> List[Tuple[Node, str]]:
         """Each `a` and `area` with an `href`, in tree order, with its URL, without the white space around it and the line breaks in it.
@@ -426,7 +436,7 @@ class Document(Node):
     @property
     def errors(self) -> int:
         """The number of parse errors: 0 for a page without any."""
-        return struct.unpack_from("<Q", self._image.data, 24)[0]
+        return int(struct.unpack_from("<Q", self._image.data, 24)[0])
 
     @property
     def quirks(self) -> str:

@@ -1,6 +1,7 @@
 """The rows that all bindings are tested with, the examples of the module, and what no row says."""
 import ctypes
 import doctest
+import io
 import os
 import pickle
 import threading
@@ -20,8 +21,15 @@ def called(name, table, page):
     """Answer, numbers and text of a row's call."""
     try:
         if name.startswith("clean"):
-            text, counts = getattr(figpliers, name)(page)
+            words = (page, table) if name.endswith("_by") else (page,)
+            text, counts = getattr(figpliers, name.removesuffix("_by"))(*words)
             return 0, ",".join(map(str, (0, *counts))), text.encode()
+        if name == "decode":
+            made = figpliers.decode(page, table.decode())
+            why = ("mark", "label", "declaration", "nothing").index(made.why)
+            return 0, f"{'+' if made.errors else 0},0,{made.encoding},{why}", made.text.encode()
+        if name == "policy":
+            return 0, "0,0,0,0", figpliers.policy(page).encode()
         if name == "errors":
             text = "".join(f"{it.line}: {it.message}\n" for it in figpliers.errors(page))
             return 0, told(figpliers.normalise(page)[1]), text.encode()
@@ -50,7 +58,8 @@ def rows():
 
 def layout():
     """What test.sh compares with C's."""
-    structures = {"fig_report": figpliers.library.FigReport, "fig_cleaned": figpliers.library.FigCleaned}
+    library = figpliers.library
+    structures = {"fig_report": library.FigReport, "fig_cleaned": library.FigCleaned, "fig_decoded": library.FigDecoded}
     for name, structure in structures.items():
         for field, kind in structure._fields_:
             yield f"{name}.{field} {getattr(structure, field).offset} {ctypes.sizeof(kind)}"
@@ -76,11 +85,8 @@ check(list(odd.elements("svg", figpliers.NAMESPACES[3])[0].attrs.items()) == [("
 check(template.children == [] and template.contents.text() == "e" and template.text() == "", "the contents of a template")
 check(odd.text() == "d" and odd.root.last_child.last_child.data == "?f", "texts")
 check(odd.select_one("svg|title").text() == "d" and odd.select_one("p") is None, "the first that is selected")
-try:
-    figpliers.Document(odd.image).select("p")
-    check(False, "selectors on an image alone")
-except TypeError:
-    check(True, "")
+check(len(figpliers.Document(odd.image).select("svg *")) == 1, "selectors on an image alone")
+check([it.name for it in odd.select_one("body").select(":scope > *")] == ["svg", "template"], "selectors below a node")
 check(template.attrs == {} and not template.contents.parent and template.next.kind == "comment", "nodes beside a template")
 top = figpliers.element("<!DOCTYPE html><p id=a>b<svg><path/></svg>c")
 check(top.find("body/p").get("id") == "a", "an element")
@@ -108,7 +114,22 @@ for call, answer in ((lambda: figpliers.Document(bytes(broken)).html(), 48), (la
 sent = pickle.loads(pickle.dumps(figpliers.parse("<p>a<p>b")))
 check(sent.select_one("p + p").html() == "<p>b</p>", "a document that was sent to another process")
 check(odd.links() == [] and figpliers.parse("<a href='//['>").links("http://[")[0][1] == "//[", "links that cannot be read")
-for module, examples in ((figpliers, 6), (figpliers.tree, 17)):
+for wrong in (1, None, ["<p>"]):
+    for call in (figpliers.normalise, figpliers.parse, figpliers.errors, figpliers.clean, figpliers.decode):
+        try:
+            call(wrong)
+            check(False, "a wrong argument")
+        except TypeError:
+            check(True, "")
+for call in (figpliers.normalise, figpliers.parse, figpliers.clean):
+    try:
+        call("a\u00e9\ud800")
+        check(False, "a lone surrogate")
+    except figpliers.Fault as fault:
+        check((fault.answer, fault.at) == (1, 3), f"{fault}")
+for page in (b"<p>a", bytearray(b"<p>a"), memoryview(b"<p>a"), io.BytesIO(b"<p>a"), io.StringIO("<p>a")):
+    check(figpliers.parse(page).select_one("p").text() == "a", "what a page is given as")
+for module, examples in ((figpliers, 9), (figpliers.tree, 19)):
     outcome = doctest.testmod(module)
     check(outcome.failed == 0 and outcome.attempted == examples, f"the examples of {module.__name__}")
 if "FIGPLIERS_LAYOUT" in os.environ:

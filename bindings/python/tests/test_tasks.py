@@ -21,13 +21,15 @@ ON_NODE = {
 
 def answer(task, argument, page):
     if task == "clean":
-        return figpliers.clean(page)[0]
+        return figpliers.clean(page, argument or None)[0]
     if task == "errors":
         return "".join(f"{it.line}: {it.message}\n" for it in figpliers.errors(page))
     document = figpliers.parse(page)
     if task in ("links", "links_at"):
         return "".join(url + "\n" for _, url in document.links(argument or None))
     nodes = document.select(argument) if argument else [document, *document.walk()]
+    if task == "urls":
+        return "".join(url + "\n" for node in nodes for url in node.urls())
     return "".join(ON_NODE[task](node) + "\n" for node in nodes)
 
 

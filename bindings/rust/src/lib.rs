@@ -21,7 +21,7 @@ mod tree;
 pub use tree::{Attribute, Document, Kind, Namespace, Node};
 
 use std::fmt;
-use sys::{FigCleaned, FigReport};
+use sys::{FigCleaned, FigDecoded, FigReport};
 
 /// How closely a page is to be laid out as old browsers did (HTML Standard, section 13.2.6.4.1).
 #[derive(Clone, Copy, Debug, PartialEq, Eq, Hash)]
@@ -77,6 +77,40 @@ pub struct Cleaned {
     pub comments: u64,
 }
 
+/// How the encoding of a page was found out (HTML Standard, section 13.2.3.2).
+#[derive(Clone, Copy, Debug, PartialEq, Eq, Hash)]
+pub enum Why {
+    /// By a byte order mark.
+    ByteOrderMark,
+    /// By the label that came with the page.
+    Label,
+    /// By a declaration in the page.
+    Declaration,
+    /// By nothing: it is read as windows-1252.
+    Nothing,
+}
+
+/// A page in UTF-8.
+#[derive(Clone, Debug, PartialEq, Eq, Hash)]
+pub struct Decoded {
+    /// Its text.
+    pub text: String,
+    /// The name of its encoding, as the Encoding Standard writes it.
+    pub encoding: &'static str,
+    /// How that was found out.
+    pub why: Why,
+    /// How many errors the page has in it: each stands as U+FFFD in the text.
+    pub errors: u64,
+}
+
+const ENCODINGS: [&str; 40] = [
+    "Big5", "EUC-JP", "EUC-KR", "gb18030", "GBK", "IBM866", "ISO-2022-JP", "ISO-8859-2", "ISO-8859-3", "ISO-8859-4", "ISO-8859-5",
+    "ISO-8859-6", "ISO-8859-7", "ISO-8859-8", "ISO-8859-8-I", "ISO-8859-10", "ISO-8859-13", "ISO-8859-14", "ISO-8859-15",
+    "ISO-8859-16", "KOI8-R", "KOI8-U", "macintosh", "replacement", "Shift_JIS", "UTF-8", "UTF-16BE", "UTF-16LE", "windows-874",
+    "windows-1250", "windows-1251", "windows-1252", "windows-1253", "windows-1254", "windows-1255", "windows-1256",
+    "windows-1257", "windows-1258", "x-mac-cyrillic", "x-user-defined",
+];
+
 /// Why there is no text.
 #[derive(Clone, Copy, Debug, PartialEq, Eq, Hash)]
 #[non_exhaustive]
@@ -105,8 +139,14 @@ pub enum Fault {
     NotAnImage,
     /// The tree has no node of that number.
     NoSuchNode,
-    /// Selectors were asked in a document that was read by a table of its own.
-    OwnTable,
+    /// The policy, or the name of a ready one, is not UTF-8; its longest front that is has `at` bytes.
+    PolicyNotUtf8 { at: u64 },
+    /// A line of the policy, counted from 1, is no rule.
+    PolicyLine { line: u64 },
+    /// The policy names an element, an attribute or a scheme that is never kept.
+    NeverKept,
+    /// There is no ready policy of that name.
+    NoSuchPolicy,
     /// An answer of a later library.
     Other { answer: u32, at: u64 },
 }
@@ -126,6 +166,10 @@ impl Fault {
             33 => Fault::Selector { at },
             48 => Fault::NotAnImage,
             49 => Fault::NoSuchNode,
+            64 => Fault::PolicyNotUtf8 { at },
+            65 => Fault::PolicyLine { line: at },
+            66 => Fault::NeverKept,
+            67 => Fault::NoSuchPolicy,
             _ => Fault::Other { answer, at },
         }
     }
@@ -146,7 +190,10 @@ impl fmt::Display for Fault {
             Fault::Selector { at } => write!(f, "the selectors are wrong at character {at}"),
             Fault::NotAnImage => write!(f, "the bytes are not the image of a tree"),
             Fault::NoSuchNode => write!(f, "the tree has no node of that number"),
-            Fault::OwnTable => write!(f, "nothing can be selected in a document with a table of its own"),
+            Fault::PolicyNotUtf8 { at } => write!(f, "the policy is not UTF-8 at byte {at}"),
+            Fault::PolicyLine { line } => write!(f, "line {line} of the policy is no rule"),
+            Fault::NeverKept => write!(f, "the policy names what is never kept"),
+            Fault::NoSuchPolicy => write!(f, "there is no ready policy of that name"),
             Fault::Other { answer, at } => write!(f, "answer {answer} at {at}"),
         }
     }
@@ -161,6 +208,16 @@ trait Told: Default {
 }
 
 impl Told for FigReport {
+    fn length(&self) -> usize {
+        self.length
+    }
+
+    fn at(&self) -> u64 {
+        self.at
+    }
+}
+
+impl Told for FigDecoded {
     fn length(&self) -> usize {
         self.length
     }
@@ -205,8 +262,8 @@ fn by_standard<R: Told>(call: sys::Call<R>, page: &[u8], guess: usize) -> Result
     with_room(guess, |output, room, report| unsafe { call(page.as_ptr(), page.len(), output, room, report) })
 }
 
-/// A call by a table that is handed in, or by selectors.
-fn by_table(call: sys::CallWith, table: &[u8], page: &[u8], guess: usize) -> Result<(Vec<u8>, FigReport), Fault> {
+/// A call by a table that is handed in, by a policy or by a label.
+fn by_table<R: Told>(call: sys::CallWith<R>, table: &[u8], page: &[u8], guess: usize) -> Result<(Vec<u8>, R), Fault> {
     // SAFETY: as above.
     with_room(guess, |output, room, report| unsafe {
         call(table.as_ptr(), table.len(), page.as_ptr(), page.len(), output, room, report)
@@ -225,6 +282,11 @@ fn of_node(call: sys::CallOfNode, image: &[u8], node: u32) -> Result<String, Fau
 /// A node of an image as HTML.
 fn serialized(image: &[u8], node: u32) -> Result<String, Fault> {
     of_node(sys::fig_serialize, image, node)
+}
+
+/// Where the elements below a node of an image lead.
+fn urls(image: &[u8], node: u32) -> Result<Vec<String>, Fault> {
+    Ok(of_node(sys::fig_links, image, node)?.lines().map(str::to_string).collect())
 }
 
 /// The text of what is proved to be UTF-8.
@@ -278,6 +340,30 @@ pub fn normalise_with(table: impl AsRef<[u8]>, page: impl AsRef<[u8]>) -> Result
     Ok((text_of(text), report_of(told)))
 }
 
+/// The text of a page that is in any encoding: in that of its byte order mark, or of `label`, which came with it, as in a header of HTTP;
+/// where neither is there, in that which the page declares, or in windows-1252. A label that names no encoding, as one of no bytes, says
+/// nothing.
+///
+/// ```
+/// let page = figpliers::decode("", b"<meta charset=koi8-r><p>\xD1")?;
+/// assert_eq!((page.text.as_str(), page.encoding), ("<meta charset=koi8-r><p>я", "KOI8-R"));
+/// # Ok::<(), figpliers::Fault>(())
+/// ```
+///
+/// Errors: no memory was left.
+pub fn decode(label: impl AsRef<[u8]>, page: impl AsRef<[u8]>) -> Result<Decoded, Fault> {
+    let page = page.as_ref();
+    let (text, told): (_, FigDecoded) = by_table(sys::fig_decode, label.as_ref(), page, text_guess(page))?;
+    let why = match told.why {
+        0 => Why::ByteOrderMark,
+        1 => Why::Label,
+        2 => Why::Declaration,
+        _ => Why::Nothing,
+    };
+    let encoding = ENCODINGS.get(told.encoding as usize).copied().unwrap_or("");
+    Ok(Decoded { text: text_of(text), encoding, why, errors: told.errors })
+}
+
 /// The parse errors of a page, in the order in which they are found.
 ///
 /// ```
@@ -303,19 +389,22 @@ pub fn errors(page: impl AsRef<[u8]>) -> Result<Vec<ParseError>, Fault> {
 pub fn parse(page: impl AsRef<[u8]>) -> Result<Document, Fault> {
     let page = page.as_ref();
     let (image, _) = by_standard(sys::fig_tree, page, tree_guess(page))?;
-    Ok(Document::new(image, Some(page)))
+    Ok(Document::new(image))
 }
 
-/// The same by a table of references, as [`normalise_with`] has it. Nothing can be selected in such a document.
+/// The same by a table of references, as [`normalise_with`] has it.
 pub fn parse_with(table: impl AsRef<[u8]>, page: impl AsRef<[u8]>) -> Result<Document, Fault> {
     let page = page.as_ref();
     let (image, _) = by_table(sys::fig_tree_with, table.as_ref(), page, tree_guess(page))?;
-    Ok(Document::new(image, None))
+    Ok(Document::new(image))
 }
 
-/// The numbers of the nodes that selectors select in the document of a page.
-fn selected(selectors: &[u8], page: &[u8]) -> Result<Vec<u32>, Fault> {
-    let (bytes, _) = by_table(sys::fig_select, selectors, page, 256)?;
+/// The numbers of the nodes below a node of an image that selectors select.
+fn selected(selectors: &[u8], image: &[u8], node: u32) -> Result<Vec<u32>, Fault> {
+    // SAFETY: slices and room are valid for the call, which keeps nothing; output and report overlap nothing.
+    let (bytes, _): (_, FigReport) = with_room(256, |output, room, report| unsafe {
+        sys::fig_select(selectors.as_ptr(), selectors.len(), image.as_ptr(), image.len(), node, output, room, report)
+    })?;
     Ok(bytes.chunks_exact(4).map(|it| u32::from_le_bytes(it.try_into().expect("four bytes"))).collect())
 }
 
@@ -337,9 +426,42 @@ pub fn clean_document(page: impl AsRef<[u8]>) -> Result<(String, Cleaned), Fault
     Ok((text_of(text), cleaned_of(told)))
 }
 
+/// What a policy of one's own keeps of a page, read as what stands in a `div`: `policy` has a rule in each line, as `keep a href`
+/// (docs/CLEANING.md lists them). [`policy`] gives the ready ones.
+///
+/// ```
+/// let (text, _) = figpliers::clean_by("keep p\nkeep a href\nscheme https", "<p id=x><a href=https://b>c</a><b>d")?;
+/// assert_eq!(text, "<p><a href=\"https://b\">c</a>d</p>");
+/// # Ok::<(), figpliers::Fault>(())
+/// ```
+///
+/// Errors: as of [`normalise`]; the policy is not UTF-8, has a line that is no rule, or names what is never kept, as `script`.
+pub fn clean_by(policy: impl AsRef<[u8]>, page: impl AsRef<[u8]>) -> Result<(String, Cleaned), Fault> {
+    let page = page.as_ref();
+    let (text, told) = by_table(sys::fig_clean_by, policy.as_ref(), page, text_guess(page))?;
+    Ok((text_of(text), cleaned_of(told)))
+}
+
+/// The same of a page that is read as a document.
+///
+/// Errors: as of [`clean_by`].
+pub fn clean_document_by(policy: impl AsRef<[u8]>, page: impl AsRef<[u8]>) -> Result<(String, Cleaned), Fault> {
+    let page = page.as_ref();
+    let (text, told) = by_table(sys::fig_clean_document_by, policy.as_ref(), page, text_guess(page))?;
+    Ok((text_of(text), cleaned_of(told)))
+}
+
+/// The text of a ready policy: `text-alone`, `text-and-links` (that of [`clean`]), `user-content` or `mail`.
+///
+/// Errors: there is no such policy, or no memory was left.
+pub fn policy(name: impl AsRef<[u8]>) -> Result<String, Fault> {
+    let (text, _) = by_standard(sys::fig_policy, name.as_ref(), 4096)?;
+    Ok(text_of(text))
+}
+
 #[cfg(test)]
 mod layout {
-    use super::sys::{FigCleaned, FigReport};
+    use super::sys::{FigCleaned, FigDecoded, FigReport};
     use std::mem::{offset_of, size_of};
 
     macro_rules! field {
@@ -363,7 +485,13 @@ mod layout {
         field!(lines, "fig_cleaned", FigCleaned, dropped: u64);
         field!(lines, "fig_cleaned", FigCleaned, attributes: u64);
         field!(lines, "fig_cleaned", FigCleaned, comments: u64);
-        lines.push(format!("fig_report {}\nfig_cleaned {}", size_of::<FigReport>(), size_of::<FigCleaned>()));
+        field!(lines, "fig_decoded", FigDecoded, length: usize);
+        field!(lines, "fig_decoded", FigDecoded, errors: u64);
+        field!(lines, "fig_decoded", FigDecoded, at: u64);
+        field!(lines, "fig_decoded", FigDecoded, encoding: u8);
+        field!(lines, "fig_decoded", FigDecoded, why: u8);
+        let sizes = (size_of::<FigReport>(), size_of::<FigCleaned>(), size_of::<FigDecoded>());
+        lines.push(format!("fig_report {}\nfig_cleaned {}\nfig_decoded {}", sizes.0, sizes.1, sizes.2));
         if let Ok(path) = std::env::var("FIGPLIERS_LAYOUT") {
             std::fs::write(path, lines.join("\n") + "\n").unwrap();
         }

@@ -21,7 +21,6 @@ const SHARE: usize = 8;
 #[derive(Clone, PartialEq, Eq)]
 pub struct Document {
     image: Vec<u8>,
-    page: Option<Vec<u8>>,
 }
 
 /// A node of a tree.
@@ -90,8 +89,8 @@ fn text_at(image: &[u8], at: u32, length: u32) -> &str {
 }
 
 impl Document {
-    pub(crate) fn new(image: Vec<u8>, page: Option<&[u8]>) -> Document {
-        Document { image, page: page.map(<[u8]>::to_vec) }
+    pub(crate) fn new(image: Vec<u8>) -> Document {
+        Document { image }
     }
 
     /// The node of the document.
@@ -99,8 +98,7 @@ impl Document {
         Node { image: &self.image, number: 0 }
     }
 
-    /// The elements that CSS selectors select (Selectors Level 4), in tree order. The page, which the document keeps, is read once more
-    /// for it.
+    /// The elements that CSS selectors select (Selectors Level 4), in tree order.
     ///
     /// ```
     /// let page = figpliers::parse("<ul><li>a<li>b</ul>")?;
@@ -109,12 +107,9 @@ impl Document {
     /// # Ok::<(), figpliers::Fault>(())
     /// ```
     ///
-    /// Errors: [`Fault::Selector`] where the text is no selectors; [`Fault::OwnTable`] in a document of
-    /// [`parse_with`](crate::parse_with); [`Fault::Memory`].
+    /// Errors: as of [`Node::select`].
     pub fn select(&self, selectors: impl AsRef<[u8]>) -> Result<Vec<Node<'_>>, Fault> {
-        let page = self.page.as_deref().ok_or(Fault::OwnTable)?;
-        let numbers = crate::selected(selectors.as_ref(), page)?;
-        Ok(numbers.into_iter().map(|number| Node { image: &self.image, number }).collect())
+        self.root().select(selectors)
     }
 
     /// Each `a` and `area` with an `href`, in tree order, with its URL as it is written, but for the white space around it and the line
@@ -344,6 +339,36 @@ impl<'a> Node<'a> {
         let html = crate::serialized(&part::copy(self.image, &found, true), 1)?;
         let name = element.name().len();
         Ok(html.get(name + 2..html.len().saturating_sub(name + 3)).unwrap_or("").to_string())
+    }
+
+    /// The elements below this node that CSS selectors select (Selectors Level 4), in tree order. `:scope` is this node, or where it is no
+    /// element the first element in it. The library reads the whole image for it.
+    ///
+    /// ```
+    /// let page = figpliers::parse("<ul><li>a<ul><li>b</ul></ul>")?;
+    /// let inner = page.select("ul ul")?[0].select(":scope > li")?;
+    /// assert_eq!(inner[0].text(), "b");
+    /// # Ok::<(), figpliers::Fault>(())
+    /// ```
+    ///
+    /// Errors: [`Fault::Selector`] where the text is no selectors; [`Fault::Memory`].
+    pub fn select(self, selectors: impl AsRef<[u8]>) -> Result<Vec<Node<'a>>, Fault> {
+        let numbers = crate::selected(selectors.as_ref(), self.image, self.number)?;
+        Ok(numbers.into_iter().map(|number| Node { number, ..self }).collect())
+    }
+
+    /// Where the elements below this node lead, in tree order: the `href` of each `a`, `area` and `link`, the `src` of each `img`, `script`,
+    /// frame, `embed`, `input` and of media, as it is written but for tabs and line breaks. The library reads the whole image for it.
+    ///
+    /// ```
+    /// let page = figpliers::parse("<link href=a><p><img src=b><a href=c>d</a>")?;
+    /// assert_eq!(page.root().urls()?, ["a", "b", "c"]);
+    /// # Ok::<(), figpliers::Fault>(())
+    /// ```
+    ///
+    /// Errors: [`Fault::Memory`].
+    pub fn urls(self) -> Result<Vec<String>, Fault> {
+        crate::urls(self.image, self.number)
     }
 }
 

@@ -24,6 +24,7 @@ fn on_node(task: &str, node: Node<'_>) -> Result<String, Fault> {
         "parent" => name_of(node.parent().expect("a parent")).to_string(),
         "html" => node.html()?,
         "inner_html" => node.inner_html()?,
+        "urls" => node.urls()?.join("\n"),
         other => panic!("{other}"),
     })
 }
@@ -40,12 +41,13 @@ fn nodes<'a>(page: &'a Document, selectors: &str) -> Result<Vec<Node<'a>>, Fault
 fn answer(task: &str, argument: &str, page: &[u8]) -> Result<String, Fault> {
     Ok(match task {
         "links" => figpliers::parse(page)?.links().into_iter().map(|(_, url)| url + "\n").collect(),
-        "clean" => figpliers::clean(page)?.0,
+        "clean" if argument.is_empty() => figpliers::clean(page)?.0,
+        "clean" => figpliers::clean_by(argument, page)?.0,
         "errors" => figpliers::errors(page)?.into_iter().map(|it| format!("{}: {}\n", it.line, it.message)).collect(),
         _ => {
             let page = figpliers::parse(page)?;
             let answers: Result<Vec<_>, _> = nodes(&page, argument)?.into_iter().map(|node| on_node(task, node)).collect();
-            answers?.into_iter().map(|it| it + "\n").collect()
+            answers?.into_iter().filter(|it| task != "urls" || !it.is_empty()).map(|it| it + "\n").collect()
         }
     })
 }
