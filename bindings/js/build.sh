@@ -15,7 +15,8 @@ compile="$kit/toolchain/bin/clang --target=wasm64-unknown-unknown -mbulk-memory 
 $compile -mno-multivalue -ffunction-sections -mllvm -trap-unreachable -x ir "$work/wasm.ll" -o "$work/library.o"
 $compile -fno-builtin-malloc "$here/heap.c" -o "$work/heap.o"
 ln -s "$kit/toolchain/bin/ld.lld" "$work/wasm-ld"
-exports=$(grep -o '^uint32_t fig_[a-z_]*' "$top/bindings/c/figpliers.h" | sed 's/.* /--export=/')
+# without fig_decode, whose tables are a third of all, since browsers and Node have TextDecoder
+exports=$(grep -o '^uint32_t fig_[a-z_]*' "$top/bindings/c/figpliers.h" | grep -v fig_decode | sed 's/.* /--export=/')
 "$work/wasm-ld" -mwasm64 --no-entry --gc-sections -z stack-size=1048576 --stack-first -O2 $exports \
     "$work/library.o" "$work/heap.o" -o "$work/linked.wasm"
 python3 "$here/module.py" strip "$work/linked.wasm" "$work/64.wasm"

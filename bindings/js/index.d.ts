@@ -109,15 +109,6 @@ export interface ParseError {
   message: string;
 }
 
-/** A page in UTF-8: its text, the name of its encoding as the Encoding Standard writes it, how that was found out, and how many errors
- * the page has in it, each of which stands as U+FFFD in the text. */
-export interface Decoded {
-  text: string;
-  encoding: string;
-  why: 'mark' | 'label' | 'declaration' | 'nothing';
-  errors: number;
-}
-
 /** What cleaning kept, and how much it took away. */
 export interface Cleaned {
   text: string;
@@ -132,10 +123,6 @@ export declare function normalise(page: Page, table?: Page): Normal;
 /** The parse errors of a page, in the order in which they are found.
  * @example errors('<!DOCTYPE html>\n<p id=a id=b>') // [{ line: 2, message: 'duplicate-attribute' }] */
 export declare function errors(page: Page): ParseError[];
-/** The text of a page that is in any encoding: in that of its byte order mark, or of `label`, which came with it, as in a header of HTTP;
- * where neither is there, in that which the page declares, or in windows-1252. A label that names no encoding says nothing.
- * @example decode(Uint8Array.of(0x63, 0xe9)).text // 'c\u00e9' */
-export declare function decode(page: Uint8Array, label?: string): Decoded;
 /** The document of a page. */
 export declare function parse(page: Page, table?: Page): Document;
 /** What a policy keeps of a page, read as what stands in a `div`. `policy` has a rule in each line, as in docs/CLEANING.md; without it

@@ -32,23 +32,6 @@ export function errors(page) {
   return lines.map((it) => ({ line: parseInt(it, 10), message: it.slice(it.indexOf(': ') + 2) }));
 }
 
-const ENCODINGS = [
-  'Big5', 'EUC-JP', 'EUC-KR', 'gb18030', 'GBK', 'IBM866', 'ISO-2022-JP', 'ISO-8859-2', 'ISO-8859-3', 'ISO-8859-4',
-  'ISO-8859-5', 'ISO-8859-6', 'ISO-8859-7', 'ISO-8859-8', 'ISO-8859-8-I', 'ISO-8859-10', 'ISO-8859-13', 'ISO-8859-14',
-  'ISO-8859-15', 'ISO-8859-16', 'KOI8-R', 'KOI8-U', 'macintosh', 'replacement', 'Shift_JIS', 'UTF-8', 'UTF-16BE', 'UTF-16LE',
-  'windows-874', 'windows-1250', 'windows-1251', 'windows-1252', 'windows-1253', 'windows-1254', 'windows-1255',
-  'windows-1256', 'windows-1257', 'windows-1258', 'x-mac-cyrillic', 'x-user-defined',
-];
-
-export function decode(page, label = '') {
-  return call('fig_decode', [bytesOf(label), bytesOf(page)], [], Math.ceil(page.length * 1.25) + 256, 16, (output, told) => ({
-    text: decoder.decode(output),
-    encoding: ENCODINGS[told.getUint8(24)],
-    why: ['mark', 'label', 'declaration', 'nothing'][told.getUint8(25)],
-    errors: Number(told.getBigUint64(8, true)),
-  }));
-}
-
 function cleaned(name, page, policy) {
   const text = bytesOf(page);
   const [of, texts] = policy === undefined ? [name, [text]] : [`${name}_by`, [bytesOf(policy), text]];

@@ -2,7 +2,7 @@
 import { readFileSync } from 'node:fs';
 import { fileURLToPath } from 'node:url';
 import * as figpliers from 'figpliers';
-import { Document, Fault, clean, cleanDocument, decode, errors, normalise, parse, policy } from 'figpliers';
+import { Document, Fault, clean, cleanDocument, errors, normalise, parse, policy } from 'figpliers';
 import { check, end, rowsOf, unescaped } from './testing.mjs';
 
 const QUIRKS = ['no', 'limited', 'yes'];
@@ -17,11 +17,6 @@ function called(name, table, page) {
       const words = name.endsWith('_by') ? [page, table] : [page];
       const it = (name.startsWith('clean_document') ? cleanDocument : clean)(...words);
       return [0, counts(it), Buffer.from(it.text)];
-    }
-    if (name === 'decode') {
-      const it = decode(page, new TextDecoder().decode(table));
-      const why = ['mark', 'label', 'declaration', 'nothing'].indexOf(it.why);
-      return [0, `${it.errors ? '+' : 0},0,${it.encoding},${why}`, Buffer.from(it.text)];
     }
     if (name === 'policy') return [0, '0,0,0,0', Buffer.from(policy(page))];
     if (name === 'select') {
@@ -46,6 +41,7 @@ function called(name, table, page) {
 
 for (const row of rowsOf(process.argv[2])) {
   const [name, table, page, answer, told, text] = row;
+  if (name === 'decode') continue; // a browser and Node have TextDecoder
   const [gotAnswer, gotTold, gotText] = called(name, unescaped(table), unescaped(page));
   const isText = gotText.equals(Buffer.from(unescaped(text)));
   check(gotAnswer === Number(answer) && gotTold === told && isText, `${row} ${gotAnswer} ${gotTold}`);
@@ -103,7 +99,7 @@ check(parse("<a href='//['>").links('http://[')[0].url === '//[', 'links that ca
 // the examples of the types: a call and what it answers
 const types = readFileSync(fileURLToPath(import.meta.resolve('figpliers')).replace('index.mjs', 'index.d.ts'), 'utf8');
 const examples = [...types.matchAll(/@example (.*?) \/\/ (.*?)(?: \*\/)?$/gm)];
-const made = (code) => new Function('figpliers', `const { clean, decode, errors, parse } = figpliers; return ${code};`)(figpliers);
+const made = (code) => new Function('figpliers', `const { clean, errors, parse } = figpliers; return ${code};`)(figpliers);
 for (const [, code, want] of examples) check(JSON.stringify(made(code)) === JSON.stringify(made(want)), code);
-check(examples.length === 9, 'the number of examples');
+check(examples.length === 8, 'the number of examples');
 end();

@@ -1,6 +1,6 @@
 // What the types allow: compiled by tsc, never run.
 import { Attribute, Cleaned, Document, Fault, Link, Node, Normal, ParseError, Quirks } from 'figpliers';
-import { clean, cleanDocument, decode, errors, normalise, parse, policy } from 'figpliers';
+import { clean, cleanDocument, errors, normalise, parse, policy } from 'figpliers';
 
 const page: Document = parse('<a href=/b>c</a>', 'x; 41');
 const hrefs: (string | null)[] = page.elements('a').map((it: Node) => it.attribute('href'));
@@ -10,13 +10,12 @@ for (const node of page.walk()) {
 }
 const normal: Normal = normalise(new Uint8Array([60]));
 const quirks: Quirks = new Document(page.image).quirks;
-const text: string = decode(new Uint8Array(1), 'utf-8').text;
 const kept: Cleaned[] = [clean('a'), cleanDocument('b'), clean('c', policy('mail'))];
 const items: Node[] = page.select('ul > li');
 const links: Link[] = page.links('http://a/').concat(page.links());
 const html: string[] = [page.html(), page.innerHtml(), page.selectOne('p')?.html() ?? '', links[0].element.text()];
 const found: ParseError[] = errors('<p>');
 const at = (fault: unknown): number => (fault instanceof Fault ? fault.at : -1);
-console.log(text, hrefs, normal.text, normal.plain, quirks, kept, items.length, page.number, at(null), html, found[0].line);
+console.log(hrefs, normal.text, normal.plain, quirks, kept, items.length, page.number, at(null), html, found[0].line);
 // @ts-expect-error a page is no number
 parse(1);

@@ -1,5 +1,5 @@
 // The playground: what the page in the text field becomes. Each view is made when it is looked at.
-import { clean, decode, errors, normalise, parse, policy } from './figpliers/index.mjs';
+import { clean, errors, normalise, parse, policy } from './figpliers/index.mjs';
 
 const EXAMPLE = `<!DOCTYPE html>
 <title>Fruit</title>
@@ -106,8 +106,11 @@ function showCleaned() {
     told = clean(source.value, policy(at('policy').value));
     return told.text;
   });
-  const words = told && [`${told.unwrapped} unwrapped`, `${told.dropped} dropped`, count(told.attributes, 'attribute'), count(told.comments, 'comment')];
-  show('counts', () => (words ? `${words.join(', ')} taken away` : ''));
+  show('counts', () => {
+    if (!told) return '';
+    const elements = `${told.unwrapped} unwrapped, ${told.dropped} dropped`;
+    return `${elements}, ${count(told.attributes, 'attribute')}, ${count(told.comments, 'comment')} taken away`;
+  });
 }
 
 const VIEWS = {
@@ -136,7 +139,7 @@ function choose(tab) {
 
 async function take(file) {
   if (!file) return;
-  source.value = decode(new Uint8Array(await file.arrayBuffer())).text;
+  source.value = await file.text();
   update();
 }
 
