@@ -40,8 +40,9 @@ use crate::names::Manner::{Raw, RawWithScripts, Usual, Void};
 KINDS_FILE = """//! The kinds of known names, by their places: written by `tools/names.py`.
 use crate::kinds::Kind;
 use crate::kinds::Kind::{{
-    Block, Description, Formatting, Heading, Item, Link, Phrase, Preformatted, Raw, RawWithScripts,
-    Svg, Usual, Void, VoidPhrase,
+    Block, Button, Cell, Description, Formatting, Heading, Item, Link, Metadata, Phrase,
+    Preformatted, Raw, RawWithScripts, Row, Script, Section, Staying, Style, Svg, Table, Title,
+    Usual, Void, VoidPhrase,
 }};
 
 /// The kind of the HTML element, or `Svg` for an element of SVG.
@@ -50,10 +51,16 @@ pub(crate) const KINDS: [Kind; {count}] = [
 {kinds}
 ];
 
-/// Whether an attribute of SVG keeps the name.
+/// Whether an attribute of SVG that has the name has it again, once it is read in lower case.
 #[rattlefmt::skip]
-pub(crate) const KEEPING: [bool; {count}] = [
-{keeping}
+pub(crate) const TOLD_BACK: [bool; {count}] = [
+{told_back}
+];
+
+/// Whether an attribute has the name wherever it stands, and no rule looks at it.
+#[rattlefmt::skip]
+pub(crate) const FREE: [bool; {count}] = [
+{free}
 ];
 """
 FIRST_ROWS_FILE = """//! Which row of a mode is the first that is for a tag, by the family of its name: written by `tools/names.py`.
@@ -87,9 +94,20 @@ COMMON = {
     "FormattingTag": "Formatting",
     "A": "Link",
     "VoidTag": "VoidPhrase",
+    "Button": "Button",
+    "Table": "Table",
+    "TbodyTfootThead": "Section",
+    "Tr": "Row",
+    "TdTh": "Cell",
+    "MetadataVoid": "Metadata",
+    "Title": "Title",
+    "NoframesStyle": "Style",
+    "Script": "Script",
 }
 # And by the definition that lists them.
-LISTED = {"phrase_names": "Phrase", "svg_names": "Svg"}
+LISTED = {"phrase_names": "Phrase", "svg_names": "Svg", "staying_names": "Staying"}
+# What says that an attribute has another name in foreign content.
+RENAMED = ("svg-attribute=", "mathml-attribute=", "foreign=")
 # Where the number of known names stands by itself: a file, and what is around it.
 COUNTS = [
     ("markup/src/known_names.rt", "pub const NAMES: [&str; ", "]"),
@@ -236,8 +254,17 @@ def kinds_file():
     sets = sets_of("names_of")
     for place, name in enumerate(NAMES):
         kinds[name] = next((kind for of, kind in COMMON.items() if sets[place] >> SETS[of] & 1), kinds[name])
-    keeping = [str(not any(word.startswith(("svg-attribute=", "foreign=")) for word in words)).lower() for words in NAMES.values()]
-    return KINDS_FILE.format(count=COUNT, kinds=filled(kinds.values(), 120), keeping=filled(keeping, 120))
+    renamed = dict(words_of("svg-attribute"))
+    foreign = dict(words_of("foreign"))
+    told_back = [str(renamed.get(name.lower(), name.lower()) == name and name not in foreign).lower() for name in NAMES]
+    asked = re.findall(r'codes "([^"]+)"', between(spec, "\nasked_names = ", "\n\n"))
+    free = [
+        str(name.islower() and name not in asked and not any(word.startswith(RENAMED) for word in words)).lower()
+        for name, words in NAMES.items()
+    ]
+    return KINDS_FILE.format(
+        count=COUNT, kinds=filled(kinds.values(), 120), told_back=filled(told_back, 120), free=filled(free, 120)
+    )
 
 
 # SETS OF NAMES

@@ -504,7 +504,7 @@ module _ (scripting : Bool) (parent : Parent) (n : ℕ) (name : QualName) (attri
   element-case kids law false v =
       let within = trees_taken kids first in
       let P = λ (after : Spot). Stepped parent n (grown_inside kids) r (next (end_tag name) within) after in
-      choose-so (fits_inside name kids made) (and_then (walk_kids kids made.drops_line_feed made.spot) (λ p. finished name p)) P
+      choose-so (fits_inside name kids made.raw) (and_then (walk_kids kids made.drops_line_feed made.spot) (λ p. finished name p)) P
       (λ b. then-so (walk_kids kids made.drops_line_feed made.spot) (λ p. finished name p)
       (λ q. IsRooted (below parent) (Last inner) (planted (Last inner) kids) first.state within q) P
       (law inner false made.drops_line_feed first Still first.state made.spot (first-ready v) refl (λ e. refl)

@@ -9,7 +9,6 @@ use Rattle.markup.specs.declared.quirks.QuirksMode.{QuirksMode}
 use Rattle.markup.specs.declared.quirks.QuirksMode.TheVariants.{NoQuirks, Quirks}
 use Rattle.html_tokens.specs.declared.states.RawKind.{RawKind}
 use Rattle.html_rules.specs.Choice.{choose}
-use Rattle.html_rules.specs.declared.insertion_mode.InsertionMode.TheVariants.{BeforeHtml}
 use Rattle.html_faithful.specs.Forms.{is_comment_text, lowered}
 use Rattle.html_faithful.specs.Harmless.{Made, and_then}
 use Rattle.html_faithful.specs.Holes.{AfterComment, AfterDoctype, AfterElement, AfterText, AreAlike, AreTagsAlike, Here, Hole, Holed}
@@ -66,7 +65,7 @@ module _ (scripting : Bool) (parent : Parent) (name : QualName) where
       (λ _. kids_walked name kids (λ drops p. walk scripting (below parent) false drops kids p) made)
 
   stood-by : (v : Bool) (a b : Trees) (made : Made) → is_void name ≡ v → (v ≡ true → are_none a ≡ are_none b)
-      → fits_inside name a made ≡ fits_inside name b made
+      → fits_inside name a made.raw ≡ fits_inside name b made.raw
       → walk scripting (below parent) false made.drops_line_feed a made.spot ≡ walk scripting
       (below parent) false made.drops_line_feed b made.spot
       → stood a made ≡ stood b made
@@ -294,7 +293,7 @@ module _ (scripting : Bool) (hole : Hole) (a b : Trees) (alike : AreAlike script
       ∙ sym (element-then scripting parent name attributes template after_text drops kids (filled inner b) p))
 
   abbrev start_at : QuirksMode → Spot
-  start_at quirks = first_spot scripting BeforeHtml quirks
+  start_at quirks = first_spot scripting quirks
 
   pub documents-filled : (holed : Holed) → hole_of scripting holed ≡ Some hole
       → is_faithful scripting (filled holed a) ≡ is_faithful scripting (filled holed b)

@@ -16,4 +16,6 @@ pub mod Begins
 pub mod Planting
 pub mod Holes
 pub mod TextHoles
+pub mod Dressing
+pub mod Bare
 pub mod Values

@@ -74,7 +74,7 @@ kids-so : (name : QualName) (kids : Trees) (inside : Bool → Spot → Option Sp
 kids-so name Nothing inside made law true = choose-so (ends_there Nothing made) (Some made.spot) (λ _. Unit {0}) (λ b. tt)
 kids-so name kids inside made law true = tt
 kids-so name kids inside made law false =
-    choose-so (fits_inside name kids made) (and_then (inside made.drops_line_feed made.spot) (λ p. finished name p))
+    choose-so (fits_inside name kids made.raw) (and_then (inside made.drops_line_feed made.spot) (λ p. finished name p))
     (λ _. ArePlantable false kids)
     (λ b. then-so (inside made.drops_line_feed made.spot) (λ p. finished name p) (λ _. ArePlantable false kids)
     (λ _. ArePlantable false kids)

@@ -6,7 +6,7 @@ use Rattle.html_rules.specs.Stack.{has_open}
 use Rattle.html_rules.specs.State.{Open, is_in}
 use Rattle.html_rules.specs.declared.tag_set.TagSet.TheVariants as set
 use Rattle.html_faithful.specs.Harmless.{Change, EntryLeft, EntryPushed, FormChange, FormForgotten, FormKept, FormSet, Made}
-use Rattle.html_faithful.specs.Harmless.{MarkerLeft, MarkerPushed, Unchanged, is_opened, is_unchanged}
+use Rattle.html_faithful.specs.Harmless.{MarkerLeft, MarkerPushed, is_opened, is_unchanged}
 use Rattle.html_faithful.specs.Listing.{link_open}
 use Rattle.html_faithful.specs.Spots.{Spot, form_of, is_marked}
 
@@ -18,6 +18,10 @@ is_unlisted x = not (is_in set.FormattingEnd x) && not (is_marked x)
 abbrev pub is_pointed : Open → List Open → Bool
 is_pointed x xs = is_in set.Form x && not (has_open set.Template xs)
 
+abbrev pub is_form_kept : FormChange → Bool
+is_form_kept FormKept = true
+is_form_kept form = false
+
 -- WHERE AN ELEMENT IS OPENED
 
 -- formatting elements are pushed onto the list, no link in a link, and markers for marked elements
@@ -25,13 +29,11 @@ abbrev pub lists_opened : List ℕ → Open → List Open → Change → Bool
 lists_opened name x xs EntryPushed =
     (is_in set.FormattingEnd x && not (is_marked x)) && (bytes_eq name x.name && not (is_in set.A x && link_open xs))
 lists_opened name x xs MarkerPushed = is_marked x
-lists_opened name x xs Unchanged = is_unlisted x
-lists_opened name x xs change = false
+lists_opened name x xs change = is_unchanged change && is_unlisted x
 
 abbrev pub points_opened : Open → List Open → FormChange → Bool
 points_opened x xs FormSet = is_pointed x xs
-points_opened x xs FormKept = not (is_pointed x xs)
-points_opened x xs FormForgotten = false
+points_opened x xs form = is_form_kept form && not (is_pointed x xs)
 
 -- by the tag of that name; a sink is asked nothing of the element
 abbrev pub opens_so : List ℕ → List Open → Change → FormChange → Bool
@@ -44,24 +46,18 @@ opens_so name (x ∷ xs) change form =
 abbrev pub lists_closed : Open → Change → Bool
 lists_closed x EntryLeft = not (is_marked x)
 lists_closed x MarkerLeft = is_marked x
-lists_closed x Unchanged = is_unlisted x
-lists_closed x change = false
+lists_closed x change = is_unchanged change && is_unlisted x
 
 -- no other form is open below the one that is closed
 abbrev pub points_closed : Open → List Open → FormChange → Bool
 points_closed x xs FormForgotten = is_pointed x xs && not (is_some (form_of xs))
-points_closed x xs FormKept = not (is_pointed x xs)
-points_closed x xs FormSet = false
+points_closed x xs form = is_form_kept form && not (is_pointed x xs)
 
 abbrev pub closes_so : List Open → Change → FormChange → Bool
 closes_so [] change form = false
 closes_so (x ∷ xs) change form = lists_closed x change && points_closed x xs form
 
 -- BOTH
-
-abbrev pub is_form_kept : FormChange → Bool
-is_form_kept FormKept = true
-is_form_kept form = false
 
 -- what a token makes of a spot keeps the list and the pointer those of the path
 abbrev pub is_kept_so : List ℕ → Spot → Made → Bool

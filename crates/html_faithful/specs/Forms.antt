@@ -1,5 +1,5 @@
 -- Which names, attributes, texts and comments are read as they are written (HTML Standard, sections 13.1 and 13.2.5).
-use Rattle.std.specs.Prelude.{ℕ, Bool, true, false, ◌&&◌, ◌||◌, not, nat_eq, List, [], ◌∷◌, ◌++◌, map, Some, None, is_none, codes}
+use Rattle.std.specs.Prelude.{ℕ, Bool, true, false, ◌&&◌, ◌||◌, not, nat_eq, List, [], ◌∷◌, ◌++◌, map, Some, is_none, codes}
 use Rattle.std.specs.Char.{is_ascii_lowercase, to_ascii_lowercase}
 use Rattle.std.specs.List.{list_all}
 use Rattle.std.specs.Str.{bytes_eq}
@@ -10,6 +10,7 @@ use Rattle.html_rules.specs.Tokens.{is_white}
 use Rattle.html_tokens.specs.Characters.{begins}
 use Rattle.html_tokens.specs.Comments.{comment_end}
 use Rattle.html_tokens.specs.RawText.{ends_at_tag, is_fitting_end, is_letters, next_kind}
+use Rattle.html_tokens.specs.Tags.{attribute}
 use Rattle.html_tokens.specs.declared.states.RawKind.{RawKind}
 use Rattle.html_tokens.specs.declared.states.RawKind.TheVariants.{Rcdata, Rawtext, ScriptData}
 
@@ -70,15 +71,7 @@ lowered name = map to_ascii_lowercase name
 
 -- an attribute as it is emitted: the name that is written, in lower case
 abbrev pub told_attribute : Attribute → Attribute
-told_attribute a = record {
-  name = record {
-    prefix = None;
-    ns = [];
-    local = lowered
-        (attribute_prefix a.name ++ a.name.local);
-  };
-  value = a.value;
-}
+told_attribute a = attribute (lowered (attribute_prefix a.name ++ a.name.local)) a.value
 
 abbrev pub are_told : List Attribute → Bool
 are_told told = list_all (λ a. is_attribute_name a.name.local && is_kept a.value) told && are_distinct told

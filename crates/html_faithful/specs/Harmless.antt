@@ -119,11 +119,8 @@ puts put made = provided (is_fresh made) (record made { put = Some put })
 -- an element is put, and opened
 abbrev pub opens : Namespace → List ℕ → List Attribute → Made → Option Made
 opens namespace name attributes made =
-    provided (is_fresh made)
-    (record made {
-      put = Some (Element namespace name attributes true);
-      spot = record made.spot { path = opened_at namespace name made.spot.path ∷ made.spot.path };
-    })
+    puts (Element namespace name attributes true)
+    (record made { spot = record made.spot { path = opened_at namespace name made.spot.path ∷ made.spot.path } })
 
 -- for a start tag that does not close itself
 abbrev pub for_start : (Tag → Made → Option Made) → Token → Made → Option Made
@@ -235,8 +232,8 @@ concludes again t table.ReportEncoding made = Some (with_raw None made)
 concludes again t table.RunScript made = Some (with_raw None made)
 concludes again t (table.RawText kind) made = Some (with_raw (Some kind) made)
 concludes again t (table.Using mode) made = choose (is_untouched made) (λ _. again (rows mode) made) (λ _. None)
-concludes again t (table.Reprocess mode) made = choose (may_go_on t (at_mode mode made)) (λ _. again (rows mode) (at_mode mode made))
-    (λ _. None)
+concludes again t (table.Reprocess mode) made =
+    let m = at_mode mode made in choose (may_go_on t m) (λ _. again (rows mode) m) (λ _. None)
 concludes again t ends made = None
 
 -- the row that the rules meet does no harm, nor does one that it leads to

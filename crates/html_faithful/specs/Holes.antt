@@ -94,11 +94,11 @@ hole_from scripting holed p = hole_at scripting OfDocument false false None hole
 -- in a document: behind comments and a doctype, or with no doctype before it
 abbrev pub hole_of : Bool → Holed → Option Hole
 hole_of scripting (AfterComment text hole) = hole_of scripting hole
-hole_of scripting (AfterDoctype name public_id system_id hole) = hole_from scripting hole (first_spot scripting mode.BeforeHtml NoQuirks)
+hole_of scripting (AfterDoctype name public_id system_id hole) = hole_from scripting hole (first_spot scripting NoQuirks)
 hole_of scripting (Within name attributes template hole behind) =
-    hole_from scripting (Within name attributes template hole behind) (first_spot scripting mode.BeforeHtml Quirks)
+    hole_from scripting (Within name attributes template hole behind) (first_spot scripting Quirks)
 hole_of scripting (AfterElement name attributes template kids hole) =
-    hole_from scripting (AfterElement name attributes template kids hole) (first_spot scripting mode.BeforeHtml Quirks)
+    hole_from scripting (AfterElement name attributes template kids hole) (first_spot scripting Quirks)
 hole_of scripting holed = None
 
 -- VALUES THAT ARE ALIKE

@@ -2,9 +2,11 @@
 use Rattle.std.specs.Prelude.{ℕ, Bool, false, cond, ◌&&◌, ◌||◌, not, length, List, [], ◌∷◌, Option, Some, None}
 use Rattle.markup.specs.Forest.{empty_forest}
 use Rattle.markup.specs.declared.quirks.QuirksMode.{QuirksMode}
+use Rattle.markup.specs.declared.quirks.QuirksMode.TheVariants.{NoQuirks}
 use Rattle.html_tokens.specs.Tags.{named}
 use Rattle.html_tokens.specs.declared.tags.TagKind.TheVariants.{StartTag}
 use Rattle.html_rules.specs.Choice.{choose}
+use Rattle.html_rules.specs.Documents.{Setting, before_document}
 use Rattle.html_rules.specs.Names.{Namespace}
 use Rattle.html_rules.specs.Stack.{has_open}
 use Rattle.html_rules.specs.State.{Answers, Entry, Element, Marker, Open, State, is_in}
@@ -53,10 +55,17 @@ no_answers = record {
   attaches_shadow = λ f host template attributes. false;
 }
 
+-- a page of its own, with that scripting flag
+abbrev pub setting_of : Bool → Answers → Setting
+setting_of scripting answers = record {
+  opts = record { scripting_enabled = scripting; iframe_srcdoc = false; drop_doctype = false };
+  quirks_mode = NoQuirks;
+  answers = answers;
+}
+
 -- a state of the rules that stands at a spot, over no tree
 abbrev pub hollow : Spot → State
-hollow p = record {
-  forest = empty_forest;
+hollow p = record (before_document (setting_of p.scripting no_answers) empty_forest) {
   open_elems = p.path;
   active_formatting = entries_of p.path;
   template_modes = p.template_modes;
@@ -65,12 +74,5 @@ hollow p = record {
   head_elem = cond p.has_head (Some 0) None;
   form_elem = form_of p.path;
   frameset_ok = p.frameset_ok;
-  ignore_lf = false;
-  foster_parenting = false;
-  pending_table_text = [];
   quirks_mode = p.quirks_mode;
-  context_elem = None;
-  has_ended = false;
-  opts = record { scripting_enabled = p.scripting; iframe_srcdoc = false; drop_doctype = false };
-  answers = no_answers;
 }

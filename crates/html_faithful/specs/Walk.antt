@@ -23,7 +23,7 @@ use Rattle.html_rules.specs.Conditions.{is_alone, is_nonempty}
 use Rattle.html_rules.specs.Names.{Namespace, Other, element_name_of}
 use Rattle.html_rules.specs.Stack.{has_open}
 use Rattle.html_rules.specs.State.{current_is, is_in}
-use Rattle.html_rules.specs.Tokens.{is_white}
+use Rattle.html_rules.specs.Tokens.{is_white, name_of}
 use Rattle.html_rules.specs.declared.insertion_mode.InsertionMode.{InsertionMode}
 use Rattle.html_rules.specs.declared.insertion_mode.InsertionMode.TheVariants as mode
 use Rattle.html_rules.specs.declared.tag_set.TagSet.TheVariants as set
@@ -58,6 +58,10 @@ stands OfRoot p (Some InRoot) = true
 stands OfDocument p (Some InDocument) = true
 stands parent p put = false
 
+-- what is made of a token that passes a test, and keeps the list and the form pointer those of the path; and what is made then
+abbrev pub taken : {A : Type 0} → (Made → Bool) → Token → Spot → (Made → Option A) → Option A
+taken test t p then = and_then (made_of t p) (λ made. choose (test made && is_kept_so (name_of t) p made) (λ _. then made) (λ _. None))
+
 -- TEXTS AND COMMENTS
 
 -- nothing is closed, and no line feed is dropped
@@ -66,8 +70,8 @@ is_plain made = not made.closed && not made.drops_line_feed
 
 -- a comment, put in the parent
 abbrev pub comment_put : Parent → List ℕ → Spot → Option Spot
-comment_put parent text p = and_then (made_of (CommentToken text) p)
-    (λ made. choose ((stands parent p made.put && is_plain made) && is_kept_so [] p made) (λ _. Some made.spot) (λ _. None))
+comment_put parent text p =
+    taken (λ made. stands parent p made.put && is_plain made) (CommentToken text) p (λ made. Some made.spot)
 
 abbrev pub is_text_put : Option Put → Bool
 is_text_put (Some TextHere) = true
@@ -76,8 +80,8 @@ is_text_put put = false
 -- a text, of which each character is put in the current node
 abbrev pub text_walked : List ℕ → Spot → Option Spot
 text_walked [] p = Some p
-text_walked (c ∷ cs) p = and_then (made_of (CharacterTokens (c ∷ [])) p)
-    (λ made. choose ((is_text_put made.put && is_plain made) && is_kept_so [] p made) (λ _. text_walked cs made.spot) (λ _. None))
+text_walked (c ∷ cs) p =
+    taken (λ made. is_text_put made.put && is_plain made) (CharacterTokens (c ∷ [])) p (λ made. text_walked cs made.spot)
 
 -- in the parts of a table white space waits, and is put in its place (section 13.2.6.4.10)
 abbrev pub is_table_mode : InsertionMode → Bool
@@ -140,9 +144,7 @@ is_written_tag name attributes template =
 abbrev pub started : QualName → List Attribute → Bool → Spot → Option Made
 started name attributes template p =
     choose (is_written_tag name attributes template)
-    (λ _. and_then (made_of (start_tag name attributes) p)
-    (λ made. choose (is_made name attributes (not (is_void name)) made.put && not made.closed && is_kept_so (lowered name.local) p made)
-    (λ _. Some made) (λ _. None)))
+    (λ _. taken (λ made. is_made name attributes (not (is_void name)) made.put && not made.closed) (start_tag name attributes) p Some)
     (λ _. None)
 
 -- `body` and `html` stay open where they end (sections 13.2.6.4.7 and 13.2.6.4.19)
@@ -151,11 +153,9 @@ stays_open name = is_html name && (bytes_eq name.local (codes "body") || bytes_e
 
 -- its end tag, which puts nothing
 abbrev pub finished : QualName → Spot → Option Spot
-finished name p = and_then (made_of (end_tag name) p)
-    (λ made. choose ((is_none made.put && not made.drops_line_feed && is_none made.raw)
-    && cond (stays_open name) (not made.closed) made.closed
-    && is_kept_so (lowered name.local) p made)
-    (λ _. Some made.spot) (λ _. None))
+finished name p =
+    taken (λ made. (is_none made.put && not made.drops_line_feed && is_none made.raw)
+    && cond (stays_open name) (not made.closed) made.closed) (end_tag name) p (λ made. Some made.spot)
 
 -- what stands in an element that has raw text: one text, or nothing
 abbrev pub is_raw_inside : RawKind → List ℕ → Trees → Bool
@@ -177,16 +177,14 @@ abbrev pub are_none : Trees → Bool
 are_none Nothing = true
 are_none trees = false
 
-abbrev pub fits_inside : QualName → Trees → Made → Bool
-fits_inside name kids made = elim made.raw as (λ _. Bool) [
-  | None ↦ true
-  | Some kind ↦ bytes_eq (lowered name.local) name.local && is_raw_inside kind name.local kids
-]
+abbrev pub fits_inside : QualName → Trees → Option RawKind → Bool
+fits_inside name kids None = true
+fits_inside name kids (Some kind) = bytes_eq (lowered name.local) name.local && is_raw_inside kind name.local kids
 
 -- what stands in an element that was opened, up to its end tag; `inside` walks its children
 abbrev pub kids_walked : QualName → Trees → (Bool → Spot → Option Spot) → Made → Option Spot
 kids_walked name kids inside made =
-    choose (fits_inside name kids made) (λ _. and_then (inside made.drops_line_feed made.spot) (λ p. finished name p)) (λ _. None)
+    choose (fits_inside name kids made.raw) (λ _. and_then (inside made.drops_line_feed made.spot) (λ p. finished name p)) (λ _. None)
 
 -- THE WALK
 
@@ -225,9 +223,9 @@ walk scripting parent after_text drops (Element name attributes template kids re
 
 -- DOCUMENTS
 
-abbrev pub first_spot : Bool → InsertionMode → QuirksMode → Spot
-first_spot scripting mode quirks = record {
-  mode = mode;
+abbrev pub first_spot : Bool → QuirksMode → Spot
+first_spot scripting quirks = record {
+  mode = mode.BeforeHtml;
   orig_mode = None;
   path = [];
   template_modes = [];
@@ -252,11 +250,9 @@ is_at_end (Some p) = is_end_mode p.mode
 unfoldable pub is_faithful : Bool → Trees → Bool
 is_faithful scripting (Comment text rest) = is_comment_text text && is_faithful scripting rest
 is_faithful scripting (Doctype name public_id system_id rest) =
-    bytes_eq name (codes "html")
-    && is_at_end (walk scripting OfDocument false false rest (first_spot scripting mode.BeforeHtml NoQuirks))
+    bytes_eq name (codes "html") && is_at_end (walk scripting OfDocument false false rest (first_spot scripting NoQuirks))
 is_faithful scripting (Element name attributes template kids rest) =
-    is_at_end (walk scripting OfDocument false false (Element name attributes template kids rest)
-    (first_spot scripting mode.BeforeHtml Quirks))
+    is_at_end (walk scripting OfDocument false false (Element name attributes template kids rest) (first_spot scripting Quirks))
 is_faithful scripting trees = false
 
 abbrev pub is_faithful_forest : Bool → Forest → Bool

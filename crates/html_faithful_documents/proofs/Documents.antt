@@ -51,14 +51,14 @@ use Rattle.html_faithful.specs.Forms.{is_comment_text}
 use Rattle.html_faithful.specs.Inside.{trees_taken}
 use Rattle.html_faithful.specs.Planted.{AreAllPlanted, missed_forest, missed_setting}
 use Rattle.html_faithful.specs.Planting.{ArePlantable, planted}
-use Rattle.html_faithful.specs.Spots.{Spot}
+use Rattle.html_faithful.specs.Spots.{Spot, setting_of}
 use Rattle.html_faithful.specs.Waiting.{Still, Untyped}
 use Rattle.html_faithful.specs.Walk.{OfDocument, is_at_end, is_end_mode, is_faithful, walk}
 use Rattle.html_faithful.proofs.Around.{Ready}
 use Rattle.html_faithful.proofs.Begins.{begins, document-planted, untyped-planted, untyped-ready}
 use Rattle.html_faithful.proofs.Planting.{new-keeps, planted-shown}
 use Rattle.html_faithful.proofs.Turns.{first-turn, turn-at_mode}
-use Rattle.html_faithful_documents.specs.Documents.{AreBytesReadBack, IsReadBack, as_told, document_trees, setting_of, text_of, told_quirks}
+use Rattle.html_faithful_documents.specs.Documents.{AreBytesReadBack, IsReadBack, as_told, document_trees, text_of, told_quirks}
 use Rattle.html_faithful_documents.specs.Forms.{doctype_token}
 use Rattle.html_faithful_documents.specs.Reads.{Reads, ReadsInData, read}
 use Rattle.html_faithful_documents.specs.Written.{AreForms}

@@ -411,7 +411,7 @@ module _ (rows : List Row) (reads : ReadsEscapes rows) (scripting : Bool) (paren
       let drops = opened-drops name attributes before r p ready_now.here ready_now.done made o in
       let Q = λ (q : Spot). IsRooted (below parent) (Last depth) grow opened.state within q
       × (ReadsInData rows opened.state (written scripting default_entry kids) within.state × AreForms kids) in
-      choose-so (fits_inside name kids made) (and_then (goes made.drops_line_feed made.spot) (λ p. finished name p)) P
+      choose-so (fits_inside name kids made.raw) (and_then (goes made.drops_line_feed made.spot) (λ p. finished name p)) P
       (λ b. then-so (goes made.drops_line_feed made.spot) (λ p. finished name p) Q P
       (and-so (goes made.drops_line_feed made.spot) (λ q. IsRooted (below parent) (Last depth) grow opened.state within q)
       (λ q. ReadsInData rows opened.state (written scripting default_entry kids) within.state × AreForms kids)

@@ -45,7 +45,8 @@ kids-so : (name : QualName) (kids : Trees) (inside : Bool → Spot → Option Sp
 kids-so name Nothing inside made law true = choose-so (ends_there Nothing made) (Some made.spot) (λ _. Unit {0}) (λ b. tt)
 kids-so name kids inside made law true = tt
 kids-so name kids inside made law false =
-    choose-so (fits_inside name kids made) (and_then (inside made.drops_line_feed made.spot) (λ p. finished name p)) (λ _. AreForms kids)
+    choose-so (fits_inside name kids made.raw) (and_then (inside made.drops_line_feed made.spot) (λ p. finished name p))
+    (λ _. AreForms kids)
     (λ b. then-so (inside made.drops_line_feed made.spot) (λ p. finished name p) (λ _. AreForms kids) (λ _. AreForms kids)
     (law made.drops_line_feed made.spot)
     (λ q h. weaker (finished name q) (λ _. Unit {0}) (λ _. AreForms kids) (any-so (finished name q)) (λ after u. h)))

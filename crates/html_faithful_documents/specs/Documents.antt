@@ -8,11 +8,12 @@ use Rattle.markup.specs.Named.{IsTree}
 use Rattle.markup.specs.Trees.{Trees, Nothing, Text, Comment, ProcessingInstruction, Doctype, Element, default_entry, trees_of, written}
 use Rattle.markup.specs.declared.quirks.QuirksMode.{QuirksMode}
 use Rattle.markup.specs.declared.quirks.QuirksMode.TheVariants.{NoQuirks, Quirks}
-use Rattle.html_rules.specs.Documents.{Setting, document}
+use Rattle.html_rules.specs.Documents.{document}
 use Rattle.html_rules.specs.State.{Answers, State}
 use Rattle.html_tokens.specs.Laws.{ReadsEscapes}
 use Rattle.html_tokens.specs.Table.{Row}
 use Rattle.html_tokens.specs.declared.options.TokenizerOpts.{TokenizerOpts}
+use Rattle.html_faithful.specs.Spots.{setting_of}
 use Rattle.html_faithful.specs.Walk.{is_faithful}
 
 abbrev pub document_trees : Forest → Trees
@@ -36,14 +37,6 @@ abbrev pub told_quirks : Trees → QuirksMode
 told_quirks (Comment text rest) = told_quirks rest
 told_quirks (Doctype name public_id system_id rest) = NoQuirks
 told_quirks trees = Quirks
-
--- a page of its own, with that scripting flag
-abbrev pub setting_of : Bool → Answers → Setting
-setting_of scripting answers = record {
-  opts = record { scripting_enabled = scripting; iframe_srcdoc = false; drop_doctype = false };
-  quirks_mode = NoQuirks;
-  answers = answers;
-}
 
 -- The document of the written text of trees has just these trees, in the quirks mode that the text asks for, and is written so again.
 pub record IsReadBack (rows : List Row) (opts : TokenizerOpts) (answers : Answers) (scripting : Bool) (trees : Trees) : Type 0 where

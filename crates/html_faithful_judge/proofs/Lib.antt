@@ -7,4 +7,6 @@ mod MadeByRows
 mod Turns
 mod Words
 mod CalmTexts
+mod Lacking
+mod Marks
 pub mod LoweredNames

@@ -3,13 +3,15 @@ use Rattle.std.proofs.Common.{◌≡◌, ◌∙◌, ℕ, zero, suc, ◌+◌, ◌
 use Rattle.std.proofs.Common.{drop}
 use Rattle.std.proofs.Common.{codes, get_or, nat_eq, take, ◌-◌, add-one}
 use Rattle.std.proofs.lemmas.List.{length-append, length-drop, take_all}
-use Rattle.std.specs.Prelude.{◌&&◌, is_none, not}
+use Rattle.std.specs.Prelude.{◌&&◌, ◌||◌, is_none, not}
 use Rattle.std.specs.Str.{bytes_eq}
 use Rattle.std.proofs.lemmas.Slice.Eq.{bytes_eq-Decides}
 use Rattle.markup.specs.Escape.{end_tag}
 use Rattle.html_tokens.specs.Comments.{comment_end}
 use Rattle.html_tokens.specs.RawText.{ends_at_tag, is_letters, next_kind, slash_name}
 use Rattle.html_tokens.specs.declared.states.RawKind.{RawKind}
+use Rattle.html_tokens.specs.declared.states.RawKind.TheVariants.{Rcdata, Rawtext, ScriptData, ScriptDataEscaped}
+use Rattle.html_tokens.specs.declared.states.ScriptEscapeKind.TheVariants.{DoubleEscaped, Escaped}
 use Rattle.html_faithful.specs.Forms.{goes_on_raw, has_no_end}
 
 -- the first of what is left of a comment
@@ -121,6 +123,30 @@ raw-even whole name text start kind next count i c e k l letters h at b is even 
     (drop (suc i) text)) there
     ∙ (ap (λ next. goes_on_raw next name (drop (suc i) text)) (sym then)
     ∙ ap (λ j. goes_on_raw next name (drop j text)) (sym (add-one i)))))
+
+-- other characters than `<` and `-` end nothing, and change nothing
+next-same : (kind : RawKind) (c : ℕ) (rest : List ℕ) (a b : Bool) → nat_eq c 60 ≡ a → nat_eq c 45 ≡ b → (a || b) ≡ false
+    → kind ≡ next_kind kind c rest
+next-same kind c rest true b e f h = absurd cc
+next-same kind c rest a true e f h = absurd cc
+next-same Rcdata c rest false false e f h = refl
+next-same Rawtext c rest false false e f h = refl
+next-same ScriptData c rest false false e f h = rw e refl
+next-same (ScriptDataEscaped Escaped) c rest false false e f h = rw (e, f) refl
+next-same (ScriptDataEscaped DoubleEscaped) c rest false false e f h = rw (e, f) refl
+
+end-none : (kind : RawKind) (name : List ℕ) (c : ℕ) (rest : List ℕ) (a b : Bool) → nat_eq c 60 ≡ a → (a || b) ≡ false
+    → false ≡ ends_at kind name c rest
+end-none kind name c rest true b e h = absurd cc
+end-none kind name c rest false b e h = rw e refl
+
+pub raw-same : (whole name text : List ℕ) (start kind : RawKind) (count i c : ℕ) → whole ≡ text ++ end_tag name → length text ≡ count
+    → i < count → is_letters name ≡ true → goes_on_raw start name text ≡ goes_on_raw kind name (drop i text) → c ≡ get_or whole i 0
+    → (nat_eq c 60 || nat_eq c 45) ≡ false → goes_on_raw start name text ≡ goes_on_raw kind name (drop (i + 1) text)
+raw-same whole name text start kind count i c e k l letters h at other =
+    raw-even whole name text start kind kind count i c e k l letters h at false
+    (end-none kind name c (take (length whole - (i + 1)) (drop (i + 1) whole)) (nat_eq c 60) (nat_eq c 45) refl other) refl
+    (next-same kind c (take (length whole - (i + 1)) (drop (i + 1) whole)) (nat_eq c 60) (nat_eq c 45) refl refl other)
 
 pub raw-all : (name text : List ℕ) (start kind : RawKind) (count i : ℕ) (b : Bool) → length text ≡ count → count ≤ i
     → goes_on_raw start name text ≡ goes_on_raw kind name (drop i text) → b ≡ ends_at_tag kind → b ≡ goes_on_raw start name text

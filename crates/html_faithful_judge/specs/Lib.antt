@@ -1,3 +1,4 @@
+pub mod Bytes
 pub mod Contexts
 pub mod Mades
 pub mod Rows

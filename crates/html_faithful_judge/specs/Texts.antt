@@ -1,6 +1,7 @@
 -- Names and attributes as they are emitted, and raw text that nothing ends.
 use Rattle.std.specs.Prelude.{ℕ, Bool, true, false, ◌&&◌, ◌||◌, not, nat_eq, List, [], ◌∷◌, map, Option, Some, None}
 use Rattle.std.specs.Char.{is_ascii_lowercase}
+use Rattle.std.specs.List.{list_all}
 use Rattle.markup.specs.declared.attributes.Attribute.{Attribute}
 use Rattle.html_tokens.specs.declared.states.RawKind.{RawKind}
 use Rattle.html_tokens.specs.declared.states.RawKind.TheVariants.{Rawtext, ScriptData}
@@ -19,6 +20,10 @@ is_kept_attribute a = is_attribute_name a.name.local && is_kept a.value
 -- the attributes that are emitted, where they have the names and the values with which they are written
 abbrev pub emitted_attributes : List Attribute → Option (List Attribute)
 emitted_attributes attributes = choose (are_told (map told_attribute attributes)) (λ _. Some (map told_attribute attributes)) (λ _. None)
+
+-- a text without a character
+abbrev pub lacks : ℕ → List ℕ → Bool
+lacks a text = list_all (λ c. not (nat_eq c a)) text
 
 -- a text in which neither `/` nor `!` follows a `<`, so that no end tag and no escape begins in it; `after` a `<`
 abbrev pub is_calm : Bool → List ℕ → Bool

@@ -3,6 +3,7 @@
 
 mod acting;
 mod actions;
+mod bytes;
 mod characters;
 pub mod context;
 mod inserting;

@@ -66,7 +66,9 @@ impl Made {
     pub fn restart(&mut self)
         ensures { made_as self.new ≡ nothing_yet (made_as self.old).spot }
     {
-        self.put = None;
+        if self.put.is_some() {
+            self.put = None;
+        }
         self.closed = false;
         self.change = Change::Unchanged;
         self.form = FormChange::FormKept;

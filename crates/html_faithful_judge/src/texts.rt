@@ -10,20 +10,32 @@ ghost use Rattle.html_tokens.specs.Comments.{comment_end};
 ghost use Rattle.html_tokens.specs.Characters.{begins};
 ghost use Rattle.html_tokens.specs.RawText.{ends_at_tag, is_letters, next_kind, slash_name};
 ghost use Rattle.html_faithful.specs.Forms.{goes_on_raw, has_no_end, is_comment_text, is_kept, is_raw_text};
-ghost use Rattle.html_faithful_judge.specs.Texts.{is_calm};
+ghost use Rattle.html_faithful_judge.specs.Texts.{is_calm, lacks};
 
+use crate::bytes;
 use crate::characters::{begins, begins_name};
 use crate::names::is_nonempty;
 use html_tokens::states::{RawKind, ScriptEscapeKind};
 use markup::{ParseFault, Text};
-use memchr::memchr2;
+use memchr::{memchr, memchr2};
 use std::alloc::Global;
 
 /// Whether a text has neither U+0000 nor U+000D.
 pub fn is_kept(text: &str) -> bool
     ensures { result ≡ is_kept (chars text.now) }
 {
+    if bytes::is_none(text.as_bytes()) {
+        return true;
+    }
     memchr2(0, b'\r', text.as_bytes()).is_none()
+}
+
+/// Whether a character of ASCII, given by its byte, is known not to stand in a text.
+fn lacks(text: &str, byte: u8) -> bool
+    requires { byte < 128 }
+    ensures { IsTrue result → lacks byte (chars text.now) ≡ true }
+{
+    memchr(byte, text.as_bytes()).is_none()
 }
 
 /// Whether four characters or more begin with what ends a comment.
@@ -86,6 +98,9 @@ pub fn is_comment_text(alloc: Global, text: &str) -> Result<bool, ParseFault>
 {
     if !is_kept(text) {
         return Ok(false);
+    }
+    if lacks(text, b'>') {
+        return Ok(true);
     }
     let whole = joined(alloc, text, &['-', '-', '>'])?;
     Ok(is_whole_comment(whole.as_slice()))
@@ -167,6 +182,13 @@ fn next_kind(kind: RawKind, c: char, rest: &[char]) -> RawKind
     }
 }
 
+/// Whether raw text may end at a character, or go on in another way after it.
+fn is_sign(c: char) -> bool
+    ensures { result ≡ (nat_eq c 0x3C || nat_eq c 45) }
+{
+    c == '<' || c == '-'
+}
+
 /// Whether raw text of so many characters, with the element's end tag after it, ends there and not before. The element's name is given
 /// lowered.
 fn goes_on_raw(kind: RawKind, name: &[char], whole: &[char], count: usize) -> bool
@@ -177,11 +199,13 @@ fn goes_on_raw(kind: RawKind, name: &[char], whole: &[char], count: usize) -> bo
     let mut kind = kind;
     for i in 0..count {
         let c = whole[i];
-        let rest = &whole[i + 1..];
-        if ends_here(kind, name, c, rest) {
-            return false;
+        if is_sign(c) {
+            let rest = &whole[i + 1..];
+            if ends_here(kind, name, c, rest) {
+                return false;
+            }
+            kind = next_kind(kind, c, rest);
         }
-        kind = next_kind(kind, c, rest);
     }
     ends_at_tag(kind)
 }
@@ -227,6 +251,9 @@ fn stays_calm(calm: bool, after: bool, c: char) -> bool
 fn is_calm(text: &str) -> bool
     ensures { result ≡ is_calm false (chars text.now) }
 {
+    if lacks(text, b'<') {
+        return true;
+    }
     let mut calm = true;
     let mut after = false;
     for c in text.chars() {

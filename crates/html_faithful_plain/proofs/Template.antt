@@ -19,7 +19,6 @@ use Rattle.html_rules.specs.Conditions.{is_nonempty}
 use Rattle.html_rules.specs.ForeignContent.{is_html_element}
 use Rattle.html_rules.specs.State.{current_is}
 use Rattle.html_rules.specs.Tokens.{is_hidden_value, is_shadow_mode}
-use Rattle.html_rules.specs.declared.insertion_mode.InsertionMode.TheVariants.{BeforeHtml}
 use Rattle.html_tokens.specs.TagEquality.{value_of}
 use Rattle.html_tokens.specs.declared.states.RawKind.{RawKind}
 use Rattle.html_tokens.specs.declared.states.RawKind.TheVariants.{Rcdata}
@@ -338,7 +337,7 @@ module _ (scripting : Bool) (values : Values) (parent : Parent) (after_text drop
   unfolding walk
   void-filled void ends = rw (stays, start, written, void, ends) refl
 
-  full-filled : (k r : Spot) → is_void name ≡ false → fits_inside name (filled values kids) made ≡ true
+  full-filled : (k r : Spot) → is_void name ≡ false → fits_inside name (filled values kids) made.raw ≡ true
       → walk scripting (below parent) false made.drops_line_feed (filled values kids) made.spot ≡ Some k → finished name k ≡ Some r
       → whole ≡ walk scripting parent false false (filled values rest) r
   unfolding walk
@@ -559,6 +558,6 @@ pub templates-filled : (scripting : Bool) (page : Template) (values : Values) �
     → is_faithful scripting (page_with values page) ≡ true
 unfolding is_faithful
 templates-filled scripting page values h kept plain =
-    let p = first_spot scripting BeforeHtml NoQuirks in
+    let p = first_spot scripting NoQuirks in
     at-end (checked scripting OfDocument false false page p) (walk scripting OfDocument false false (filled values page) p)
     (λ q e. template-filled scripting values kept page plain OfDocument false false p q e) h

@@ -33,7 +33,7 @@ use Rattle.html_faithful_plain.proofs.Tags.{place-start, started_by}
 module _ (scripting : Bool) (parent : Parent) (after_text drops : Bool) where
   pub element-walked : (name : QualName) (attributes : List Attribute) (kids rest : Trees) (q : Spot) (made : Made) (r s : Spot)
       → (is_current parent q && may_stay parent name) ≡ true → started name attributes false q ≡ Some made
-      → is_written_so scripting name made.raw ≡ true → is_void name ≡ false → fits_inside name kids made ≡ true
+      → is_written_so scripting name made.raw ≡ true → is_void name ≡ false → fits_inside name kids made.raw ≡ true
       → walk scripting (below parent) false made.drops_line_feed kids made.spot ≡ Some r → finished name r ≡ Some s
       → walk scripting parent after_text drops (Element name attributes false kids rest) q ≡ walk scripting parent false false rest s
   unfolding walk

@@ -1,4 +1,4 @@
--- What is made of the tags of common elements in a body and in a cell.
+-- What is made of the tags of common elements.
 use Rattle.std.proofs.Common.{◌≡◌, ◌∙◌, ℕ, suc, Bool, true, false, List, [], ◌∷◌, map, refl, ap, ap₂, sym}
 use Rattle.std.specs.Prelude.{◌&&◌, ◌||◌, not, cond, Option, Some, None, is_none, is_some, codes, nat_eq, option_map}
 use Rattle.std.specs.Str.{bytes_eq}
@@ -14,11 +14,12 @@ use Rattle.html_tokens.specs.declared.token.Token.{Token}
 use Rattle.html_tokens.specs.declared.token.Token.TheVariants.{TagToken}
 use Rattle.html_tokens.specs.declared.tags.Tag.{Tag}
 use Rattle.html_rules.specs.Choice.{choose}
+use Rattle.html_rules.specs.Conditions.{is_quirks}
 use Rattle.html_rules.specs.ForeignContent.{is_foreign, is_foreign_at, is_html_element}
 use Rattle.html_rules.specs.Modes.Foreign.{in_foreign_content}
 use Rattle.html_rules.specs.Names as names
 use Rattle.html_rules.specs.Rules.{first_fit, rows}
-use Rattle.html_rules.specs.Stack.{in_scope, item_name, without_current}
+use Rattle.html_rules.specs.Stack.{in_scope, item_name}
 use Rattle.html_rules.specs.State.{Open, adjusted_by, current_is, is_in, is_named, named_in}
 use Rattle.html_rules.specs.Table.{Row}
 use Rattle.html_rules.specs.declared.insertion_mode.InsertionMode.{InsertionMode}
@@ -26,20 +27,21 @@ use Rattle.html_rules.specs.declared.insertion_mode.InsertionMode.TheVariants as
 use Rattle.html_rules.specs.declared.tag_set.TagSet.TheVariants as set
 use Rattle.html_faithful.specs.Checks.{is_kept_so}
 use Rattle.html_faithful.specs.Forms.{is_tag_name, lowered, told_attribute}
-use Rattle.html_faithful.specs.Harmless.{Change, EntryPushed, FormKept, Made, Unchanged, and_then, by_rows, concludes, does, made_of}
-use Rattle.html_faithful.specs.Harmless.{nothing_yet, provided}
+use Rattle.html_faithful.specs.Harmless.{Change, EntryPushed, FormKept, Made, MarkerPushed, Unchanged, and_then, by_rows, concludes, does}
+use Rattle.html_faithful.specs.Harmless.{made_of, nothing_yet, provided}
 use Rattle.html_faithful.specs.Harmless as put
 use Rattle.html_faithful.specs.Listing.{link_open}
 use Rattle.html_faithful.specs.Spots.{Spot, hollow, is_marked}
 use Rattle.html_faithful.specs.Walk.{finished, is_made, is_void, is_written_tag, started, stays_open}
-use Rattle.html_faithful_walk.specs.Common.{IsPut, are_read_so, before_kids, closes_none, drops_line_feed, is_closed_by, is_flow}
-use Rattle.html_faithful_walk.specs.Common.{is_outside}
-use Rattle.html_faithful_walk.specs.Common.{lists_a, may_open, opened_as, spot_in}
+use Rattle.html_faithful_walk.specs.Common.{IsPut, are_read_so, before_kids, closes_none, drops_line_feed, ends_in, is_closed_by}
+use Rattle.html_faithful_walk.specs.Common.{is_outside, lists_a, may_open, opened_as, raw_in, spot_after, spot_in, stands_in}
 use Rattle.html_faithful_walk.specs.Kinds.{IsKindOf, has_end, is_common, is_listed, is_void_kind, names_as}
 use Rattle.html_faithful_walk.specs.declared.kinds.Kind.{Kind}
 use Rattle.html_faithful_walk.specs.declared.kinds.Kind.TheVariants as kind
-use Rattle.html_faithful_walk.proofs.NameRows.{IsPassed, body_row, end-in-cell, end_of, ended, inside, is_spelled, is_usual}
-use Rattle.html_faithful_walk.proofs.NameRows.{listing, open_as, row-in-cell, row-of-start, rows-of-end, said, start_of}
+use Rattle.html_faithful_walk.proofs.NameRows.{IsHeaded, IsPassed, end-in-cell, end_home, end_of, ended, home, home_row, inside}
+use Rattle.html_faithful_walk.proofs.NameRows.{is_body_end, is_headed, is_placed, is_spelled}
+use Rattle.html_faithful_walk.proofs.NameRows.{is_usual, listing, open_as, row-in-body, row-in-cell}
+use Rattle.html_faithful_walk.proofs.NameRows.{row-of-start, rows-of-end, said, start_of}
 use Rattle.html_faithful_walk.proofs.ReadSo.{are-told, told}
 
 -- BY THE ROWS OF THE MODE
@@ -73,21 +75,86 @@ by-body : (n : ℕ) (t : Token) (q : Spot) → IsPassed t
     → by_rows (suc n) (rows mode.InCell) t (nothing_yet q) ≡ by_rows n (rows mode.InBody) t (nothing_yet q)
 by-body n t q passed = by-row n (rows mode.InCell) t (nothing_yet q) _ (passed (hollow q))
 
--- so a tag does there what it does in the body
-in-flow : (m : InsertionMode) (q : Spot) (tag : Tag) (made : Made) → q.mode ≡ m → is_flow m ≡ true → IsPassed (TagToken tag)
-    → current_is is_html_element q.path ≡ true
-    → ((n : ℕ) → by_rows (suc n) (rows mode.InBody) (TagToken tag) (nothing_yet q) ≡ Some made) → made_of (TagToken tag) q ≡ Some made
-in-flow mode.InBody q tag made e f passed h does =
-    by-own q tag h ∙ (ap (λ m. by_rows 4 (rows m) (TagToken tag) (nothing_yet q)) e ∙ does 3)
-in-flow mode.InCell q tag made e f passed h does =
-    by-own q tag h ∙ (ap (λ m. by_rows 4 (rows m) (TagToken tag) (nothing_yet q)) e ∙ (by-body 3 (TagToken tag) q passed ∙ does 2))
-in-flow m q tag made e f passed h does = absurd cc
+by-head : (n : ℕ) (t : Token) (q : Spot) → IsHeaded t
+    → by_rows (suc n) (rows mode.InBody) t (nothing_yet q) ≡ by_rows n (rows mode.InHead) t (nothing_yet q)
+by-head n t q headed = by-row n (rows mode.InBody) t (nothing_yet q) _ (headed (hollow q))
+
+-- how the rows of a mode lead to those that take a tag
+pub data Way (home : InsertionMode) (placed headed : Bool) (m : InsertionMode) : Type 0 where
+  Here : m ≡ home → Way home placed headed m
+  FromCell : m ≡ mode.InCell → home ≡ mode.InBody → placed ≡ true → Way home placed headed m
+  FromBody : m ≡ mode.InBody → home ≡ mode.InHead → headed ≡ true → Way home placed headed m
+  FromBoth : m ≡ mode.InCell → home ≡ mode.InHead → placed ≡ true → headed ≡ true → Way home placed headed m
+
+way : (k : Kind) (m : InsertionMode) → stands_in k m ≡ true → Way (home k) (is_placed k) (is_headed k) m
+way kind.Metadata mode.InHead h = Here refl
+way kind.Metadata mode.InBody h = FromBody refl refl refl
+way kind.Metadata mode.InCell h = FromBoth refl refl refl refl
+way kind.Metadata m h = absurd cc
+way kind.Title mode.InHead h = Here refl
+way kind.Title mode.InBody h = FromBody refl refl refl
+way kind.Title mode.InCell h = FromBoth refl refl refl refl
+way kind.Title m h = absurd cc
+way kind.Style mode.InHead h = Here refl
+way kind.Style mode.InBody h = FromBody refl refl refl
+way kind.Style mode.InCell h = FromBoth refl refl refl refl
+way kind.Style m h = absurd cc
+way kind.Script mode.InHead h = Here refl
+way kind.Script mode.InBody h = FromBody refl refl refl
+way kind.Script mode.InCell h = FromBoth refl refl refl refl
+way kind.Script m h = absurd cc
+way kind.Section mode.InTable h = Here refl
+way kind.Section m h = absurd cc
+way kind.Row mode.InTableBody h = Here refl
+way kind.Row m h = absurd cc
+way kind.Cell mode.InRow h = Here refl
+way kind.Cell m h = absurd cc
+way k mode.InBody h = Here refl
+way k mode.InCell h = FromCell refl refl refl
+way k m h = absurd cc
+
+end-way : (k : Kind) (m : InsertionMode) → ends_in k m ≡ true → Way (end_home k) (is_body_end k) false m
+end-way kind.Title mode.Text h = Here refl
+end-way kind.Title m h = absurd cc
+end-way kind.Style mode.Text h = Here refl
+end-way kind.Style m h = absurd cc
+end-way kind.Script mode.Text h = Here refl
+end-way kind.Script m h = absurd cc
+end-way kind.Section mode.InTableBody h = Here refl
+end-way kind.Section m h = absurd cc
+end-way kind.Row mode.InRow h = Here refl
+end-way kind.Row m h = absurd cc
+end-way kind.Cell mode.InCell h = Here refl
+end-way kind.Cell m h = absurd cc
+end-way k mode.InBody h = Here refl
+end-way k mode.InCell h = FromCell refl refl refl
+end-way k m h = absurd cc
+
+-- so a tag does there what it does in that mode
+module _ (home : InsertionMode) (placed headed : Bool) (q : Spot) (tag : Tag) (made : Made)
+    (html : current_is is_html_element q.path ≡ true)
+    (does : (n : ℕ) → by_rows (suc n) (rows home) (TagToken tag) (nothing_yet q) ≡ Some made)
+    (cell : placed ≡ true → IsPassed (TagToken tag)) (body : headed ≡ true → IsHeaded (TagToken tag)) where
+  at : (n : ℕ) (m o : InsertionMode) → m ≡ o
+      → by_rows n (rows m) (TagToken tag) (nothing_yet q) ≡ by_rows n (rows o) (TagToken tag) (nothing_yet q)
+  at n m o e = ap (λ m. by_rows n (rows m) (TagToken tag) (nothing_yet q)) e
+
+  pub in-place : Way home placed headed q.mode → made_of (TagToken tag) q ≡ Some made
+  in-place (Here e) = by-own q tag html ∙ (at 4 q.mode home e ∙ does 3)
+  in-place (FromCell e h c) =
+      by-own q tag html ∙ (at 4 q.mode mode.InCell e ∙ (by-body 3 (TagToken tag) q (cell c) ∙ (at 3 mode.InBody home (sym h) ∙ does 2)))
+  in-place (FromBody e h b) =
+      by-own q tag html ∙ (at 4 q.mode mode.InBody e ∙ (by-head 3 (TagToken tag) q (body b) ∙ (at 3 mode.InHead home (sym h) ∙ does 2)))
+  in-place (FromBoth e h c b) =
+      by-own q tag html ∙ (at 4 q.mode mode.InCell e ∙ (by-body 3 (TagToken tag) q (cell c) ∙ (by-head 2 (TagToken tag) q (body b)
+      ∙ (at 2 mode.InHead home (sym h) ∙ does 1))))
 
 -- START TAGS
 
 abbrev change_of : Kind → Change
 change_of kind.Formatting = EntryPushed
 change_of kind.Link = EntryPushed
+change_of kind.Cell = MarkerPushed
 change_of k = Unchanged
 
 abbrev made_by : Kind → List ℕ → List Attribute → Spot → Made
@@ -97,7 +164,7 @@ made_by k name attributes p = record {
   closed = false;
   change = change_of k;
   form = FormKept;
-  raw = None;
+  raw = raw_in k;
   drops_line_feed = drops_line_feed k;
 }
 
@@ -111,14 +178,32 @@ no-item (Some name) h = absurd cc
 
 module _ (n : ℕ) (name : List ℕ) (attributes : List Attribute) (p : Spot) where
   abbrev Made_by : Kind → Type 0
-  Made_by k = and_then (does (body_row k).does (start_of name attributes) (nothing_yet p))
-      (λ made. concludes (λ table made. by_rows n table (start_of name attributes) made) (start_of name attributes) (body_row k).ends made)
+  Made_by k = and_then (does (home_row k).does (start_of name attributes) (nothing_yet p))
+      (λ made. concludes (λ table made. by_rows n table (start_of name attributes) made) (start_of name attributes) (home_row k).ends made)
       ≡ Some (made_by k name attributes p)
 
   row-made : (k : Kind) → closes_none k p.path ≡ true → Made_by k
   row-made kind.Phrase h = refl
   row-made kind.Formatting h = refl
   row-made kind.VoidPhrase h = refl
+  row-made kind.Metadata h = refl
+  row-made kind.Title h = refl
+  row-made kind.Style h = refl
+  row-made kind.Script h = refl
+  row-made kind.Button h =
+      let none : in_scope set.DefaultScope (is_in set.Button) p.path ≡ false =
+      is-not (in_scope set.DefaultScope (is_in set.Button) p.path) h in
+      rw none refl
+  row-made kind.Table h =
+      let out : in_scope set.ButtonScope (is_in set.P) p.path ≡ false = is-not (in_scope set.ButtonScope (is_in set.P) p.path) h in
+      by (is_quirks p.quirks_mode) refl out
+    where
+      by : (b : Bool) → is_quirks p.quirks_mode ≡ b → in_scope set.ButtonScope (is_in set.P) p.path ≡ false → Made_by kind.Table
+      by true e out = rw e refl
+      by false e out = rw (e, out) refl
+  row-made kind.Section h = rw h refl
+  row-made kind.Row h = rw h refl
+  row-made kind.Cell h = rw h refl
   row-made kind.Link h =
       let listed : lists_a p.path ≡ false = is-not (lists_a p.path) (and_parts (not (lists_a p.path)) (not (link_open p.path)) h).0 in
       rw listed refl
@@ -182,6 +267,15 @@ kept-open kind.Link name attributes p c l u =
     opened-so _ _ _ _ u (linked-so (is_in set.FormattingEnd (open_as name 0)) (is_marked (open_as name 0)) (is_in set.A (open_as name 0))
     (link_open p.path) (bytes_eq name name) l (same-name name) (and_parts (not (lists_a p.path)) (not (link_open p.path)) c).1)
 kept-open kind.VoidPhrase name attributes p c l u = refl
+kept-open kind.Metadata name attributes p c l u = refl
+kept-open kind.Title name attributes p c l u = opened-so _ _ _ _ u l
+kept-open kind.Style name attributes p c l u = opened-so _ _ _ _ u l
+kept-open kind.Script name attributes p c l u = opened-so _ _ _ _ u l
+kept-open kind.Button name attributes p c l u = opened-so _ _ _ _ u l
+kept-open kind.Table name attributes p c l u = opened-so _ _ _ _ u l
+kept-open kind.Section name attributes p c l u = opened-so _ _ _ _ u l
+kept-open kind.Row name attributes p c l u = opened-so _ _ _ _ u l
+kept-open kind.Cell name attributes p c l u = opened-so _ _ _ _ u l
 kept-open kind.Phrase name attributes p c l u = opened-so _ _ _ _ u l
 kept-open kind.Block name attributes p c l u = opened-so _ _ _ _ u l
 kept-open kind.Preformatted name attributes p c l u = opened-so _ _ _ _ u l
@@ -192,6 +286,7 @@ kept-open k name attributes p c l u = absurd cc
 
 is-common : (k : Kind) (path : List Open) → closes_none k path ≡ true → is_common k ≡ true
 is-common kind.Usual path h = absurd cc
+is-common kind.Staying path h = absurd cc
 is-common kind.Void path h = absurd cc
 is-common kind.Raw path h = absurd cc
 is-common kind.RawWithScripts path h = absurd cc
@@ -201,6 +296,7 @@ is-common k path h = refl
 common-named : (k : Kind) → is_common k ≡ true → is_listed k ≡ true
 common-named kind.Svg h = absurd cc
 common-named kind.Usual h = absurd cc
+common-named kind.Staying h = absurd cc
 common-named kind.Void h = absurd cc
 common-named kind.Raw h = absurd cc
 common-named kind.RawWithScripts h = absurd cc
@@ -210,13 +306,15 @@ common-named k h = refl
 made-so : (k : Kind) (name : List ℕ) (attributes : List Attribute) (p : Spot) → is_among name (names_as k) ≡ true → may_open k p ≡ true
     → made_of (start_of name attributes) p ≡ Some (made_by k name attributes p)
 made-so k name attributes p among h =
-    let parts = and_parts (is_flow p.mode) (current_is is_html_element p.path && closes_none k p.path) h in
+    let parts = and_parts (stands_in k p.mode) (current_is is_html_element p.path && closes_none k p.path) h in
     let own = and_parts (current_is is_html_element p.path) (closes_none k p.path) parts.1 in
     let common = is-common k p.path own.1 in
-    in-flow p.mode p _ (made_by k name attributes p) refl parts.0 (row-in-cell k name common among attributes) own.0
-    (λ n. by-row n (rows mode.InBody) (start_of name attributes) (nothing_yet p) (body_row k)
+    in-place (home k) (is_placed k) (is_headed k) p _ (made_by k name attributes p) own.0
+    (λ n. by-row n (rows (home k)) (start_of name attributes) (nothing_yet p) (home_row k)
     (row-of-start k name common among attributes (hollow p))
     ∙ row-made n name attributes p k own.1)
+    (λ placed. row-in-cell k name common among placed attributes) (λ headed. row-in-body k name common among headed attributes)
+    (way k p.mode parts.0)
 
 abbrev html_named : List ℕ → QualName
 html_named name = record { prefix = None; ns = html_namespace; local = name }
@@ -250,8 +348,8 @@ started-by b o test made h e t = rw (h, e, t) refl
 
 module _ (k : Kind) (local : List ℕ) (attributes : List Attribute) (p : Spot) (is : IsKindOf local k)
     (opens : may_open k p ≡ true) (read : are_read_so attributes ≡ true) where
-  parts : (is_flow p.mode ≡ true) × ((current_is is_html_element p.path && closes_none k p.path) ≡ true)
-  parts = and_parts (is_flow p.mode) (current_is is_html_element p.path && closes_none k p.path) opens
+  parts : (stands_in k p.mode ≡ true) × ((current_is is_html_element p.path && closes_none k p.path) ≡ true)
+  parts = and_parts (stands_in k p.mode) (current_is is_html_element p.path && closes_none k p.path) opens
 
   closes : closes_none k p.path ≡ true
   closes = (and_parts (current_is is_html_element p.path) (closes_none k p.path) parts.1).1
@@ -320,6 +418,7 @@ start-put k name attributes p is put =
 
 has-common : (k : Kind) → has_end k ≡ true → is_common k ≡ true
 has-common kind.Usual h = absurd cc
+has-common kind.Staying h = absurd cc
 has-common kind.Void h = absurd cc
 has-common kind.Raw h = absurd cc
 has-common kind.RawWithScripts h = absurd cc
@@ -336,7 +435,7 @@ unmarked-by f m a h = (and_parts f (not m) (and_parts (f && not m) (not a) h).0)
 
 kept-closed : (k : Kind) (name : List ℕ) (number : ℕ) (xs : List Open) (p : Spot) → has_end k ≡ true
     → listing k (open_as name 0) ≡ true → not (is_in set.Form (open_as name 0)) ≡ true
-    → is_kept_so name (inside name number xs p) (ended k p xs) ≡ true
+    → is_kept_so name (inside name number xs p) (ended k (inside name number xs p)) ≡ true
 kept-closed kind.Formatting name number xs p h l u =
     closed-so _ _ _ u (unmarked-by (is_in set.FormattingEnd (open_as name 0)) (is_marked (open_as name 0)) (is_in set.A (open_as name 0)) l)
 kept-closed kind.Link name number xs p h l u =
@@ -347,6 +446,13 @@ kept-closed kind.Preformatted name number xs p h l u = closed-so _ _ _ u l
 kept-closed kind.Heading name number xs p h l u = closed-so _ _ _ u l
 kept-closed kind.Item name number xs p h l u = closed-so _ _ _ u l
 kept-closed kind.Description name number xs p h l u = closed-so _ _ _ u l
+kept-closed kind.Button name number xs p h l u = closed-so _ _ _ u l
+kept-closed kind.Section name number xs p h l u = closed-so _ _ _ u l
+kept-closed kind.Row name number xs p h l u = closed-so _ _ _ u l
+kept-closed kind.Cell name number xs p h l u = closed-so _ _ _ u l
+kept-closed kind.Title name number xs p h l u = closed-so _ _ _ u l
+kept-closed kind.Style name number xs p h l u = closed-so _ _ _ u l
+kept-closed kind.Script name number xs p h l u = closed-so _ _ _ u l
 kept-closed k name number xs p h l u = absurd cc
 
 pub finished-by : (o : Option Made) (test : Made → Bool) (made : Made) → o ≡ Some made → test made ≡ true
@@ -354,7 +460,7 @@ pub finished-by : (o : Option Made) (test : Made → Bool) (made : Made) → o �
 finished-by o test made e t = rw (e, t) refl
 
 module _ (k : Kind) (local : List ℕ) (number : ℕ) (xs : List Open) (p : Spot) (is : IsKindOf local k)
-    (has : has_end k ≡ true) (flow : is_flow p.mode ≡ true) where
+    (has : has_end k ≡ true) (place : ends_in k p.mode ≡ true) where
   end-among : is_among local (names_as k) ≡ true
   end-among = is.named (common-named k (has-common k has))
 
@@ -374,24 +480,25 @@ module _ (k : Kind) (local : List ℕ) (number : ℕ) (xs : List Open) (p : Spot
   not-stays = is-not (bytes_eq local (codes "body") || bytes_eq local (codes "html")) (and_parts (not (bytes_eq local (codes "template")))
       (not (bytes_eq local (codes "body") || bytes_eq local (codes "html"))) end-spelled.1).1
 
-  made-of-end : made_of (end_of (lowered local)) (inside local number xs p) ≡ Some (ended k p xs)
+  made-of-end : made_of (end_of (lowered local)) (inside local number xs p) ≡ Some (ended k (inside local number xs p))
   made-of-end =
       ap (λ name. made_of (end_of name) (inside local number xs p)) end-low
-      ∙ in-flow p.mode (inside local number xs p) _ (ended k p xs) refl flow (end-in-cell k local has end-among) refl
-      (λ n. rows-of-end k local has end-among n number xs p)
+      ∙ in-place (end_home k) (is_body_end k) false (inside local number xs p) _ (ended k (inside local number xs p)) refl
+      (λ n. rows-of-end k local has end-among n number xs p) (end-in-cell k local has end-among) (λ h. absurd cc) (end-way k p.mode place)
 
   abbrev end-test : Made → Bool
   end-test made = (is_none made.put && not made.drops_line_feed && is_none made.raw)
       && cond (stays_open (html_named local)) (not made.closed) made.closed && is_kept_so (lowered local) (inside local number xs p) made
 
-  end-tested : end-test (ended k p xs) ≡ true
+  end-tested : end-test (ended k (inside local number xs p)) ≡ true
   end-tested =
       let list = and_parts (listing k (open_as local 0)) (is_usual (open_as local 0)) end-facts.0 in
       let usual = and_parts (not (is_in set.AnnotationXml (open_as local 0))) (not (is_in set.Form (open_as local 0))) list.1 in
       rw (same-name html_namespace, not-stays, kept-closed k local number xs p has list.0 usual.1) refl
 
-  finished-as : finished (html_named local) (inside local number xs p) ≡ Some (record p { path = xs })
-  finished-as = finished-by (made_of (end_of (lowered local)) (inside local number xs p)) end-test (ended k p xs) made-of-end end-tested
+  finished-as : finished (html_named local) (inside local number xs p) ≡ Some (spot_after k (inside local number xs p))
+  finished-as = finished-by (made_of (end_of (lowered local)) (inside local number xs p)) end-test (ended k (inside local number xs p))
+      made-of-end end-tested
 
 own-by : (space : names.Namespace) (name local : List ℕ) (number : ℕ) → named_in space name local ≡ true
     → record { number = number; namespace = space; name = name } ≡ open_as local number
@@ -400,20 +507,22 @@ own-by names.Html name local number h =
 own-by space name local number h = absurd cc
 
 end-path : (k : Kind) (name : QualName) (path : List Open) (p : Spot) → IsKindOf name.local k → is_html name ≡ true
-    → is_none name.prefix ≡ true → p.path ≡ path → has_end k ≡ true → is_flow p.mode ≡ true → current_is (is_named name.local) path ≡ true
-    → finished name p ≡ Some (record p { path = without_current path })
-end-path k name [] p is h e at has flow current = absurd cc
-end-path k name (x ∷ xs) p is h e at has flow current =
+    → is_none name.prefix ≡ true → p.path ≡ path → has_end k ≡ true → ends_in k p.mode ≡ true
+    → current_is (is_named name.local) path ≡ true → finished name p ≡ Some (spot_after k p)
+end-path k name [] p is h e at has place current = absurd cc
+end-path k name (x ∷ xs) p is h e at has place current =
     let own : x ≡ open_as name.local x.number = own-by x.namespace x.name name.local x.number current in
-    ap₂ (λ name path. finished name (record p { path = path })) (named-so name h e) (at ∙ ap (λ x. x ∷ xs) own)
-    ∙ finished-as k name.local x.number xs p is has flow
+    let there : p.path ≡ open_as name.local x.number ∷ xs = at ∙ ap (λ x. x ∷ xs) own in
+    ap₂ (λ name path. finished name (record p { path = path })) (named-so name h e) there
+    ∙ (finished-as k name.local x.number xs p is has place
+    ∙ ap (λ (path : List Open). Some (spot_after k (record p { path = path }))) (sym there))
 
 -- and closed by its end tag
 pub end-closes : (k : Kind) (name : QualName) (p : Spot) → IsKindOf name.local k → is_html name ≡ true → is_none name.prefix ≡ true
-    → is_closed_by k name.local p ≡ true → finished name p ≡ Some (record p { path = without_current p.path })
+    → is_closed_by k name.local p ≡ true → finished name p ≡ Some (spot_after k p)
 end-closes k name p is h e closed =
-    let parts = and_parts (has_end k) (is_flow p.mode && current_is (is_named name.local) p.path) closed in
-    let stands = and_parts (is_flow p.mode) (current_is (is_named name.local) p.path) parts.1 in
+    let parts = and_parts (has_end k) (ends_in k p.mode && current_is (is_named name.local) p.path) closed in
+    let stands = and_parts (ends_in k p.mode) (current_is (is_named name.local) p.path) parts.1 in
     end-path k name p.path p is h e refl parts.0 stands.0 stands.1
 
 -- AN ELEMENT THAT IS STARTED, BUT FOR WHAT WAS PUT

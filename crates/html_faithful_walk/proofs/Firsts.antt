@@ -9,7 +9,6 @@ use Rattle.markup.specs.Trees.{inner_of}
 use Rattle.markup.specs.declared.attributes.Attribute.{Attribute}
 use Rattle.markup.specs.declared.names.QualName.{QualName}
 use Rattle.html_faithful.specs.Spots.{Spot}
-use Rattle.html_rules.specs.declared.insertion_mode.InsertionMode.TheVariants.{BeforeHtml}
 use Rattle.markup.specs.declared.quirks.QuirksMode.TheVariants.{Quirks}
 use Rattle.html_faithful.specs.Walk.{first_spot}
 use Rattle.html_faithful_walk.specs.First.{AtEnd, Bare, Element, End, First, Leaf, OddBare, OddEnd, OddInside, OddLeaf, OddStart}
@@ -154,7 +153,7 @@ module _ (scripting : Bool) (f : Forest) where
 
   -- THE LOOP
 
-  pub start-leads : (spot : Spot) (nodes : List ℕ) (levels : List Level) → spot ≡ first_spot scripting BeforeHtml Quirks
+  pub start-leads : (spot : Spot) (nodes : List ℕ) (levels : List Level) → spot ≡ first_spot scripting Quirks
       → nodes ≡ children_of f 0 → levels ≡ [] → Leads scripting f (record {
         stand = record { parent = Document; after_text = false; drops = false; inside = Start };
         spot = spot;

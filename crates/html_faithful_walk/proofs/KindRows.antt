@@ -9,15 +9,26 @@ use Rattle.std.proofs.lemmas.List.{get_or-map, length-map}
 use Rattle.std.proofs.lemmas.Slice.Eq.{bytes_eq-Decides}
 use Rattle.markup.specs.KnownNames.{IsNameAt, names}
 use Rattle.markup.specs.Trees.{is_among, is_raw, raw_names, void_names}
-use Rattle.html_rules.specs.Renames.{foreign_attribute_names, renamed, svg_attribute_names}
+use Rattle.html_rules.specs.Renames.{foreign_attribute_names, mathml_attribute_names, renamed, svg_attribute_names}
 use Rattle.html_rules.specs.Sets.{names_of}
-use Rattle.html_faithful_walk.specs.Kinds.{IsKindOf, is_listed, is_raw_kind, is_void_kind, keeping, keeps_name, kinds, names_as}
+use Rattle.html_faithful.specs.Forms.{is_attribute_name, lowered}
+use Rattle.html_faithful_walk.specs.Kinds.{IsKindOf, asked_names, free, is_free_name, is_listed, is_raw_kind, is_staying_kind, is_told_back}
+use Rattle.html_faithful_walk.specs.Kinds.{is_void_kind}
+use Rattle.html_faithful_walk.specs.Kinds.{keeps_name, kinds, names_as, told_back}
+use Rattle.html_faithful_judge.proofs.LoweredNames.{name-lower}
 use Rattle.html_faithful_walk.specs.declared.kinds.Kind.{Kind}
 use Rattle.html_faithful_walk.specs.declared.kinds.Kind.TheVariants as kind
 
 voids : map is_void_kind kinds ≡ map (λ name. is_among name void_names) names
 unfolding kinds names
 voids = refl
+
+abbrev is_staying : List ℕ → Bool
+is_staying name = bytes_eq name (codes "body") || bytes_eq name (codes "html")
+
+stays : map is_staying_kind kinds ≡ map is_staying names
+unfolding kinds names
+stays = refl
 
 raws : (scripting : Bool) → map (is_raw_kind scripting) kinds ≡ map (is_raw scripting) names
 unfolding kinds names
@@ -70,6 +81,7 @@ kind_there place name at = row_there is_void_kind (λ text. is_among text void_n
 pub kind_row : (place : ℕ) (name : List ℕ) → IsNameAt place name → IsKindOf name (get_or kinds place kind.Usual)
 kind_row place name at = record {
   void = row_is is_void_kind (λ text. is_among text void_names) place name voids at;
+  stays = row_is is_staying_kind is_staying place name stays at;
   raw = λ scripting. row_is (is_raw_kind scripting) (is_raw scripting) place name (raws scripting) at;
   named = λ c. fits-common (get_or kinds place kind.Usual) name
       (ap (fits (get_or kinds place kind.Usual)) (sym at.there) ∙ fit-at kinds names place rows_fit) c;
@@ -106,9 +118,22 @@ none-raw true noscript false h k = sym h
 none-raw false noscript false h k = refl
 none-raw scripting noscript true h k = absurd cc
 
+staying_known : (is_among (codes "body") names && is_among (codes "html") names) ≡ true
+unfolding names
+staying_known = refl
+
+none-of-both : (a b : Bool) → a ≡ false → b ≡ false → false ≡ (a || b)
+none-of-both false false h k = refl
+none-of-both true b h k = absurd cc
+none-of-both a true h k = absurd cc
+
 pub kind-other : (name : List ℕ) → is_among name names ≡ false → IsKindOf name kind.Usual
 kind-other name none = record {
   void = sym (others name void_names voids_known none);
+  stays =
+      let parts = and_parts (is_among (codes "body") names) (is_among (codes "html") names) staying_known in
+      none-of-both (bytes_eq name (codes "body")) (bytes_eq name (codes "html")) (other name (codes "body") parts.0 none)
+      (other name (codes "html") parts.1 none);
   raw = λ scripting.
       let parts = and_parts (is_among (codes "noscript") names) (list_all (λ text. is_among text names) raw_names) raws_known in
       none-raw scripting (bytes_eq name (codes "noscript")) (is_among name raw_names)
@@ -116,21 +141,22 @@ kind-other name none = record {
   named = λ c. absurd cc;
 }
 
--- ATTRIBUTES OF SVG
+-- ATTRIBUTES
 
-keeps : keeping ≡ map keeps_name names
-unfolding keeping names svg_attribute_names foreign_attribute_names
-keeps = refl
+tolds : told_back ≡ map is_told_back names
+unfolding told_back names svg_attribute_names foreign_attribute_names
+tolds = refl
 
-pub keeps_there : (place : ℕ) (name : List ℕ) → IsNameAt place name → place < length keeping
-keeps_there place name at =
+pub told_there : (place : ℕ) (name : List ℕ) → IsNameAt place name → place < length told_back
+told_there place name at =
     let within = at.within in
-    let long : length keeping ≡ length names = ap (length {A = Bool}) keeps ∙ length-map names keeps_name in
+    let long : length told_back ≡ length names = ap (length {A = Bool}) tolds ∙ length-map names is_told_back in
     omega arith
 
-pub keeps_row : (place : ℕ) (name : List ℕ) → IsNameAt place name → get_or keeping place false ≡ keeps_name name
-keeps_row place name at =
-    ap (λ (xs : List Bool). get_or xs place false) keeps ∙ get_or-map keeps_name names place [] false at.within ∙ ap keeps_name at.there
+pub told_row : (place : ℕ) (name : List ℕ) → IsNameAt place name → get_or told_back place false ≡ is_told_back name
+told_row place name at =
+    ap (λ (xs : List Bool). get_or xs place false) tolds ∙ get_or-map is_told_back names place [] false at.within
+    ∙ ap is_told_back at.there
 
 same : (name : List ℕ) → bytes_eq name name ≡ true
 same name = (bytes_eq-Decides name name).1 refl
@@ -147,6 +173,14 @@ renamed_known : list_all (λ x. is_among (map to_ascii_lowercase x) names) svg_a
 unfolding names svg_attribute_names
 renamed_known = refl
 
+mathml_known : list_all (λ x. is_among (map to_ascii_lowercase x) names) mathml_attribute_names ≡ true
+unfolding names
+mathml_known = refl
+
+asked_known : list_all (λ text. is_among text names) asked_names ≡ true
+unfolding names
+asked_known = refl
+
 foreign_known : list_all (λ text. is_among text names) (map (λ x. x.written) foreign_attribute_names) ≡ true
 unfolding names foreign_attribute_names
 foreign_known = refl
@@ -158,3 +192,109 @@ keeps-other name none =
       same name,
       others name (map (λ x. x.written) foreign_attribute_names) foreign_known none,
     ) refl
+
+-- FREE ATTRIBUTES
+
+frees : free ≡ map is_free_name names
+unfolding free names svg_attribute_names foreign_attribute_names
+frees = refl
+
+pub free_there : (place : ℕ) (name : List ℕ) → IsNameAt place name → place < length free
+free_there place name at =
+    let within = at.within in
+    let long : length free ≡ length names = ap (length {A = Bool}) frees ∙ length-map names is_free_name in
+    omega arith
+
+pub free_row : (place : ℕ) (name : List ℕ) → IsNameAt place name → get_or free place false ≡ is_free_name name
+free_row place name at =
+    ap (λ (xs : List Bool). get_or xs place false) frees ∙ get_or-map is_free_name names place [] false at.within
+    ∙ ap is_free_name at.there
+
+and-true : (b : Bool) → (b && true) ≡ b
+and-true true = refl
+and-true false = refl
+
+pub free-other : (name : List ℕ) → is_among name names ≡ false → is_free_name name ≡ is_attribute_name name
+free-other name none =
+    rw (
+      keeps-other name none,
+      renamed-other mathml_attribute_names name mathml_known none,
+      same name,
+      others name asked_names asked_known none,
+    ) (and-true (is_attribute_name name))
+
+-- SVG'S ATTRIBUTES
+
+-- what is renamed stays as it is, or becomes one of the names
+data Renamed (xs : List (List ℕ)) (name : List ℕ) : Type 0 where
+  Stays : renamed xs name ≡ name → Renamed xs name
+  Becomes : is_among (renamed xs name) xs ≡ true → Renamed xs name
+
+or-true : (b c : Bool) → c ≡ true → (b || c) ≡ true
+or-true true c h = refl
+or-true false c h = h
+
+skipped : (x : List ℕ) (xs : List (List ℕ)) (name : List ℕ) → bytes_eq name (map to_ascii_lowercase x) ≡ false
+    → renamed (x ∷ xs) name ≡ renamed xs name
+skipped x xs name e = rw e refl
+
+renamed-first : (x : List ℕ) (xs : List (List ℕ)) (name : List ℕ) (b : Bool) → bytes_eq name (map to_ascii_lowercase x) ≡ b
+    → Renamed xs name → Renamed (x ∷ xs) name
+renamed-first x xs name true e rest = Becomes (rw (e, same x) refl)
+renamed-first x xs name false e (Stays h) = Stays (rw e h)
+renamed-first x xs name false e (Becomes h) =
+    Becomes (ap (λ v. is_among v (x ∷ xs)) (skipped x xs name e)
+    ∙ or-true (bytes_eq (renamed xs name) x) (is_among (renamed xs name) xs) h)
+
+renamed-so : (xs : List (List ℕ)) (name : List ℕ) → Renamed xs name
+renamed-so [] name = Stays refl
+renamed-so (x ∷ xs) name = renamed-first x xs name (bytes_eq name (map to_ascii_lowercase x)) refl (renamed-so xs name)
+
+svg_known : list_all (λ x. is_among x names) svg_attribute_names ≡ true
+unfolding names svg_attribute_names
+svg_known = refl
+
+among-known : (name : List ℕ) (xs : List (List ℕ)) → list_all (λ x. is_among x names) xs ≡ true → is_among name names ≡ false
+    → is_among name xs ≡ true → false ≡ true
+among-known name xs known none h = sym (others name xs known none) ∙ h
+
+module _ (name : List ℕ) (none : is_among name names ≡ false) where
+  abbrev back : Bool
+  back = bytes_eq (renamed svg_attribute_names (lowered name)) name
+
+  lower-not : bytes_eq (lowered name) name ≡ false → Renamed svg_attribute_names (lowered name) → (b : Bool) → back ≡ b → b ≡ false
+  lower-not other is false e = refl
+  lower-not other (Stays h) true e =
+      let is : renamed svg_attribute_names (lowered name) ≡ name =
+      (bytes_eq-Decides (renamed svg_attribute_names (lowered name)) name).0 e in
+      let equal : lowered name ≡ name = sym h ∙ is in
+      sym ((bytes_eq-Decides (lowered name) name).1 equal) ∙ other
+  lower-not other (Becomes h) true e =
+      let is : renamed svg_attribute_names (lowered name) ≡ name =
+      (bytes_eq-Decides (renamed svg_attribute_names (lowered name)) name).0 e in
+      sym (among-known name svg_attribute_names svg_known none
+      (ap (λ name. is_among name svg_attribute_names) (sym is) ∙ h))
+
+  and-none : (a b : Bool) → (a && (false && b)) ≡ false
+  and-none true b = refl
+  and-none false b = refl
+
+  odd-by : (b : Bool) → bytes_eq (lowered name) name ≡ b → is_attribute_name name ≡ false → is_told_back name ≡ false
+  odd-by true e h = rw (ap is_attribute_name ((bytes_eq-Decides (lowered name) name).0 e) ∙ h) refl
+  odd-by false e h =
+      rw (lower-not e (renamed-so svg_attribute_names (lowered name)) back refl)
+      (and-none (is_attribute_name (lowered name)) (not (is_among name (map (λ x. x.written) foreign_attribute_names))))
+
+  told-by : (b : Bool) → is_attribute_name name ≡ b → is_told_back name ≡ b
+  told-by true h =
+      rw (
+        name-lower name h,
+        h,
+        renamed-other svg_attribute_names name renamed_known none,
+        same name,
+        others name (map (λ x. x.written) foreign_attribute_names) foreign_known none,
+      ) refl
+  told-by false h = odd-by (bytes_eq (lowered name) name) refl h
+
+  pub told-other : is_told_back name ≡ is_attribute_name name
+  told-other = told-by (is_attribute_name name) refl

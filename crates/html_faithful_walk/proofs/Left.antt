@@ -14,7 +14,6 @@ use Rattle.markup.specs.declared.attributes.Attribute.{Attribute}
 use Rattle.markup.specs.declared.names.QualName.{QualName}
 use Rattle.markup.specs.declared.quirks.QuirksMode.TheVariants.{Quirks}
 use Rattle.html_rules.specs.Choice.{choose}
-use Rattle.html_rules.specs.declared.insertion_mode.InsertionMode.TheVariants.{BeforeHtml}
 use Rattle.html_faithful.specs.Harmless.{and_then}
 use Rattle.html_faithful.specs.Spots.{Spot}
 use Rattle.html_faithful.specs.Walk.{OfDocument, first_spot, is_at_end, is_faithful, is_faithful_forest}
@@ -242,7 +241,7 @@ begins-by true x o h = h
 begins-by false x o h = refl
 
 begins : (scripting : Bool) (trees : Trees)
-    → is_faithful scripting trees ≡ is_at_end (begun scripting OfDocument false false trees (first_spot scripting BeforeHtml Quirks))
+    → is_faithful scripting trees ≡ is_at_end (begun scripting OfDocument false false trees (first_spot scripting Quirks))
 unfolding is_faithful begun
 begins scripting Nothing = refl
 begins scripting (Text text rest) = refl
@@ -252,7 +251,7 @@ begins scripting (Doctype name public_id system_id rest) = begins-by _ _ _ refl
 begins scripting (Element name attributes template kids rest) = refl
 
 pub first : (scripting : Bool) (f : Forest) (spot : Spot) (nodes : List ℕ) (levels : List Level)
-    → spot ≡ first_spot scripting BeforeHtml Quirks
+    → spot ≡ first_spot scripting Quirks
     → nodes ≡ children_of f 0 → levels ≡ [] → is_at_end (left scripting f (record {
       stand = record { parent = Document; after_text = false; drops = false; inside = Start };
       spot = spot;
@@ -264,5 +263,5 @@ first scripting f spot nodes levels e k l =
     (λ p. levels_left scripting f (reverse ls) p)) k l
     ∙ (ap (λ p. and_then (begun scripting OfDocument false false (trees_before f (children_of f 0) Nothing) p) (λ p. Some p)) e
     ∙ then-some (begun scripting OfDocument false false (trees_before f (children_of f 0) Nothing)
-    (first_spot scripting BeforeHtml Quirks))))
+    (first_spot scripting Quirks))))
     ∙ sym (begins scripting (trees_before f (children_of f 0) Nothing))

@@ -8,7 +8,10 @@ mod Taken
 mod Firsts
 mod Points
 mod CommonTags
+mod FreeAttributes
 mod KindRows
 mod NameRows
 mod ReadSo
 mod SvgTags
+mod SvgNames
+mod SvgAttributes

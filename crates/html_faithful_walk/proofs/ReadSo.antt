@@ -14,7 +14,7 @@ use Rattle.html_faithful.specs.Forms.{are_told, is_attribute_name, is_kept, lowe
 use Rattle.html_faithful_judge.proofs.LoweredNames.{name-lower}
 use Rattle.html_faithful_walk.specs.Common.{are_read_so, is_read_so}
 
-no-prefix : (local : List ℕ) → attribute_prefix (record { prefix = None; ns = []; local = local }) ≡ []
+pub no-prefix : (local : List ℕ) → attribute_prefix (record { prefix = None; ns = []; local = local }) ≡ []
 unfolding known_namespace name_of
 no-prefix local = refl
 

@@ -1,6 +1,6 @@
 -- What is made of the tags of SVG's elements, and of text in them.
 use Rattle.std.proofs.Common.{◌≡◌, ◌∙◌, ℕ, Bool, true, false, List, [], ◌∷◌, map, refl, ap, ap₂, sym}
-use Rattle.std.specs.Prelude.{◌&&◌, ◌||◌, not, cond, Some, None, is_none, option_map}
+use Rattle.std.specs.Prelude.{◌&&◌, ◌||◌, not, cond, codes, Some, None, is_none, option_map}
 use Rattle.std.specs.Char.{to_ascii_lowercase}
 use Rattle.std.specs.List.{list_all}
 use Rattle.std.specs.Str.{bytes_eq}
@@ -13,18 +13,20 @@ use Rattle.markup.specs.declared.names.QualName.{QualName}
 use Rattle.html_tokens.specs.declared.token.Token.{Token}
 use Rattle.html_tokens.specs.declared.token.Token.TheVariants.{CharacterTokens}
 use Rattle.html_rules.specs.Choice.{choose}
-use Rattle.html_rules.specs.ForeignContent.{foreign_end, is_foreign, is_foreign_at}
+use Rattle.html_rules.specs.ForeignContent.{foreign_end, is_foreign, is_foreign_at, is_html_element}
 use Rattle.html_rules.specs.Modes.Foreign.{in_foreign_content}
 use Rattle.html_rules.specs.Names as names
 use Rattle.html_rules.specs.Names.{mathml_namespace, namespace_of, svg_namespace}
-use Rattle.html_rules.specs.Renames.{ForeignName, adjust_attributes, foreign_attribute_names, foreign_named, renamed, svg_attribute_names}
+use Rattle.html_rules.specs.Renames.{adjust_attributes, renamed}
 use Rattle.html_rules.specs.Renames.{svg_tag_names}
 use Rattle.html_rules.specs.Rules.{first_fit, rows}
 use Rattle.html_rules.specs.Sets.{is_among, names_in, names_of, svg_names_of}
-use Rattle.html_rules.specs.State.{Open, State, adjusted_by}
+use Rattle.html_rules.specs.State.{Open, State, adjusted_by, current_is}
 use Rattle.html_rules.specs.Stack.{without_current}
-use Rattle.html_rules.specs.Table.{Acknowledged, AnyEndTag, AnyStartTag, CloseForeign, Done, ForeignEndError, InsertForeign, ParseError}
-use Rattle.html_rules.specs.Table.{When, row, ◌▸◌}
+use Rattle.html_rules.specs.Table.{Acknowledged, AnyEndTag, AnyStartTag, CloseForeign, Done, EnterForeign, ForeignEndError, InsertForeign}
+use Rattle.html_rules.specs.Table.{ParseError, Reconstruct, StartTags, When, row, ◌▸◌}
+use Rattle.html_rules.specs.declared.insertion_mode.InsertionMode.{InsertionMode}
+use Rattle.html_rules.specs.declared.insertion_mode.InsertionMode.TheVariants as mode
 use Rattle.html_rules.specs.declared.tag_set.TagSet.TheVariants as set
 use Rattle.html_faithful.specs.Checks.{is_kept_so}
 use Rattle.html_faithful.specs.Forms.{is_tag_name, lowered, told_attribute}
@@ -32,15 +34,15 @@ use Rattle.html_faithful.specs.Harmless.{FormKept, Made, TextHere, Unchanged, by
 use Rattle.html_faithful.specs.Harmless as put
 use Rattle.html_faithful.specs.Spots.{Spot, hollow, opened_at}
 use Rattle.html_faithful.specs.Walk.{finished, is_made, is_void, is_written_tag, started, stays_open}
-use Rattle.html_faithful_walk.specs.Common.{are_read_so, before_kids}
-use Rattle.html_faithful_walk.specs.Kinds.{IsKindOf, is_svg_kind, keeps_name, svg_names}
+use Rattle.html_faithful_walk.specs.Common.{before_kids, is_flow}
+use Rattle.html_faithful_walk.specs.Kinds.{IsKindOf, is_svg_kind, svg_names}
 use Rattle.html_faithful_walk.specs.declared.kinds.Kind.{Kind}
 use Rattle.html_faithful_walk.specs.declared.kinds.Kind.TheVariants as kind
-use Rattle.html_faithful_walk.specs.Svg.{IsClosedIn, IsPutIn, is_current_svg, is_svg, is_svg_space, keep_names, opened_svg}
+use Rattle.html_faithful_walk.specs.Svg.{IsClosedIn, IsPutIn, IsRootIn, are_svg_read, is_current_svg, is_svg, is_svg_space, opened_svg}
 use Rattle.html_faithful_walk.specs.Svg.{takes_svg}
-use Rattle.html_faithful_walk.proofs.CommonTags.{by-row, finished-by, is-not, none-is, same-name, started-by}
-use Rattle.html_faithful_walk.proofs.NameRows.{all-of, end_of, start_of}
-use Rattle.html_faithful_walk.proofs.ReadSo.{are-told, told}
+use Rattle.html_faithful_walk.proofs.CommonTags.{FromCell, Here, Way, by-row, finished-by, in-place, is-not, none-is, same-name, started-by}
+use Rattle.html_faithful_walk.proofs.NameRows.{IsPassed, all-of, end_of, start_of}
+use Rattle.html_faithful_walk.proofs.SvgAttributes.{svg-adjusted, svg-told}
 
 -- IN FOREIGN CONTENT
 
@@ -105,38 +107,6 @@ said name h =
       keeps = (bytes_eq-Decides (renamed svg_tag_names name) name).0 other.1;
     }
 
--- ATTRIBUTES
-
-foreign-other : (xs : List ForeignName) (name : QualName) → is_among name.local (map (λ x. x.written) xs) ≡ false
-    → foreign_named xs name ≡ name
-foreign-other [] name h = refl
-foreign-other (x ∷ xs) name h = by (bytes_eq name.local x.written) (is_among name.local (map (λ x. x.written) xs)) refl refl h
-    (foreign-other xs name)
-  where
-    by : (b c : Bool) → bytes_eq name.local x.written ≡ b → is_among name.local (map (λ x. x.written) xs) ≡ c → (b || c) ≡ false
-        → (is_among name.local (map (λ x. x.written) xs) ≡ false → foreign_named xs name ≡ name) → foreign_named (x ∷ xs) name ≡ name
-    by true c e f h rest = absurd cc
-    by false c e f h rest = rw e (rest (f ∙ h))
-
-one-kept : (a : Attribute) → keeps_name a.name.local ≡ true
-    → record a {
-      name = foreign_named foreign_attribute_names (record a.name { local = renamed svg_attribute_names a.name.local });
-    } ≡ a
-one-kept a h =
-    let parts = and_parts (bytes_eq (renamed svg_attribute_names a.name.local) a.name.local)
-    (not (is_among a.name.local (map (λ x. x.written) foreign_attribute_names))) h in
-    ap (λ (local : List ℕ). record a { name = foreign_named foreign_attribute_names (record a.name { local = local }) })
-    ((bytes_eq-Decides (renamed svg_attribute_names a.name.local) a.name.local).0 parts.0)
-    ∙ ap (λ (name : QualName). record a { name = name }) (foreign-other foreign_attribute_names a.name
-    (is-not (is_among a.name.local (map (λ x. x.written) foreign_attribute_names)) parts.1))
-
-all-kept : (attributes : List Attribute) → keep_names attributes ≡ true → adjust_attributes names.Svg attributes ≡ attributes
-unfolding adjust_attributes
-all-kept [] h = refl
-all-kept (a ∷ rest) h =
-    let parts = and_parts (keeps_name a.name.local) (keep_names rest) h in
-    ap₂ (λ a rest. a ∷ rest) (one-kept a parts.0) (all-kept rest parts.1)
-
 -- START TAGS
 
 svg-row : (name : List ℕ) (attributes : List Attribute) (s : State) → is_among name (names_of set.ForeignBreakout) ≡ false
@@ -149,21 +119,21 @@ svg_made name attributes q = record (nothing_yet (record q { path = opened_at na
   put = Some (put.Element names.Svg name attributes true);
 }
 
-module _ (name : List ℕ) (attributes : List Attribute) (own : List ℕ) (number : ℕ) (xs : List Open) (p : Spot) (says : Says name)
-    (takes : is_among own (svg_names_of set.SvgHtmlIntegrationPoint) ≡ false) (keeps : keep_names attributes ≡ true) where
+module _ (name : List ℕ) (told attributes : List Attribute) (own : List ℕ) (number : ℕ) (xs : List Open) (p : Spot) (says : Says name)
+    (takes : is_among own (svg_names_of set.SvgHtmlIntegrationPoint) ≡ false) (back : adjust_attributes names.Svg told ≡ attributes) where
   abbrev q : Spot
   q = in_svg own number xs p
 
-  start-foreign : is_foreign (hollow q) (start_of name attributes) ≡ true
+  start-foreign : is_foreign (hollow q) (start_of name told) ≡ true
   unfolding is_foreign
-  start-foreign = foreign-there (hollow q) own number (start_of name attributes) takes
+  start-foreign = foreign-there (hollow q) own number (start_of name told) takes
 
-  made-of-svg : made_of (start_of name attributes) q ≡ Some (svg_made name attributes q)
+  made-of-svg : made_of (start_of name told) q ≡ Some (svg_made name attributes q)
   made-of-svg =
-      by-foreign q (start_of name attributes) start-foreign
-      ∙ (by-row 3 in_foreign_content (start_of name attributes) (nothing_yet q) (row AnyStartTag InsertForeign Acknowledged)
-      (svg-row name attributes (hollow q) says.stays says.plain)
-      ∙ ap₂ (λ name attributes. Some (svg_made name attributes q)) says.keeps (all-kept attributes keeps))
+      by-foreign q (start_of name told) start-foreign
+      ∙ (by-row 3 in_foreign_content (start_of name told) (nothing_yet q) (row AnyStartTag InsertForeign Acknowledged)
+      (svg-row name told (hollow q) says.stays says.plain)
+      ∙ ap₂ (λ name attributes. Some (svg_made name attributes q)) says.keeps back)
 
 svg-kept : (name : List ℕ) (attributes : List Attribute) (q : Spot) → is_kept_so name q (svg_made name attributes q) ≡ true
 unfolding svg_names_of
@@ -177,24 +147,24 @@ svg-there : (local : List ℕ) (attributes : List Attribute)
 unfolding svg_namespace html_namespace
 svg-there local attributes = rw (same-name local, (attribute_lists_by_value attributes attributes).1 refl) refl
 
-svg-written : (local : List ℕ) (attributes : List Attribute) → Says local → are_read_so attributes ≡ true
+svg-written : (local : List ℕ) (attributes : List Attribute) → Says local → are_svg_read attributes ≡ true
     → is_written_tag (svg_named local) attributes false ≡ true
 unfolding svg_namespace html_namespace
-svg-written local attributes says read = rw (says.low, told attributes read, says.tag, are-told attributes read) refl
+svg-written local attributes says read = rw (says.low, says.tag, svg-told attributes read) refl
 
 abbrev svg_test : QualName → List Attribute → Spot → Made → Bool
 svg_test name attributes q made =
     is_made name attributes (not (is_void name)) made.put && not made.closed && is_kept_so (lowered name.local) q made
 
-svg-started : (local : List ℕ) (attributes : List Attribute) (q : Spot) → Says local → are_read_so attributes ≡ true
-    → made_of (start_of local attributes) q ≡ Some (svg_made local attributes q)
+svg-started : (local : List ℕ) (attributes : List Attribute) (q : Spot) → Says local → are_svg_read attributes ≡ true
+    → made_of (start_of local (map told_attribute attributes)) q ≡ Some (svg_made local attributes q)
     → started (svg_named local) attributes false q ≡ Some (svg_made local attributes q)
 svg-started local attributes q says read made =
     let kept : is_kept_so (lowered local) q (svg_made local attributes q) ≡ true =
     ap (λ name. is_kept_so name q (svg_made local attributes q)) says.low ∙ svg-kept local attributes q in
     started-by (is_written_tag (svg_named local) attributes false) (made_of (start_of (lowered local) (map told_attribute attributes)) q)
     (svg_test (svg_named local) attributes q) (svg_made local attributes q) (svg-written local attributes says read)
-    (ap₂ (λ name attributes. made_of (start_of name attributes) q) says.low (told attributes read) ∙ made)
+    (ap (λ name. made_of (start_of name (map told_attribute attributes)) q) says.low ∙ made)
     (rw (svg-there local attributes, kept) refl)
 
 svg-named-so : (name : QualName) → is_svg name ≡ true → name ≡ svg_named name.local
@@ -216,10 +186,10 @@ own-open x h = by x.namespace refl h
 
 svg-path : (name : QualName) (attributes : List Attribute) (path : List Open) (p : Spot) → p.path ≡ path → is_svg name ≡ true
     → Says name.local
-    → takes_svg path ≡ true → keep_names attributes ≡ true → are_read_so attributes ≡ true
+    → takes_svg path ≡ true → are_svg_read attributes ≡ true
     → started name attributes false p ≡ Some (svg_made name.local attributes p)
-svg-path name attributes [] p e s says takes keeps read = absurd cc
-svg-path name attributes (x ∷ xs) p e s says takes keeps read =
+svg-path name attributes [] p e s says takes read = absurd cc
+svg-path name attributes (x ∷ xs) p e s says takes read =
     let parts = and_parts (is_svg_space x.namespace) (not (is_among x.name (names_in x.namespace set.SvgHtmlIntegrationPoint))) takes in
     let own = own-open x parts.0 in
     let out : is_among x.name (svg_names_of set.SvgHtmlIntegrationPoint) ≡ false =
@@ -228,7 +198,7 @@ svg-path name attributes (x ∷ xs) p e s says takes keeps read =
     let at : p.path ≡ svg_open x.name x.number ∷ xs = e ∙ ap (λ x. x ∷ xs) own in
     ap₂ (λ name path. started name attributes false (record p { path = path })) (svg-named-so name s) at
     ∙ (svg-started name.local attributes (in_svg x.name x.number xs p) says read
-    (made-of-svg name.local attributes x.name x.number xs p says out keeps)
+    (made-of-svg name.local (map told_attribute attributes) attributes x.name x.number xs p says out (svg-adjusted attributes read))
     ∙ ap (λ path. Some (svg_made name.local attributes (record p { path = path }))) (sym at))
 
 -- an element of SVG is put by its start tag
@@ -237,8 +207,49 @@ pub svg-put : (name : QualName) (attributes : List Attribute) (p : Spot) → IsP
 svg-put name attributes p is =
     let space = space-svg name.ns (and_parts (is_none name.prefix) (bytes_eq name.ns svg_namespace) is.svg).1 in
     ap (option_map before_kids)
-    (svg-path name attributes p.path p refl is.svg (said name.local is.named) is.takes is.keeps is.read)
+    (svg-path name attributes p.path p refl is.svg (said name.local is.named) is.takes is.read)
     ∙ ap (λ (space : names.Namespace). Some (nothing_yet (record p { path = opened_at space name.local p.path ∷ p.path }))) (sym space)
+
+-- `svg` in HTML takes the row of the body
+root-row : (attributes : List Attribute) (s : State)
+    → first_fit (rows mode.InBody) (start_of (codes "svg") attributes) s
+    ≡ row (StartTags set.Svg) (Reconstruct ▸ EnterForeign names.Svg) Acknowledged
+unfolding rows names_of
+root-row attributes s = refl
+
+root-passed : (attributes : List Attribute) → IsPassed (start_of (codes "svg") attributes)
+unfolding rows names_of
+root-passed attributes s = refl
+
+root-way : (m : InsertionMode) → is_flow m ≡ true → Way mode.InBody true false m
+root-way mode.InBody h = Here refl
+root-way mode.InCell h = FromCell refl refl refl
+root-way m h = absurd cc
+
+root-made : (told attributes : List Attribute) (p : Spot) → is_flow p.mode ≡ true → current_is is_html_element p.path ≡ true
+    → adjust_attributes names.Svg told ≡ attributes
+    → made_of (start_of (codes "svg") told) p ≡ Some (svg_made (codes "svg") attributes p)
+root-made told attributes p flow html back =
+    in-place mode.InBody true false p _ (svg_made (codes "svg") attributes p) html
+    (λ n. by-row n (rows mode.InBody) (start_of (codes "svg") told) (nothing_yet p)
+    (row (StartTags set.Svg) (Reconstruct ▸ EnterForeign names.Svg) Acknowledged) (root-row told (hollow p))
+    ∙ ap (λ attributes. Some (svg_made (codes "svg") attributes p)) back)
+    (λ _. root-passed told) (λ h. absurd cc) (root-way p.mode flow)
+
+svg-said : Says (codes "svg")
+svg-said = said (codes "svg") refl
+
+pub root-put : (name : QualName) (attributes : List Attribute) (p : Spot) → IsRootIn name attributes p
+    → option_map before_kids (started name attributes false p) ≡ Some (opened_svg name p)
+root-put name attributes p is =
+    let local : name.local ≡ codes "svg" = (bytes_eq-Decides name.local (codes "svg")).0 is.named in
+    let space = space-svg name.ns (and_parts (is_none name.prefix) (bytes_eq name.ns svg_namespace) is.svg).1 in
+    ap (option_map before_kids)
+    (ap (λ name. started name attributes false p) (svg-named-so name is.svg ∙ ap svg_named local)
+    ∙ svg-started (codes "svg") attributes p svg-said is.read (root-made (map told_attribute attributes) attributes p is.flow is.html
+    (svg-adjusted attributes is.read)))
+    ∙ ap₂ (λ (space : names.Namespace) local. Some (nothing_yet (record p { path = opened_at space local p.path ∷ p.path })))
+    (sym space) (sym local)
 
 -- END TAGS
 

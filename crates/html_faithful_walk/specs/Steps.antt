@@ -9,6 +9,7 @@ use Rattle.html_tokens.specs.declared.token.Token.TheVariants.{TagToken}
 use Rattle.html_rules.specs.Choice.{choose}
 use Rattle.html_rules.specs.ForeignContent.{is_html_element}
 use Rattle.html_rules.specs.State.{current_is}
+use Rattle.html_rules.specs.Tokens.{is_white}
 use Rattle.html_rules.specs.declared.insertion_mode.InsertionMode.{InsertionMode}
 use Rattle.html_rules.specs.declared.insertion_mode.InsertionMode.TheVariants as mode
 use Rattle.html_faithful.specs.Checks.{is_kept_so}
@@ -60,6 +61,36 @@ takes_text m frameset_ok = false
 abbrev pub takes_any_text : Spot → Bool
 takes_any_text p = choose (current_is is_html_element p.path) (λ _. takes_text p.mode p.frameset_ok)
     (λ _. not p.frameset_ok && takes_svg p.path)
+
+-- whether white space is put in the current node in a mode, and changes nothing else
+abbrev pub takes_white : InsertionMode → Bool
+takes_white mode.InHead = true
+takes_white mode.AfterHead = true
+takes_white mode.InBody = true
+takes_white mode.InCaption = true
+takes_white mode.InColumnGroup = true
+takes_white mode.InCell = true
+takes_white m = false
+
+abbrev pub takes_white_text : List ℕ → Spot → Bool
+takes_white_text text p = (current_is is_html_element p.path && takes_white p.mode) && is_white text
+
+-- and a comment
+abbrev pub takes_comments : InsertionMode → Bool
+takes_comments mode.BeforeHead = true
+takes_comments mode.InHead = true
+takes_comments mode.AfterHead = true
+takes_comments mode.InBody = true
+takes_comments mode.InTable = true
+takes_comments mode.InCaption = true
+takes_comments mode.InColumnGroup = true
+takes_comments mode.InTableBody = true
+takes_comments mode.InRow = true
+takes_comments mode.InCell = true
+takes_comments m = false
+
+abbrev pub takes_comment : Spot → Bool
+takes_comment p = current_is is_html_element p.path && takes_comments p.mode
 
 -- the start tag of an element, as it is read
 abbrev pub start_of : QualName → List Attribute → Tag

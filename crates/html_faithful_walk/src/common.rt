@@ -1,33 +1,39 @@
-//! The tags of common elements where they stand in a body or in a cell, without a look at the rows (HTML Standard, sections 13.2.6.4.7 and
-//! 13.2.6.4.15).
-ghost use Rattle.std.specs.Prelude.{◌≡◌, ◌&&◌, IfErr, IfOk, IsTrue, OnOk, Some, false, is_none, option_map, true};
+//! The tags of common elements where they stand in a body, in a cell, in the parts of a table or in the head, without a look at the rows
+//! (HTML Standard, sections 13.2.6.4.4, 13.2.6.4.7 to 13.2.6.4.9, and 13.2.6.4.13 to 13.2.6.4.15).
+ghost use Rattle.std.specs.Prelude.{◌≡◌, ◌&&◌, IfErr, IfOk, IsTrue, OnOk, None, Some, cond, false, is_none, option_map, true};
 ghost use Rattle.std.specs.List.{list_all};
 ghost use Rattle.markup.specs.Attributes.{are_distinct, has_local_name};
 ghost use Rattle.markup.specs.declared.fault.ParseFault.TheVariants.{Memory};
 ghost use Rattle.markup.specs.Trees.{is_html};
+ghost use Rattle.html_rules.specs.Actions.{or_mode};
 ghost use Rattle.html_rules.specs.State.{current_is, is_named};
 ghost use Rattle.html_faithful.specs.Walk.{finished, started};
 ghost use Rattle.html_faithful_judge.specs.Mades.{made_as};
 ghost use Rattle.html_faithful_judge.specs.Spots.{spot_of};
-ghost use Rattle.html_faithful_walk.specs.Common.{are_read_so, before_kids, closes_none, drops_line_feed, is_bare, is_closed_by};
-ghost use Rattle.html_faithful_walk.specs.Common.{is_emitted, is_flow, is_outside, is_read_so, keeps_frameset_ok, may_open, opened_as};
+ghost use Rattle.html_faithful_walk.specs.Common.{are_free, are_read_so, before_kids, closes_none, drops_line_feed, is_bare, is_closed_by};
+ghost use Rattle.html_faithful_walk.specs.Common.{ends_in, entered, is_emitted, is_flow, is_free, is_head, is_outside, is_plain_type};
+ghost use Rattle.html_faithful_walk.specs.Common.{is_read_so, is_text_kind, keeps_frameset_ok, may_open};
+ghost use Rattle.html_faithful_walk.specs.Common.{mode_after, mode_in, opened_as, raw_in};
+ghost use Rattle.html_faithful_walk.specs.Common.{spot_after, stands_in};
 
-use crate::kinds::{Kind, has_end, is_void_kind, kind_of};
+use crate::kinds::{Kind, has_end, is_free_name, is_void_kind, kind_of};
 use crate::names::is_html;
 use crate::texts::is_in_html;
 use html_faithful_judge::made::Made;
 use html_faithful_judge::spot::Spot;
 use html_faithful_judge::{is_attribute_name, is_kept};
+use html_names::equals_any_case;
 use html_rules::{InsertionMode, TagSet};
+use html_tokens::states::RawKind;
 use markup::{Attribute, KnownNamespace, LocalName, ParseFault, QualName};
 use std::alloc::Global;
 
 /// As many attributes are compared with one another; where more stand in a tag, the rows are asked.
-const FEW: usize = 8;
+pub(crate) const FEW: usize = 16;
 
 /// Whether the name of an attribute is in no namespace.
 #[tactic(auto, unfolding(markup::specs::Namespaces::name_of))]
-fn is_bare(name: &QualName) -> bool
+pub(crate) fn is_bare(name: &QualName) -> bool
     ensures { result ≡ is_bare name.now }
 {
     name.prefix.is_none() && name.ns.is_known(KnownNamespace::NoNamespace)
@@ -37,6 +43,9 @@ fn is_bare(name: &QualName) -> bool
 fn is_emitted(attribute: &Attribute) -> bool
     ensures { result ≡ is_emitted attribute.now }
 {
+    if is_free_name(&attribute.name.local) {
+        return is_kept(attribute.value.as_str());
+    }
     is_attribute_name(attribute.name.local.as_str()) && is_kept(attribute.value.as_str())
 }
 
@@ -45,6 +54,20 @@ fn is_read_so(attribute: &Attribute) -> bool
     ensures { result ≡ is_read_so attribute.now }
 {
     is_bare(&attribute.name) && is_emitted(attribute)
+}
+
+/// Whether an attribute is `type`, and is not `hidden`.
+fn is_plain_type(attribute: &Attribute) -> bool
+    ensures { result ≡ is_plain_type attribute.now }
+{
+    attribute.name.local.is("type") && !equals_any_case(attribute.value.as_str(), "hidden")
+}
+
+/// Whether no rule looks at an attribute that is read so, wherever it stands.
+fn is_free(attribute: &Attribute) -> bool
+    ensures { result ≡ is_free attribute.now }
+{
+    is_read_so(attribute) && (is_free_name(&attribute.name.local) || is_plain_type(attribute))
 }
 
 /// Whether one of some attributes has a local name.
@@ -62,7 +85,7 @@ fn are_all_read_so(attributes: &[Attribute]) -> bool
 }
 
 /// Whether no local name comes twice.
-fn are_distinct(attributes: &[Attribute]) -> bool
+pub(crate) fn are_distinct(attributes: &[Attribute]) -> bool
     ensures { result ≡ are_distinct attributes.now }
 {
     match attributes.split_first() {
@@ -81,11 +104,70 @@ pub(crate) fn are_read_so(attributes: &[Attribute]) -> bool
     are_all_read_so(attributes) && are_distinct(attributes)
 }
 
+/// Whether each of some attributes is free.
+fn are_all_free(attributes: &[Attribute]) -> bool
+    ensures { result ≡ list_all is_free attributes.now }
+{
+    attributes.iter().all(|attribute| is_free(attribute))
+}
+
+/// Whether some attributes, of which there are few, are read with the names and the values that they have, no name comes twice, and no rule
+/// looks at them.
+pub(crate) fn are_free(attributes: &[Attribute]) -> bool
+    ensures { IsTrue result → are_free attributes.now ≡ true }
+{
+    if attributes.len() > FEW {
+        return false;
+    }
+    are_all_free(attributes) && are_distinct(attributes)
+}
+
 /// Whether nodes stand as in a body: there, or in a cell.
-fn is_flow(mode: InsertionMode) -> bool
+pub(crate) fn is_flow(mode: InsertionMode) -> bool
     ensures { result ≡ is_flow mode }
 {
     matches!(mode, InsertionMode::InBody | InsertionMode::InCell)
+}
+
+/// Whether nodes stand as in the head, or as in a body.
+fn is_head(mode: InsertionMode) -> bool
+    ensures { result ≡ is_head mode }
+{
+    match mode {
+        InsertionMode::InHead => true,
+        _ => is_flow(mode),
+    }
+}
+
+/// Whether a start tag of a kind may only put its element in a mode.
+fn stands_in(kind: Kind, mode: InsertionMode) -> bool
+    ensures { result ≡ stands_in kind mode }
+{
+    match kind {
+        Kind::Metadata => is_head(mode),
+        Kind::Title => is_head(mode),
+        Kind::Style => is_head(mode),
+        Kind::Script => is_head(mode),
+        Kind::Section => matches!(mode, InsertionMode::InTable),
+        Kind::Row => matches!(mode, InsertionMode::InTableBody),
+        Kind::Cell => matches!(mode, InsertionMode::InRow),
+        _ => is_flow(mode),
+    }
+}
+
+/// Whether an end tag of a kind may only close its element in a mode.
+fn ends_in(kind: Kind, mode: InsertionMode) -> bool
+    ensures { result ≡ ends_in kind mode }
+{
+    match kind {
+        Kind::Title => matches!(mode, InsertionMode::Text),
+        Kind::Style => matches!(mode, InsertionMode::Text),
+        Kind::Script => matches!(mode, InsertionMode::Text),
+        Kind::Section => matches!(mode, InsertionMode::InTableBody),
+        Kind::Row => matches!(mode, InsertionMode::InRow),
+        Kind::Cell => matches!(mode, InsertionMode::InCell),
+        _ => is_flow(mode),
+    }
 }
 
 /// Whether no paragraph is open in button scope.
@@ -101,6 +183,7 @@ fn closes_none(spot: &Spot, kind: Kind) -> bool
 {
     match kind {
         Kind::Usual => false,
+        Kind::Staying => false,
         Kind::Void => false,
         Kind::Raw => false,
         Kind::RawWithScripts => false,
@@ -108,6 +191,17 @@ fn closes_none(spot: &Spot, kind: Kind) -> bool
         Kind::Phrase => true,
         Kind::Formatting => true,
         Kind::VoidPhrase => true,
+        Kind::Metadata => true,
+        Kind::Title => true,
+        Kind::Style => true,
+        Kind::Script => true,
+        Kind::Button => !spot
+            .as_stack()
+            .in_scope(TagSet::DefaultScope, TagSet::Button),
+        Kind::Table => is_outside(spot),
+        Kind::Section => spot.current_is(TagSet::TableScope),
+        Kind::Row => spot.current_is(TagSet::TableBodyContext),
+        Kind::Cell => spot.current_is(TagSet::TableRowContext),
         Kind::Link => !spot.lists_a() && !spot.link_open(),
         Kind::Block => is_outside(spot),
         Kind::Preformatted => is_outside(spot),
@@ -121,7 +215,7 @@ fn closes_none(spot: &Spot, kind: Kind) -> bool
 fn may_open(spot: &Spot, kind: Kind) -> bool
     ensures { result ≡ may_open kind (spot_of spot.now) }
 {
-    is_flow(spot.mode) && (is_in_html(spot) && closes_none(spot, kind))
+    stands_in(kind, spot.mode) && (is_in_html(spot) && closes_none(spot, kind))
 }
 
 /// Whether a line feed that comes first in an element of a kind is dropped.
@@ -137,8 +231,94 @@ fn keeps_frameset_ok(kind: Kind) -> bool
 {
     !matches!(
         kind,
-        Kind::Preformatted | Kind::Item | Kind::Description | Kind::VoidPhrase
+        Kind::Preformatted
+            | Kind::Item
+            | Kind::Description
+            | Kind::VoidPhrase
+            | Kind::Button
+            | Kind::Table
     )
+}
+
+/// The mode in an element of a kind, by the mode where it stands.
+fn mode_in(kind: Kind, mode: InsertionMode) -> InsertionMode
+    ensures { result ≡ mode_in kind mode }
+{
+    match kind {
+        Kind::Table => InsertionMode::InTable,
+        Kind::Section => InsertionMode::InTableBody,
+        Kind::Row => InsertionMode::InRow,
+        Kind::Cell => InsertionMode::InCell,
+        Kind::Title => InsertionMode::Text,
+        Kind::Style => InsertionMode::Text,
+        Kind::Script => InsertionMode::Text,
+        _ => mode,
+    }
+}
+
+/// Whether an element of a kind has text alone, in a mode of its own.
+fn is_text_kind(kind: Kind) -> bool
+    ensures { result ≡ is_text_kind kind }
+{
+    matches!(kind, Kind::Title | Kind::Style | Kind::Script)
+}
+
+/// The mode that comes back after the text of an element.
+fn mode_back(spot: &Spot) -> InsertionMode
+    ensures { result ≡ or_mode spot.now.orig_mode spot.now.mode }
+{
+    match spot.orig_mode {
+        Some(mode) => mode,
+        None => spot.mode,
+    }
+}
+
+/// The mode after the end of an element of a kind.
+fn mode_after(kind: Kind, spot: &Spot) -> InsertionMode
+    ensures { result ≡ mode_after kind (spot_of spot.now) }
+{
+    match kind {
+        Kind::Section => InsertionMode::InTable,
+        Kind::Row => InsertionMode::InTableBody,
+        Kind::Cell => InsertionMode::InRow,
+        Kind::Title => mode_back(spot),
+        Kind::Style => mode_back(spot),
+        Kind::Script => mode_back(spot),
+        _ => spot.mode,
+    }
+}
+
+/// The kind of the raw text of an element of a kind.
+fn raw_in(kind: Kind) -> Option<RawKind>
+    ensures { result ≡ raw_in kind }
+{
+    match kind {
+        Kind::Title => Some(RawKind::Rcdata),
+        Kind::Style => Some(RawKind::Rawtext),
+        Kind::Script => Some(RawKind::ScriptData),
+        _ => None,
+    }
+}
+
+/// The modes where an element of a kind is opened.
+fn enter(spot: &mut Spot, kind: Kind)
+    ensures { spot_of spot.new ≡ entered kind (spot_of spot.old) }
+{
+    if is_text_kind(kind) {
+        spot.orig_mode = Some(spot.mode);
+    }
+    spot.mode = mode_in(kind, spot.mode);
+}
+
+/// The current node, an element of a kind, is closed.
+fn close(spot: &mut Spot, kind: Kind)
+    ensures { spot_of spot.new ≡ spot_after kind (spot_of spot.old) }
+{
+    spot.mode = mode_after(kind, spot);
+    if is_text_kind(kind) {
+        spot.orig_mode = None;
+    }
+    spot.close_current();
 }
 
 /// An element of a kind and a name is put, and opened, unless it is void.
@@ -147,7 +327,9 @@ fn open(made: &mut Made, alloc: Global, kind: Kind, name: &LocalName) -> Result<
     ensures fault { IfErr result (λ fault. fault ≡ Memory) }
 {
     made.restart();
+    made.raw = raw_in(kind);
     made.drops_line_feed = drops_line_feed(kind);
+    enter(&mut made.spot, kind);
     if !keeps_frameset_ok(kind) {
         made.spot.frameset_ok = false;
     }
@@ -204,7 +386,7 @@ fn is_current(spot: &Spot, name: &LocalName) -> bool
 fn is_closed(spot: &Spot, kind: Kind, name: &LocalName) -> bool
     ensures { IsTrue result → is_closed_by kind name.now (spot_of spot.now) ≡ true }
 {
-    has_end(kind) && (is_flow(spot.mode) && is_current(spot, name))
+    has_end(kind) && (ends_in(kind, spot.mode) && is_current(spot, name))
 }
 
 /// The end tag of an element comes; answers whether it is common, and its tag only closes it.
@@ -219,6 +401,6 @@ pub(crate) fn finish_common(made: &mut Made, name: &QualName) -> bool
     if !is_closed(&made.spot, kind, &name.local) {
         return false;
     }
-    made.spot.close_current();
+    close(&mut made.spot, kind);
     true
 }

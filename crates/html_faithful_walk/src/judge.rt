@@ -13,6 +13,7 @@ ghost use Rattle.html_faithful_walk.specs.Firsts.{IsEntered, IsEnteredBy, comes_
 ghost use Rattle.html_faithful_walk.specs.Steps.{parent_of, spot_if};
 ghost use Rattle.html_faithful_walk.specs.Walking.{Enters, Opens, Passes, TakesText, after_stand, finish_by, may_end, may_hold, walk_at};
 
+use crate::names::is_void;
 use crate::parents::Parent;
 use crate::stand::{After, Inside, Stand, what_may_stand};
 use crate::steps::{finish, is_written_so, start};
@@ -168,7 +169,8 @@ impl<'a> Judge<'a> {
         if !is_written_so(scripting, name, self.made.raw) {
             return Ok(None);
         }
-        match what_may_stand(&self.made, alloc, name)? {
+        let void = is_void(name);
+        match what_may_stand(&self.made, alloc, name, void)? {
             Some(inside) => {
                 let parent = self.stand.parent;
                 self.stand = Stand {
@@ -177,7 +179,7 @@ impl<'a> Judge<'a> {
                     drops: self.made.drops_line_feed,
                     inside,
                 };
-                Ok(Some(After::of(name, parent)))
+                Ok(Some(After::of(name, parent, void)))
             }
             None => Ok(None),
         }

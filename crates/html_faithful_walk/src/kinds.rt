@@ -1,9 +1,11 @@
 //! What is known of an HTML element by its name alone: how it is written (HTML Standard, section 13.3), and, where it is common, which rows
 //! of the mode "in body" are for its tags (section 13.2.6.4.7).
 ghost use Rattle.std.specs.Prelude.{◌≡◌};
-ghost use Rattle.html_faithful_walk.specs.Kinds.{IsKindOf, has_end, is_raw_kind, is_svg_kind, is_void_kind, keeping, keeps_name, kinds};
+ghost use Rattle.html_faithful_walk.specs.Kinds.{IsKindOf, free, has_end, is_free_name, is_raw_kind, is_staying_kind, is_svg_kind};
+ghost use Rattle.html_faithful_walk.specs.Kinds.{is_told_back, is_void_kind, kinds, told_back};
 
-use crate::known_kinds::{KEEPING, KINDS};
+use crate::known_kinds::{FREE, KINDS, TOLD_BACK};
+use html_faithful_judge::is_attribute_name;
 use markup::LocalName;
 
 /// The kind of an HTML element.
@@ -17,6 +19,8 @@ pub(crate) enum Kind {
     Raw,
     /// One whose text is written as it is where scripts run.
     RawWithScripts,
+    /// One that stays open where it ends.
+    Staying,
     /// One that is only opened, and closed by its end tag.
     Phrase,
     /// A formatting element.
@@ -35,6 +39,24 @@ pub(crate) enum Kind {
     Description,
     /// A void element that is put anywhere in a body.
     VoidPhrase,
+    /// A button.
+    Button,
+    /// A table.
+    Table,
+    /// The head, a body or the foot of a table.
+    Section,
+    /// A row of a table.
+    Row,
+    /// A cell of a table.
+    Cell,
+    /// A void element of the head.
+    Metadata,
+    /// A title, whose text is escaped.
+    Title,
+    /// A style sheet, or what is shown without frames: its text is written as it is.
+    Style,
+    /// A script, whose text is written as it is.
+    Script,
     /// An element of SVG; of an HTML element of that name nothing is known here.
     Svg,
 }
@@ -59,23 +81,43 @@ pub(crate) fn kind_of(name: &LocalName) -> Kind
     }
 }
 
-/// Whether attributes of SVG keep known names, lent.
-fn keeping() -> &'static [bool]
-    ensures { result.now ≡ keeping }
+/// Whether attributes of SVG have known names again, once they are read in lower case, lent.
+fn told_back() -> &'static [bool]
+    ensures { result.now ≡ told_back }
 {
-    &KEEPING
+    &TOLD_BACK
 }
 
-/// Whether an attribute of SVG keeps a name.
-pub(crate) fn keeps_name(name: &LocalName) -> bool
-    ensures { result ≡ keeps_name name.now }
+/// Whether an attribute of SVG has a name again, once it is read in lower case.
+pub(crate) fn is_told_back(name: &LocalName) -> bool
+    ensures { result ≡ is_told_back name.now }
 {
     match name.known() {
-        Some(known) => match keeping().get(known.place as usize) {
-            Some(keeps) => *keeps,
+        Some(known) => match told_back().get(known.place as usize) {
+            Some(told) => *told,
             None => false,
         },
-        None => true,
+        None => is_attribute_name(name.as_str()),
+    }
+}
+
+/// Whether attributes of known names are free, lent.
+fn free() -> &'static [bool]
+    ensures { result.now ≡ free }
+{
+    &FREE
+}
+
+/// Whether an attribute of a name is emitted with it, keeps it in foreign content, and no rule looks at it.
+pub(crate) fn is_free_name(name: &LocalName) -> bool
+    ensures { result ≡ is_free_name name.now }
+{
+    match name.known() {
+        Some(known) => match free().get(known.place as usize) {
+            Some(is_free) => *is_free,
+            None => false,
+        },
+        None => is_attribute_name(name.as_str()),
     }
 }
 
@@ -83,7 +125,14 @@ pub(crate) fn keeps_name(name: &LocalName) -> bool
 pub(crate) fn is_void_kind(kind: Kind) -> bool
     ensures { result ≡ is_void_kind kind }
 {
-    matches!(kind, Kind::Void | Kind::VoidPhrase)
+    matches!(kind, Kind::Void | Kind::VoidPhrase | Kind::Metadata)
+}
+
+/// Whether an element of a kind stays open where it ends.
+pub(crate) fn is_staying_kind(kind: Kind) -> bool
+    ensures { result ≡ is_staying_kind kind }
+{
+    matches!(kind, Kind::Staying)
 }
 
 /// Whether the text of an element of a kind is written as it is.
@@ -92,6 +141,8 @@ pub(crate) fn is_raw_kind(scripting: bool, kind: Kind) -> bool
 {
     match kind {
         Kind::Raw => true,
+        Kind::Style => true,
+        Kind::Script => true,
         Kind::RawWithScripts => scripting,
         _ => false,
     }
@@ -103,7 +154,15 @@ pub(crate) fn has_end(kind: Kind) -> bool
 {
     !matches!(
         kind,
-        Kind::Usual | Kind::Void | Kind::Raw | Kind::RawWithScripts | Kind::VoidPhrase | Kind::Svg
+        Kind::Usual
+            | Kind::Staying
+            | Kind::Void
+            | Kind::Raw
+            | Kind::RawWithScripts
+            | Kind::VoidPhrase
+            | Kind::Table
+            | Kind::Metadata
+            | Kind::Svg
     )
 }
 

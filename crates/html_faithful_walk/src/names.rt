@@ -3,7 +3,7 @@ ghost use Rattle.std.specs.Prelude.{◌≡◌};
 ghost use Rattle.markup.specs.Trees.{is_html, is_raw};
 ghost use Rattle.html_faithful.specs.Walk.{is_template, is_void, stays_open};
 
-use crate::kinds::{is_raw_kind, is_void_kind, kind_of};
+use crate::kinds::{is_raw_kind, is_staying_kind, is_void_kind, kind_of};
 use markup::{KnownNamespace, LocalName, QualName};
 
 /// Whether an element is HTML's.
@@ -39,5 +39,5 @@ pub(crate) fn is_template(name: &QualName) -> bool
 pub(crate) fn stays_open(name: &QualName) -> bool
     ensures { result ≡ stays_open name.now }
 {
-    is_html(name) && (name.local.is("body") || name.local.is("html"))
+    is_html(name) && is_staying_kind(kind_of(&name.local))
 }

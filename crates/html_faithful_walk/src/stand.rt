@@ -4,10 +4,10 @@ ghost use Rattle.std.specs.Str.{bytes_eq};
 ghost use Rattle.markup.specs.declared.fault.ParseFault.TheVariants.{Memory};
 ghost use Rattle.html_forest.specs.Views.{characters};
 ghost use Rattle.html_faithful.specs.Forms.{lowered};
+ghost use Rattle.html_faithful.specs.Walk.{is_void};
 ghost use Rattle.html_faithful_judge.specs.Mades.{made_as};
 ghost use Rattle.html_faithful_walk.specs.Walking.{after_of, after_stand, after_text_of, inside_of, takes_elements};
 
-use crate::names::is_void;
 use crate::parents::Parent;
 use html_faithful_judge::made::Made;
 use html_faithful_judge::{is_raw_text, lowered};
@@ -107,16 +107,19 @@ fn is_lowered(alloc: Global, name: &LocalName) -> Result<bool, ParseFault>
     Ok(lowered(alloc, name)? == *name)
 }
 
-/// Which nodes may stand in an element of this name that was opened; nothing where none may, and it may not have none.
+/// Which nodes may stand in an element of this name that was opened, and is void or is not; nothing where none may, and it may not have
+/// none.
 pub(crate) fn what_may_stand<'a>(
     made: &Made,
     alloc: Global,
     name: &'a QualName,
+    void: bool,
 ) -> Result<Option<Inside<'a>>, ParseFault>
+    requires { void ≡ is_void name.now }
     ensures ok { IfOk result (λ inside. inside ≡ inside_of name.entry (made_as made.now)) }
     ensures fault { IfErr result (λ fault. fault ≡ Memory) }
 {
-    if is_void(name) {
+    if void {
         if !made.drops_line_feed && made.raw.is_none() {
             return Ok(Some(Inside::Done));
         }
@@ -135,11 +138,12 @@ pub(crate) fn what_may_stand<'a>(
 }
 
 impl<'a> After<'a> {
-    /// What comes after the nodes in an element.
-    pub(crate) fn of(name: &'a QualName, parent: Parent) -> After<'a>
+    /// What comes after the nodes in an element, which is void or is not.
+    pub(crate) fn of(name: &'a QualName, parent: Parent, void: bool) -> After<'a>
+        requires { void ≡ is_void name.now }
         ensures { result ≡ after_of name.entry parent }
     {
-        let finishes = if is_void(name) { None } else { Some(name) };
+        let finishes = if void { None } else { Some(name) };
         After { finishes, parent }
     }
 }

@@ -14,9 +14,9 @@ ghost use Rattle.html_faithful_judge.specs.Tokens.{IsNamed, token_of};
 ghost use Rattle.html_faithful_walk.specs.Steps.{ends_as, is_started, spot_if, started_by};
 
 use crate::checks::{Closing, is_kept_closed, is_kept_open, what_closes};
-use crate::common::{finish_common, start_common};
+use crate::common::{are_free, finish_common, start_common};
 use crate::names::{is_html, is_raw, is_void, stays_open};
-use crate::svg::{finish_svg, start_svg};
+use crate::svg::{finish_svg, start_root, start_svg};
 use crate::tags::{end_tag, is_made, written_tag};
 use html_faithful_judge::made::Made;
 use html_faithful_judge::tokens::{Content, NamedToken};
@@ -60,11 +60,32 @@ pub(crate) fn start(
     if start_svg(made, alloc, name, attributes)? {
         return Ok(true);
     }
+    if start_root(made, alloc, name, attributes)? {
+        return Ok(true);
+    }
     start_by_rows(made, alloc, name, attributes, template)
 }
 
-/// The same, by the rows that it takes.
+/// The same, by the rows that it takes: those of the tag without its attributes, where no rule looks at these.
 fn start_by_rows(
+    made: &mut Made,
+    alloc: Global,
+    name: &QualName,
+    attributes: &[Attribute],
+    template: bool,
+) -> Result<bool, ParseFault>
+    ensures ok { IfOk result (λ goes_on. option_map before_kids (started name.now attributes.now template (spot_of made.old.spot))
+        ≡ provided goes_on (before_kids (made_as made.new))) }
+    ensures fault { IfErr result (λ fault. fault ≡ Memory) }
+{
+    if are_free(attributes) {
+        return start_with(made, alloc, name, &[], template);
+    }
+    start_with(made, alloc, name, attributes, template)
+}
+
+/// The same, with what was put.
+fn start_with(
     made: &mut Made,
     alloc: Global,
     name: &QualName,

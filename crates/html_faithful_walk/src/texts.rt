@@ -10,7 +10,7 @@ ghost use Rattle.html_rules.specs.State.{current_is};
 ghost use Rattle.html_faithful_judge.specs.Mades.{made_as, put_as};
 ghost use Rattle.html_faithful_judge.specs.Spots.{spot_of};
 ghost use Rattle.html_faithful_walk.specs.Steps.{is_character_walked, is_comment_made, is_text_made, parent_of, spot_if, takes_any_text};
-ghost use Rattle.html_faithful_walk.specs.Steps.{takes_text};
+ghost use Rattle.html_faithful_walk.specs.Steps.{takes_comment, takes_comments, takes_text, takes_white, takes_white_text};
 
 use crate::checks::is_kept_open;
 use crate::parents::Parent;
@@ -55,6 +55,28 @@ pub(crate) fn put_comment(
     ensures fault { IfErr result (λ fault. fault ≡ Memory) }
 {
     let current = parent.is_current(&made.spot);
+    if !current {
+        return put_comment_by_rows(made, alloc, parent, current, text);
+    }
+    if takes_comment(&made.spot) {
+        return Ok(true);
+    }
+    put_comment_by_rows(made, alloc, parent, current, text)
+}
+
+/// The same, by the rows that it takes, where its parent is the current node or is not.
+fn put_comment_by_rows(
+    made: &mut Made,
+    alloc: Global,
+    parent: Parent,
+    current: bool,
+    text: &str,
+) -> Result<bool, ParseFault>
+    requires { current ≡ is_current (parent_of parent) (spot_of made.old.spot) }
+    ensures ok { IfOk result (λ goes_on. comment_put (parent_of parent) (chars text.now) (spot_of made.old.spot)
+        ≡ spot_if goes_on (spot_of made.new.spot)) }
+    ensures fault { IfErr result (λ fault. fault ≡ Memory) }
+{
     let no_name = LocalName::empty(alloc);
     let token = NamedToken {
         content: Content::Comment(text),
@@ -120,6 +142,54 @@ fn takes_any_text(spot: &Spot) -> bool
     }
 }
 
+/// Whether white space is put in the current node in a mode, and changes nothing else.
+fn takes_white(mode: InsertionMode) -> bool
+    ensures { result ≡ takes_white mode }
+{
+    matches!(
+        mode,
+        InsertionMode::InHead
+            | InsertionMode::AfterHead
+            | InsertionMode::InBody
+            | InsertionMode::InCaption
+            | InsertionMode::InColumnGroup
+            | InsertionMode::InCell
+    )
+}
+
+/// Whether a text is white space that is put in the current node, and changes nothing else.
+fn takes_white_text(text: &str, spot: &Spot) -> bool
+    ensures { result ≡ takes_white_text (chars text.now) (spot_of spot.now) }
+{
+    (is_in_html(spot) && takes_white(spot.mode)) && is_white(text)
+}
+
+/// Whether a comment is put in the current node in a mode, and changes nothing else.
+fn takes_comments(mode: InsertionMode) -> bool
+    ensures { result ≡ takes_comments mode }
+{
+    matches!(
+        mode,
+        InsertionMode::BeforeHead
+            | InsertionMode::InHead
+            | InsertionMode::AfterHead
+            | InsertionMode::InBody
+            | InsertionMode::InTable
+            | InsertionMode::InCaption
+            | InsertionMode::InColumnGroup
+            | InsertionMode::InTableBody
+            | InsertionMode::InRow
+            | InsertionMode::InCell
+    )
+}
+
+/// Whether a comment is put in the current node, and changes nothing else.
+fn takes_comment(spot: &Spot) -> bool
+    ensures { result ≡ takes_comment (spot_of spot.now) }
+{
+    is_in_html(spot) && takes_comments(spot.mode)
+}
+
 /// A character is put in the current node; answers whether it is, and nothing else is done. The name is empty.
 fn put_character(
     made: &mut Made,
@@ -157,6 +227,9 @@ fn walk_text(
     ensures fault { IfErr result (λ fault. fault ≡ Memory) }
 {
     if takes_any_text(&made.spot) {
+        return Ok(true);
+    }
+    if takes_white_text(text, &made.spot) {
         return Ok(true);
     }
     let mut goes_on = true;

@@ -7,7 +7,6 @@ ghost use Rattle.markup.specs.declared.fault.ParseFault.TheVariants.{Memory};
 ghost use Rattle.html_forest.specs.Views.{attributes};
 ghost use Rattle.html_faithful.specs.Walk.{first_spot, is_at_end, is_end_mode, is_faithful_forest};
 ghost use Rattle.html_faithful_judge.specs.Spots.{spot_of};
-ghost use Rattle.html_rules.specs.declared.insertion_mode.InsertionMode.TheVariants.{BeforeHtml};
 ghost use Rattle.markup.specs.declared.quirks.QuirksMode.TheVariants.{Quirks};
 ghost use Rattle.html_faithful_walk.specs.First.{IsFirst, is_end};
 ghost use Rattle.html_faithful_walk.specs.Firsts.{IsPast, IsTagTaken, IsUpward, point_of};
@@ -224,7 +223,7 @@ fn unended(judge: &Judge<'_>, alloc: Global, document: NodeId) -> Result<Option<
 
 /// The spot where the root stands, if no doctype is before it.
 fn first_spot(alloc: Global, scripting: bool) -> Spot
-    ensures { spot_of result ≡ first_spot scripting BeforeHtml Quirks }
+    ensures { spot_of result ≡ first_spot scripting Quirks }
 {
     Spot {
         mode: InsertionMode::BeforeHtml,

@@ -13,4 +13,4 @@ returns-clause-ok c closed =
     (sym c.is_plain_html.ensures ∙ c.if-not-is_plain_html.false) in
     end-closes c.kind_of-kind.result c.args.name.now (spot_of c.args.made.now.spot) c.kind_of-kind.ensures html.0 html.1
     (c.is_closed.ensures c.if-not-is_closed.false)
-    ∙ ap (λ (p : Spot). Some p) (sym c.close_current.ensures)
+    ∙ ap (λ (p : Spot). Some p) (sym c.close.ensures)

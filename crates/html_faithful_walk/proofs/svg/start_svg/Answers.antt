@@ -12,7 +12,6 @@ returns-clause-ok c put =
       named = svg-kind c.kind_of-kind.result c.args.name.now.local (sym c.is_svg_kind.ensures ∙ c.if-not-is_svg_kind.false)
           c.kind_of-kind.ensures;
       takes = sym c.takes_svg.ensures ∙ c.if-not-takes_svg.false;
-      keeps = sym c.keep_names.ensures ∙ c.if-not-keep_names.false;
-      read = c.are_read_so.ensures c.if-not-are_read_so.false;
+      read = c.are_svg_read.ensures c.if-not-are_svg_read.false;
     }
     ∙ ap (λ (made : Made). Some made) (sym c.in_ok-open.ensures.ok)
