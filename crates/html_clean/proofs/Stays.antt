@@ -17,9 +17,11 @@ use Rattle.html_clean.specs.Names.{is_void}
 use Rattle.html_clean.specs.Policies.{added_attributes, added_if, fate_by, is_kept_attribute, is_kept_name, is_mark}
 use Rattle.html_clean.specs.Policies.{is_plain_character, is_safe_attribute_name, kept_attributes, kept_after, left_attribute, plain_text}
 use Rattle.html_clean.specs.Policies.{without_marks}
+use Rattle.html_clean.specs.Bases.{absolute}
+use Rattle.html_clean.specs.Proxies.{proxied}
 use Rattle.html_clean.specs.Values.{allowed_words, allows, is_rule_for, left_of, meets, meets_all, prefixed, value_left}
 use Rattle.html_clean.specs.declared.policy.Allowed.{Allowed}
-use Rattle.html_clean.specs.declared.policy.Allowed.TheVariants.{OneOf, Words, Number, Schemes, Prefixed}
+use Rattle.html_clean.specs.declared.policy.Allowed.TheVariants.{OneOf, Words, Number, Schemes, Prefixed, Proxied, Absolute}
 use Rattle.html_clean.specs.declared.policy.ValueRule.{ValueRule}
 use Rattle.html_clean.specs.declared.elements.Fate.{Fate}
 use Rattle.html_clean.specs.declared.elements.Fate.TheVariants.{Kept}
@@ -50,6 +52,8 @@ one-same true (Schemes schemes) value h = refl
 one-same true (Prefixed form prefix) value h =
     let p = and_parts (not (is_no_text value)) (bytes_eq (prefixed form prefix value) value) h in
     (bytes_eq-Decides (prefixed form prefix value) value).0 p.1
+one-same true (Proxied prefix) value h = (bytes_eq-Decides (proxied prefix value) value).0 h
+one-same true (Absolute base) value h = (bytes_eq-Decides (absolute base value) value).0 h
 
 value-same : (rules : List ValueRule) (element name value : List ℕ) → meets_all rules element name value ≡ true
     → value_left rules element name value ≡ value

@@ -9,7 +9,7 @@ use Rattle.std.proofs.lemmas.List.{at_drop_more}
 use Rattle.std.proofs.lemmas.List.Elements.{filter-append}
 use Rattle.html_clean.specs.Urls.{has_begun, is_blank, is_break, is_scheme_character, option_cons, prepended, scheme_after}
 use Rattle.html_clean.specs.Urls.{scheme_by, scheme_rest, step_of, url_text, without_blanks}
-use Rattle.html_clean.specs.declared.url.SchemeStep.TheVariants.{Ends, Stops, Grows}
+use Rattle.html_clean.specs.declared.kinds.SchemeStep.TheVariants.{Ends, Stops, Grows}
 
 -- THE TEXT
 

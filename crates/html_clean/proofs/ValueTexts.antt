@@ -10,7 +10,8 @@ use Rattle.std.proofs.lemmas.List.{at_drop_more}
 use Rattle.std.proofs.lemmas.Str.{chars_past_char}
 use Rattle.html_round_trip.specs.Slices.Forms.{is_no_text}
 use Rattle.html_clean.proofs.KeptTexts.{empty-is}
-use Rattle.html_clean.specs.Values.{after_sign, begins_with, joined_after, with_word, word_if, words_from}
+use Rattle.html_clean.specs.Beginnings.{after_beginning, begins_with}
+use Rattle.html_clean.specs.Values.{after_sign, joined_after, with_word, word_if, words_from}
 use Rattle.html_clean.proofs.Mapped.{dropped-more}
 
 -- BEGINNINGS
@@ -31,6 +32,26 @@ pub begins-none : (cs old : List ℕ) (n c : ℕ) → length old ≡ 0 → (n < 
 unfolding chars
 begins-none cs old n c e h = ap (λ r. begins_with (drop n cs) (chars r)) (empty-is old e)
     ∙ at_drop_more (λ xs. begins_with xs []) cs n c h.0
+
+-- the same of what follows a beginning
+pub after-at : (cs old new : List ℕ) (n c d : ℕ) (b : Bool) → IsUtf8 old → old ≡ encode d ++ new
+    → (n < length cs) × (c ≡ get_or cs n c) → nat_eq c d ≡ b
+    → after_beginning (drop n cs) (chars old) ≡ cond b (after_beginning (drop (n + 1) cs) (chars new)) None
+after-at cs old new n c d b u e h same =
+    ap (after_beginning (drop n cs)) (chars_past_char old new d u e)
+    ∙ (at_drop_more (λ xs. after_beginning xs (d ∷ chars new)) cs n c h.0
+    ∙ (ap (λ x. after_beginning (x ∷ drop (n + 1) cs) (d ∷ chars new)) (sym h.1)
+    ∙ ap (λ b. cond b (after_beginning (drop (n + 1) cs) (chars new)) None) same))
+
+pub after-none : (cs old : List ℕ) (n c : ℕ) → length old ≡ 0 → (n < length cs) × (c ≡ get_or cs n c)
+    → after_beginning (drop n cs) (chars old) ≡ None
+unfolding chars
+after-none cs old n c e h = ap (λ r. after_beginning (drop n cs) (chars r)) (empty-is old e)
+    ∙ at_drop_more (λ xs. after_beginning xs []) cs n c h.0
+
+-- three characters more
+pub three-more : (text : List ℕ) (a b c : ℕ) → ((text ++ a ∷ []) ++ b ∷ []) ++ c ∷ [] ≡ text ++ (a ∷ (b ∷ (c ∷ [])))
+three-more text a b c = simp append_assoc
 
 -- NUMBERS
 

@@ -1,12 +1,14 @@
 -- How much is left of trees, and what is written of them within bounds.
-use Rattle.std.specs.Prelude.{◌≡◌, ℕ, ◌-◌, max, nat_lt, cond, List, [], ◌∷◌, length, Option, Some, None, Result, Ok, Err, encode_utf8_all}
+use Rattle.std.specs.Prelude.{◌≡◌, ℕ, ◌-◌, max, nat_lt, cond, List, [], ◌∷◌, length, Option, Some, None, Result, Ok, Err, IfOk}
+use Rattle.std.specs.Prelude.{encode_utf8_all}
 use Rattle.markup.specs.Calls.{Call, Refuses, Step, calls_of}
 use Rattle.markup.specs.Calls.Call.{StartElem, EndElem}
 use Rattle.markup.specs.Trees.{Trees}
 use Rattle.html_serialize.specs.Puts.{Broke, WriterView, with_bytes}
 use Rattle.html_clean.specs.Cleaned.{cleaned, pieces_of}
 use Rattle.html_clean.specs.Counts.{counted_up, counts_of}
-use Rattle.html_clean.specs.Pieces.{written_pieces}
+use Rattle.html_clean.specs.Pieces.{Piece, written_pieces}
+use Rattle.html_clean.specs.Written.{IsLeft}
 use Rattle.html_clean.specs.declared.bounding.Bound.{Bound}
 use Rattle.html_clean.specs.declared.bounding.Bound.TheVariants.{Depth, Elements, Bytes}
 use Rattle.html_clean.specs.declared.bounding.BoundedFault.{BoundedFault}
@@ -69,14 +71,29 @@ or_bytes None most count = cond (nat_lt most count) (Some Bytes) None
 or_bytes (Some bound) most count = Some bound
 
 -- the first bound that what is left of trees passes
-abbrev pub beyond : Bounds → Policy → Trees → Option Bound
+unfoldable pub beyond : Bounds → Policy → Trees → Option Bound
 beyond bounds policy trees = or_bytes (beyond_measure bounds (measure_of policy trees)) bounds.bytes (length (bytes_of policy trees))
 
--- What is left of trees was written, and passes no bound; or it passes one, and nothing was written; or memory was wanted, and nothing
--- was written; or a beginning of it was written, and then a write failed.
-abbrev pub WritesWithin : Bounds → Policy → Trees → WriterView → Result Cleaned BoundedFault → WriterView → Type 0
-WritesWithin bounds policy trees old (Ok counts) new =
-    (beyond bounds policy trees ≡ None) × (counts ≡ counts_of policy trees) × (new ≡ with_bytes old (bytes_of policy trees))
-WritesWithin bounds policy trees old (Err (Beyond bound)) new = (beyond bounds policy trees ≡ Some bound) × (new ≡ old)
-WritesWithin bounds policy trees old (Err Memory) new = new ≡ old
-WritesWithin bounds policy trees old (Err Write) new = (beyond bounds policy trees ≡ None) × Broke old (bytes_of policy trees) new
+-- what an answer says of the first bound that is passed: it is the one that is named, and where anything was written there is none
+abbrev pub NamesBound : Option Bound → Result Cleaned BoundedFault → Type 0
+NamesBound first (Ok counts) = first ≡ None
+NamesBound first (Err (Beyond bound)) = first ≡ Some bound
+NamesBound first (Err Memory) = Unit {0}
+NamesBound first (Err Write) = first ≡ None
+
+-- all of the bytes were written; or a beginning of them, and then a write failed; or nothing
+abbrev pub PutsOrNot : WriterView → List ℕ → Result Cleaned BoundedFault → WriterView → Type 0
+PutsOrNot old bytes (Ok counts) new = new ≡ with_bytes old bytes
+PutsOrNot old bytes (Err (Beyond bound)) new = new ≡ old
+PutsOrNot old bytes (Err Memory) new = new ≡ old
+PutsOrNot old bytes (Err Write) new = Broke old bytes new
+
+-- These tags and texts are what is left of the trees. They were written, and what was taken away is counted; or a beginning of them, and
+-- then a write failed; or nothing, since they pass a bound or memory was wanted.
+pub record WritesWithin (bounds : Bounds) (policy : Policy) (trees : Trees) (old : WriterView) (result : Result Cleaned BoundedFault)
+    (new : WriterView) : Type 0 where
+  pub pieces : List Piece
+  pub left : IsLeft policy trees pieces
+  pub bound : NamesBound (beyond bounds policy trees) result
+  pub writes : PutsOrNot old (encode_utf8_all (written_pieces pieces)) result new
+  pub counts : IfOk result (λ counts. counts ≡ counts_of policy trees)

@@ -1,12 +1,12 @@
 -- Which word of a policy is never kept.
-use Rattle.std.specs.Prelude.{ℕ, Bool, false, cond, ◌&&◌, ◌||◌, not, List, [], ◌∷◌, Option, Some, None, codes}
+use Rattle.std.specs.Prelude.{ℕ, Bool, true, false, cond, ◌&&◌, ◌||◌, not, List, [], ◌∷◌, Option, Some, None, codes}
 use Rattle.std.specs.Str.{bytes_eq}
 use Rattle.html_clean.specs.Names.{is_fragment_name, is_safe_attribute, is_safe_beginning, is_safe_name, is_safe_scheme}
 use Rattle.html_clean.specs.Pictures.{is_picture}
 use Rattle.html_clean.specs.Policies.{has_url}
 use Rattle.html_clean.specs.declared.policy.Addition.{Addition}
 use Rattle.html_clean.specs.declared.policy.Allowed.{Allowed}
-use Rattle.html_clean.specs.declared.policy.Allowed.TheVariants.{OneOf, Words, Number, Schemes, Prefixed}
+use Rattle.html_clean.specs.declared.policy.Allowed.TheVariants.{OneOf, Words, Number, Schemes, Prefixed, Proxied, Absolute}
 use Rattle.html_clean.specs.declared.policy.Policy.{Policy}
 use Rattle.html_clean.specs.declared.policy.Rule.{Rule}
 use Rattle.html_clean.specs.declared.policy.ValueRule.{ValueRule}
@@ -46,6 +46,8 @@ unsafe_in_limit pictures (Words words beginnings) = None
 unsafe_in_limit pictures (Number least most) = None
 unsafe_in_limit pictures (Schemes schemes) = unsafe_scheme pictures schemes.items
 unsafe_in_limit pictures (Prefixed form prefix) = None
+unsafe_in_limit pictures (Proxied prefix) = None
+unsafe_in_limit pictures (Absolute base) = None
 
 -- whether a rule is for the URLs of pictures alone
 abbrev pub is_of_pictures : Option (List ℕ) → List ℕ → Bool
@@ -63,14 +65,34 @@ unsafe_addition policy [] = None
 unsafe_addition policy (addition ∷ rest) =
     cond (is_safe_attribute addition.name && not (has_url policy addition.name)) (unsafe_addition policy rest) (Some addition.name)
 
+-- whether a rule changes a URL, and is for an attribute that has a list of them
+abbrev pub changes_url : Allowed → Bool
+changes_url (OneOf texts) = false
+changes_url (Words words beginnings) = false
+changes_url (Number least most) = false
+changes_url (Schemes schemes) = false
+changes_url (Prefixed form prefix) = false
+changes_url (Proxied prefix) = true
+changes_url (Absolute base) = true
+
+abbrev pub changes_list : ValueRule → Bool
+changes_list rule = bytes_eq rule.attribute (codes "srcset") && changes_url rule.allowed
+
+-- the attribute of the first such rule
+abbrev pub changed_list : List ValueRule → Option (List ℕ)
+changed_list [] = None
+changed_list (rule ∷ rules) = cond (changes_list rule) (Some rule.attribute) (changed_list rules)
+
 -- the first word that is never kept: of elements, then of attributes of rules, of attributes of all, of beginnings of their names, of
--- attributes that are added, of schemes, then of those that rules for values list
+-- attributes that are added, of schemes, then of those that rules for values list; or the attribute whose list a rule would change as one
+-- URL
 abbrev pub never_kept : Policy → Option (List ℕ)
 never_kept policy = or_else (unsafe_element policy.kept.items)
     (or_else (unsafe_in_rules policy.kept.items) (or_else (unsafe_attribute policy.everywhere.items)
     (or_else (unsafe_beginning policy.beginnings.items)
     (or_else (unsafe_addition policy policy.added.items)
-    (or_else (unsafe_scheme false policy.schemes.items) (unsafe_in_limits policy.values.items))))))
+    (or_else (unsafe_scheme false policy.schemes.items)
+    (or_else (unsafe_in_limits policy.values.items) (changed_list policy.values.items)))))))
 
 -- the first rule's element that is one of the page itself
 abbrev pub page_element : List Rule → Option (List ℕ)

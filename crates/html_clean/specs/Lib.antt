@@ -1,5 +1,8 @@
 pub mod Names
 pub mod Notes
+pub mod Bases
+pub mod Beginnings
+pub mod Proxies
 pub mod Urls
 pub mod Policies
 pub mod Pieces

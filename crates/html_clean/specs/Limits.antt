@@ -5,13 +5,16 @@ use Rattle.html_clean.specs.declared.policy.Allowed.TheVariants as allowed
 use Rattle.html_clean.specs.declared.policy.IdForm.{IdForm}
 use Rattle.html_clean.specs.declared.policy.ValueRule.{ValueRule}
 
--- what a value may be: one of some texts, words that are listed or begin so, a number, a URL of some schemes, or names with a prefix
+-- what a value may be: one of some texts, words that are listed or begin so, a number, a URL of some schemes, names with a prefix, a URL
+-- through a proxy, or one that is absolute
 pub data Limit : Type 0 where
   Texts : List (List ℕ) → Limit
   Parts : List (List ℕ) → List (List ℕ) → Limit
   Numbers : ℕ → ℕ → Limit
   Schemes : List (List ℕ) → Limit
   Prefixed : IdForm → List ℕ → Limit
+  Proxied : List ℕ → Limit
+  Absolute : List ℕ → Limit
 
 abbrev pub limit_of : Allowed → Limit
 limit_of (allowed.OneOf texts) = Texts texts.items
@@ -19,6 +22,8 @@ limit_of (allowed.Words words beginnings) = Parts words.items beginnings.items
 limit_of (allowed.Number least most) = Numbers least most
 limit_of (allowed.Schemes schemes) = Schemes schemes.items
 limit_of (allowed.Prefixed form prefix) = Prefixed form prefix
+limit_of (allowed.Proxied prefix) = Proxied prefix
+limit_of (allowed.Absolute base) = Absolute base
 
 -- the element that a rule is for, if it is for one, the attribute, and what its value may be
 abbrev pub LimitParts : Type 0

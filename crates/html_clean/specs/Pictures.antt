@@ -2,8 +2,8 @@
 use Rattle.std.specs.Prelude.{ℕ, Bool, ◌&&◌, List, [], ◌∷◌, codes, map}
 use Rattle.std.specs.Char.{to_ascii_lowercase}
 use Rattle.std.specs.Str.{bytes_eq}
+use Rattle.html_clean.specs.Beginnings.{begins_with_one}
 use Rattle.html_clean.specs.Urls.{url_text}
-use Rattle.html_clean.specs.Values.{begins_with_one}
 
 -- the attribute whose URL may be the data of a picture
 abbrev pub is_picture : List ℕ → List ℕ → Bool

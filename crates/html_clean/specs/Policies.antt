@@ -8,14 +8,15 @@ use Rattle.markup.specs.declared.attributes.Attribute.{Attribute}
 use Rattle.markup.specs.declared.names.QualName.{QualName}
 use Rattle.html_round_trip.specs.Slices.Forms.{is_no_text}
 use Rattle.html_srcset.specs.Srcset.{candidates}
+use Rattle.html_clean.specs.Beginnings.{begins_with_one}
 use Rattle.html_clean.specs.Names.{is_safe_attribute, is_safe_name, is_url_attribute, unsafe_schemes}
 use Rattle.html_clean.specs.Pictures.{is_picture, is_picture_data}
 use Rattle.html_clean.specs.Urls.{url_kind}
-use Rattle.html_clean.specs.Values.{begins_with_one, limits_schemes, limits_schemes_of, meets_all, meets_scheme, value_left}
+use Rattle.html_clean.specs.Values.{limits_schemes, makes_url, meets_all, meets_scheme, value_left}
 use Rattle.html_clean.specs.declared.elements.Fate.{Fate}
 use Rattle.html_clean.specs.declared.elements.Fate.TheVariants.{Kept, Dropped, Unwrapped}
-use Rattle.html_clean.specs.declared.url.UrlKind.{UrlKind}
-use Rattle.html_clean.specs.declared.url.UrlKind.TheVariants.{HasHost, HasScheme, IsRelative}
+use Rattle.html_clean.specs.declared.kinds.UrlKind.{UrlKind}
+use Rattle.html_clean.specs.declared.kinds.UrlKind.TheVariants.{HasHost, HasScheme, IsRelative}
 use Rattle.html_clean.specs.declared.policy.Addition.{Addition}
 use Rattle.html_clean.specs.declared.policy.Policy.{Policy}
 use Rattle.html_clean.specs.declared.policy.Rule.{Rule}
@@ -119,7 +120,7 @@ is_safe_attribute_name name = is_safe_attribute name.local && (is_none name.pref
 
 -- whether the value of an attribute of that name is a URL
 abbrev pub has_url : Policy → List ℕ → Bool
-has_url policy name = is_url_attribute name || (is_among name policy.urls.items || list_any (limits_schemes_of name) policy.values.items)
+has_url policy name = is_url_attribute name || (is_among name policy.urls.items || list_any (makes_url name) policy.values.items)
 
 -- whether an element may have an attribute
 abbrev pub is_kept_attribute : Policy → List ℕ → Attribute → Bool

@@ -4,10 +4,10 @@ use Rattle.std.specs.Char.{is_ascii_alphabetic, is_ascii_digit, to_ascii_lowerca
 use Rattle.std.specs.List.{filter}
 use Rattle.html_round_trip.specs.Slices.Forms.{is_no_text}
 use Rattle.html_clean.specs.Names.{are_first, first_two}
-use Rattle.html_clean.specs.declared.url.SchemeStep.{SchemeStep}
-use Rattle.html_clean.specs.declared.url.SchemeStep.TheVariants.{Ends, Stops, Grows}
-use Rattle.html_clean.specs.declared.url.UrlKind.{UrlKind}
-use Rattle.html_clean.specs.declared.url.UrlKind.TheVariants.{HasHost, HasScheme, IsRelative}
+use Rattle.html_clean.specs.declared.kinds.SchemeStep.{SchemeStep}
+use Rattle.html_clean.specs.declared.kinds.SchemeStep.TheVariants.{Ends, Stops, Grows}
+use Rattle.html_clean.specs.declared.kinds.UrlKind.{UrlKind}
+use Rattle.html_clean.specs.declared.kinds.UrlKind.TheVariants.{HasHost, HasScheme, IsRelative}
 
 -- a control character of the first 32, or a space
 abbrev pub is_blank : ℕ → Bool

@@ -2,28 +2,19 @@
 use Rattle.std.specs.Prelude.{ℕ, ◌+◌, ◌-◌, ◌*◌, ◌^◌, min, Bool, true, false, cond, ◌&&◌, ◌||◌, not, nat_eq, nat_le}
 use Rattle.std.specs.Prelude.{List, [], ◌∷◌, ◌++◌, map, Option, Some, None}
 use Rattle.std.specs.Char.{is_ascii_digit, is_ascii_whitespace, to_ascii_lowercase}
-use Rattle.std.specs.List.{filter, fold, list_all, list_any}
+use Rattle.std.specs.List.{filter, fold, list_all}
 use Rattle.std.specs.Str.{bytes_eq}
 use Rattle.markup.specs.Trees.{is_among}
 use Rattle.html_round_trip.specs.Slices.Forms.{is_no_text}
-use Rattle.html_clean.specs.declared.policy.Allowed.{Allowed}
+use Rattle.html_clean.specs.Bases.{absolute}
+use Rattle.html_clean.specs.Beginnings.{begins_with, begins_with_one}
+use Rattle.html_clean.specs.Proxies.{proxied}
 use Rattle.html_clean.specs.Urls.{url_text}
-use Rattle.html_clean.specs.declared.policy.Allowed.TheVariants.{OneOf, Words, Number, Schemes, Prefixed}
+use Rattle.html_clean.specs.declared.policy.Allowed.{Allowed}
+use Rattle.html_clean.specs.declared.policy.Allowed.TheVariants.{OneOf, Words, Number, Schemes, Prefixed, Proxied, Absolute}
 use Rattle.html_clean.specs.declared.policy.IdForm.{IdForm}
 use Rattle.html_clean.specs.declared.policy.IdForm.TheVariants.{Name, Names, Link}
 use Rattle.html_clean.specs.declared.policy.ValueRule.{ValueRule}
-
--- BEGINNINGS
-
--- whether a text begins with another, which comes first here
-abbrev pub begins_with : List ℕ → List ℕ → Bool
-begins_with [] text = true
-begins_with (c ∷ cs) [] = false
-begins_with (c ∷ cs) (d ∷ ds) = nat_eq c d && begins_with cs ds
-
--- whether a text begins with one of these
-abbrev pub begins_with_one : List (List ℕ) → List ℕ → Bool
-begins_with_one beginnings text = list_any (λ beginning. begins_with beginning text) beginnings
 
 -- WORDS
 
@@ -107,6 +98,8 @@ allows (Words words beginnings) value = not (is_no_text value) && bytes_eq (allo
 allows (Number least most) value = is_number_within least most value
 allows (Schemes schemes) value = true
 allows (Prefixed form prefix) value = not (is_no_text value) && bytes_eq (prefixed form prefix value) value
+allows (Proxied prefix) value = bytes_eq (proxied prefix value) value
+allows (Absolute base) value = bytes_eq (absolute base value) value
 
 -- what is left of a value
 abbrev pub left_of : Allowed → List ℕ → List ℕ
@@ -115,6 +108,8 @@ left_of (Words words beginnings) value = allowed_words words.items beginnings.it
 left_of (Number least most) value = value
 left_of (Schemes schemes) value = value
 left_of (Prefixed form prefix) value = prefixed form prefix value
+left_of (Proxied prefix) value = proxied prefix value
+left_of (Absolute base) value = absolute base value
 
 -- whether a rule for one element, or for all, is for an element
 abbrev pub is_for_element : Option (List ℕ) → List ℕ → Bool
@@ -148,6 +143,18 @@ is_of_schemes (Words words beginnings) = false
 is_of_schemes (Number least most) = false
 is_of_schemes (Schemes schemes) = true
 is_of_schemes (Prefixed form prefix) = false
+is_of_schemes (Proxied prefix) = false
+is_of_schemes (Absolute base) = false
+
+-- whether a rule makes the value that it is for a URL
+abbrev pub is_of_urls : Allowed → Bool
+is_of_urls (OneOf texts) = false
+is_of_urls (Words words beginnings) = false
+is_of_urls (Number least most) = false
+is_of_urls (Schemes schemes) = true
+is_of_urls (Prefixed form prefix) = false
+is_of_urls (Proxied prefix) = true
+is_of_urls (Absolute base) = true
 
 -- whether a scheme is allowed
 abbrev pub allows_scheme : Allowed → List ℕ → Bool
@@ -156,10 +163,12 @@ allows_scheme (Words words beginnings) scheme = true
 allows_scheme (Number least most) scheme = true
 allows_scheme (Schemes schemes) scheme = is_among scheme schemes.items
 allows_scheme (Prefixed form prefix) scheme = true
+allows_scheme (Proxied prefix) scheme = true
+allows_scheme (Absolute base) scheme = true
 
--- whether a rule limits the schemes of an attribute, on whatever element
-abbrev pub limits_schemes_of : List ℕ → ValueRule → Bool
-limits_schemes_of name rule = bytes_eq name rule.attribute && is_of_schemes rule.allowed
+-- whether a rule makes an attribute a URL, on whatever element
+abbrev pub makes_url : List ℕ → ValueRule → Bool
+makes_url name rule = bytes_eq name rule.attribute && is_of_urls rule.allowed
 
 -- whether a rule limits the schemes of an attribute of an element
 abbrev pub limits_schemes : List ℕ → List ℕ → ValueRule → Bool

@@ -13,15 +13,15 @@ ghost use Rattle.markup.specs.Trees.{is_among};
 ghost use Rattle.markup.specs.declared.fault.ParseFault.TheVariants.{Memory};
 
 use crate::elements::is_among;
+use crate::kinds::{UrlKind, url_kind};
 use crate::names::{is_safe_attribute, is_unsafe_scheme, is_url_attribute};
 use crate::notes::{Notes, Verdict};
 use crate::pictures::{is_picture, is_picture_data};
 use crate::policy::{Addition, Policy, Rule};
 use crate::texts::plain_text;
-use crate::url::{UrlKind, url_kind};
 use crate::values::{
-    are_schemes_limited, begins_with_one, has_limited_schemes, is_text_among, meets_all,
-    meets_schemes, value_left,
+    are_schemes_limited, begins_with_one, is_made_url, is_text_among, meets_all, meets_schemes,
+    value_left,
 };
 use html_srcset::candidates;
 use markup::{
@@ -70,9 +70,7 @@ pub(crate) fn is_named_for(policy: &Policy, element: &LocalName, name: &LocalNam
 pub(crate) fn has_url(policy: &Policy, name: &LocalName) -> bool
     ensures { result ≡ has_url policy.now name.now }
 {
-    is_url_attribute(name)
-        || is_among(name, &policy.urls)
-        || has_limited_schemes(&policy.values, name)
+    is_url_attribute(name) || is_among(name, &policy.urls) || is_made_url(&policy.values, name)
 }
 
 /// Whether the URL of an attribute of an element may have a scheme.

@@ -2,7 +2,7 @@
 ghost use Rattle.std.specs.Prelude.{◌≡◌, None, Some, IfOk, IfErr, IfSome, IfNone};
 ghost use Rattle.std.specs.Str.{chars};
 ghost use Rattle.html_clean.specs.Checks as checks;
-ghost use Rattle.html_clean.specs.Checks.{never_kept, never_kept_in_fragment, page_element, unsafe_addition, unsafe_attribute};
+ghost use Rattle.html_clean.specs.Checks.{changed_list, never_kept, never_kept_in_fragment, page_element, unsafe_addition, unsafe_attribute};
 ghost use Rattle.html_clean.specs.Checks.{unsafe_beginning, unsafe_element, unsafe_in_limit, unsafe_in_limits, unsafe_in_rules};
 ghost use Rattle.html_clean.specs.Checks.{unsafe_scheme};
 
@@ -107,6 +107,33 @@ fn unsafe_in_limits(rules: &[ValueRule]) -> Option<&Text>
     None
 }
 
+/// Whether a rule changes a URL.
+fn changes_url(allowed: &Allowed) -> bool
+    ensures { result ≡ checks.changes_url allowed.now }
+{
+    matches!(allowed, Allowed::Proxied { .. } | Allowed::Absolute { .. })
+}
+
+/// Whether it is for an attribute that has a list of them besides.
+fn changes_list(rule: &ValueRule) -> bool
+    ensures { result ≡ checks.changes_list rule.now }
+{
+    rule.attribute.is("srcset") && changes_url(&rule.allowed)
+}
+
+/// The attribute of the first such rule.
+fn changed_list(rules: &[ValueRule]) -> Option<&LocalName>
+    ensures some { IfSome result (λ name. changed_list rules.now ≡ Some name.now) }
+    ensures none { IfNone result (changed_list rules.now ≡ None) }
+{
+    for rule in rules {
+        if changes_list(rule) {
+            return Some(&rule.attribute);
+        }
+    }
+    None
+}
+
 /// The first text with which no attribute's name that may be kept begins.
 fn unsafe_beginning(texts: &[Text]) -> Option<&Text>
     ensures some { IfSome result (λ text. unsafe_beginning texts.now ≡ Some text.now) }
@@ -150,7 +177,8 @@ impl Policy {
     /// Whether each element, attribute and scheme that the policy names can be kept, or else the first that never is: of elements, then of
     /// the attributes of rules, of the attributes of all elements, of the beginnings of names, of attributes that are added, of schemes,
     /// then of those that rules for values list. An attribute that is added has no URL as its value. A scheme has to be in lower case and
-    /// without its colon, and is none of `javascript`, `vbscript` and `data`; but a rule for `src` of `img` may list `data`.
+    /// without its colon, and is none of `javascript`, `vbscript` and `data`; but a rule for `src` of `img` may list `data`. No rule may
+    /// load a `srcset` through a proxy or make it absolute, since it has a list of URLs.
     pub fn checked(&self) -> Result<(), &str>
         ensures ok { IfOk result (λ _. never_kept self.now ≡ None) }
         ensures err { IfErr result (λ word. never_kept self.now ≡ Some (chars word.now)) }
@@ -173,8 +201,11 @@ impl Policy {
         if let Some(scheme) = unsafe_scheme(false, &self.schemes) {
             return Err(scheme.as_str());
         }
-        match unsafe_in_limits(&self.values) {
-            Some(scheme) => Err(scheme.as_str()),
+        if let Some(scheme) = unsafe_in_limits(&self.values) {
+            return Err(scheme.as_str());
+        }
+        match changed_list(&self.values) {
+            Some(name) => Err(name.as_str()),
             None => Ok(()),
         }
     }

@@ -1,15 +1,16 @@
 //! Names of elements with a prefix.
 ghost use Rattle.std.specs.Prelude.{◌≡◌, ◌∷◌, ◌&&◌, not, [], map, IfErr, IfNone, IfOk, IfSome, None, Some};
 ghost use Rattle.std.specs.Str.{chars};
+ghost use Rattle.html_clean.specs.Beginnings as beginnings;
 ghost use Rattle.html_clean.specs.Values as values;
 ghost use Rattle.html_clean.specs.Values.{joined_after, link_by};
 ghost use Rattle.html_clean.specs.Urls as urls;
 ghost use Rattle.html_round_trip.specs.Slices.Forms.{is_no_text};
 ghost use Rattle.markup.specs.declared.fault.ParseFault.TheVariants.{Memory};
 
+use crate::kinds::url_text;
 use crate::policy::IdForm;
 use crate::texts::is_no_text;
-use crate::url::url_text;
 use crate::values::begins_with;
 use crate::words::{push_word, words_of};
 use markup::{ParseFault, Text};
@@ -17,7 +18,7 @@ use std::alloc::Global;
 
 /// Whether a name gets a prefix in front: it is not empty, and doesn't begin so.
 fn lacks_prefix(prefix: &str, name: &str) -> bool
-    ensures { result ≡ (not (is_no_text (chars name.now)) && not (values.begins_with (chars prefix.now) (chars name.now))) }
+    ensures { result ≡ (not (is_no_text (chars name.now)) && not (beginnings.begins_with (chars prefix.now) (chars name.now))) }
 {
     !is_no_text(name) && !begins_with(prefix, name)
 }

@@ -2,10 +2,10 @@
 ghost use Rattle.std.specs.Prelude.{◌≡◌, IfErr, IfOk, map};
 ghost use Rattle.std.specs.Str.{chars};
 ghost use Rattle.html_clean.specs.Pictures as pictures;
-ghost use Rattle.html_clean.specs.Values.{begins_with_one};
+ghost use Rattle.html_clean.specs.Beginnings.{begins_with_one};
 ghost use Rattle.markup.specs.declared.fault.ParseFault.TheVariants.{Memory};
 
-use crate::url::url_text;
+use crate::kinds::url_text;
 use crate::values::begins_with;
 use markup::{LocalName, ParseFault, Text};
 use std::alloc::Global;
@@ -32,7 +32,7 @@ pub(crate) fn is_picture(element: &LocalName, name: &LocalName) -> bool
 }
 
 /// Whether a text begins with one of these.
-fn begins_with_any(beginnings: &[&str], text: &str) -> bool
+pub(crate) fn begins_with_any(beginnings: &[&str], text: &str) -> bool
     ensures { result ≡ begins_with_one (map (λ beginning. chars beginning.now) beginnings.now) (chars text.now) }
 {
     for beginning in beginnings {

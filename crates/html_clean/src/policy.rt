@@ -57,6 +57,20 @@ pub enum Allowed {
         /// The prefix, such as `user-content-`.
         prefix: Text,
     },
+    /// A URL that is loaded through a proxy, as that of a picture, so that only the proxy learns who looks at it. One by `http` or `https`,
+    /// or with a host and no scheme, gives way to the prefix and to itself, percent-encoded; then the scheme is the prefix's. Others stay
+    /// as they are. The attribute's value is a URL, as if [`Policy::urls`] named it; it is for one URL, not for a `srcset`.
+    Proxied {
+        /// The prefix, such as `https://proxy.example/?url=`.
+        prefix: Text,
+    },
+    /// A URL that is absolute, so that it can be shown on another page than it is from: one without a scheme is taken relative to a base
+    /// (URL Standard, section 4.4), if it can be. The attribute's value is a URL, as if [`Policy::urls`] named it; it is for one URL, not
+    /// for a `srcset`.
+    Absolute {
+        /// The base, such as `https://blog.example/2026/`.
+        base: Text,
+    },
 }
 
 /// A rule for the values of an attribute that is kept.

@@ -1,6 +1,6 @@
 //! Worked rows: what the definitions give for each is computed by the check.
 ghost use Rattle.html_clean.specs.PieceRows.{ArePieceRowsRead};
-ghost use Rattle.html_clean.specs.Rows.{ArePictureRows, ArePrefixRows, AreUrlRows, IsMeasureRow};
+ghost use Rattle.html_clean.specs.Rows.{ArePictureRows, ArePrefixRows, AreProxyRows, AreUrlRows, IsMeasureRow};
 
 /// The kinds of URLs.
 pub fn url_rows()
@@ -16,6 +16,11 @@ pub fn picture_rows()
 /// Names with a prefix.
 pub fn prefix_rows()
     ensures { ArePrefixRows }
+{}
+
+/// URLs through a proxy.
+pub fn proxy_rows()
+    ensures { AreProxyRows }
 {}
 
 /// Elements, measured.

@@ -4,17 +4,20 @@ ghost use Rattle.std.specs.Char.{is_ascii_digit, to_ascii_lowercase};
 ghost use Rattle.std.specs.List.{fold, list_all, list_any};
 ghost use Rattle.std.specs.Str.{chars};
 ghost use Rattle.html_clean.specs.Limits.{limit_of};
-ghost use Rattle.html_clean.specs.Limits.Limit.{Parts, Prefixed, Schemes, Texts};
-ghost use Rattle.html_clean.specs.Values.{allowed_words, allows, allows_scheme, begins_with, begins_with_one, is_allowed_word};
-ghost use Rattle.html_clean.specs.Values.{is_for_element, is_of_schemes, limits_schemes, limits_schemes_of, meets_scheme};
+ghost use Rattle.html_clean.specs.Limits.Limit.{Absolute, Parts, Prefixed, Proxied, Schemes, Texts};
+ghost use Rattle.html_clean.specs.Beginnings.{begins_with, begins_with_one};
+ghost use Rattle.html_clean.specs.Values.{allowed_words, allows, allows_scheme, is_allowed_word};
+ghost use Rattle.html_clean.specs.Values.{is_for_element, is_of_schemes, is_of_urls, limits_schemes, makes_url, meets_scheme};
 ghost use Rattle.html_clean.specs.Values.{is_number_within, is_rule_for, left_of, meets_all, value_left};
 ghost use Rattle.html_clean.specs.Values.{with_digit, with_word};
 ghost use Rattle.html_round_trip.specs.Slices.Forms.{is_no_text};
 ghost use Rattle.markup.specs.Trees.{is_among};
 ghost use Rattle.markup.specs.declared.fault.ParseFault.TheVariants.{Memory};
 
+use crate::bases::absolute;
 use crate::ids::prefixed;
 use crate::policy::{Allowed, IdForm, ValueRule};
+use crate::proxies::proxied;
 use crate::ready::texts_of;
 use crate::texts::is_no_text;
 use crate::words::{push_word, words_of};
@@ -151,6 +154,8 @@ fn left_of(alloc: Global, allowed: &Allowed, value: Text) -> Result<Text, ParseF
         Allowed::Prefixed { form, prefix } => {
             prefixed(alloc, *form, prefix.as_str(), value.as_str())
         }
+        Allowed::Proxied { prefix } => proxied(alloc, prefix.as_str(), value.as_str()),
+        Allowed::Absolute { base } => absolute(alloc, base.as_str(), value.as_str()),
         _ => Ok(value),
     }
 }
@@ -171,6 +176,14 @@ fn allows(alloc: Global, allowed: &Allowed, value: &Text) -> Result<bool, ParseF
         Allowed::Prefixed { form, prefix } => {
             let left = prefixed(alloc, *form, prefix.as_str(), value.as_str())?;
             Ok(!is_no_text(value.as_str()) && left == *value)
+        }
+        Allowed::Proxied { prefix } => {
+            let left = proxied(alloc, prefix.as_str(), value.as_str())?;
+            Ok(left == *value)
+        }
+        Allowed::Absolute { base } => {
+            let left = absolute(alloc, base.as_str(), value.as_str())?;
+            Ok(left == *value)
         }
     }
 }
@@ -251,11 +264,21 @@ fn allows_scheme(allowed: &Allowed, scheme: &Text) -> bool
     }
 }
 
-/// Whether a rule limits the schemes of an attribute, on whatever element.
-fn limits_schemes_of(rule: &ValueRule, name: &LocalName) -> bool
-    ensures { result ≡ limits_schemes_of name.now rule.now }
+/// Whether a rule makes the value that it is for a URL.
+fn is_of_urls(allowed: &Allowed) -> bool
+    ensures { result ≡ is_of_urls allowed.now }
 {
-    *name == rule.attribute && is_of_schemes(&rule.allowed)
+    matches!(
+        allowed,
+        Allowed::Schemes(_) | Allowed::Proxied { .. } | Allowed::Absolute { .. }
+    )
+}
+
+/// Whether a rule makes an attribute a URL, on whatever element.
+fn makes_url(rule: &ValueRule, name: &LocalName) -> bool
+    ensures { result ≡ makes_url name.now rule.now }
+{
+    *name == rule.attribute && is_of_urls(&rule.allowed)
 }
 
 /// Whether a rule limits the schemes of an attribute of an element.
@@ -272,11 +295,11 @@ fn meets_scheme(rule: &ValueRule, element: &LocalName, name: &LocalName, scheme:
     !is_rule_for(rule, element, name) || allows_scheme(&rule.allowed, scheme)
 }
 
-/// Whether one of some rules limits the schemes of an attribute, on whatever element.
-pub(crate) fn has_limited_schemes(rules: &[ValueRule], name: &LocalName) -> bool
-    ensures { result ≡ list_any (limits_schemes_of name.now) rules.now }
+/// Whether one of some rules makes an attribute a URL, on whatever element.
+pub(crate) fn is_made_url(rules: &[ValueRule], name: &LocalName) -> bool
+    ensures { result ≡ list_any (makes_url name.now) rules.now }
 {
-    rules.iter().any(|rule| limits_schemes_of(rule, name))
+    rules.iter().any(|rule| makes_url(rule, name))
 }
 
 /// Whether one of some rules limits the schemes of an attribute of an element.
@@ -341,6 +364,26 @@ impl Allowed {
         Ok(Allowed::Prefixed {
             form,
             prefix: Text::from_str(alloc, prefix)?,
+        })
+    }
+
+    /// URLs through a proxy: `Allowed::proxied(alloc, "https://proxy.example/?url=")`.
+    pub fn proxied(alloc: Global, prefix: &str) -> Result<Allowed, ParseFault>
+        ensures ok { IfOk result (λ allowed. limit_of allowed ≡ Proxied (chars prefix.now)) }
+        ensures fault { IfErr result (λ fault. fault ≡ Memory) }
+    {
+        Ok(Allowed::Proxied {
+            prefix: Text::from_str(alloc, prefix)?,
+        })
+    }
+
+    /// URLs that are absolute: `Allowed::absolute(alloc, "https://blog.example/2026/")`.
+    pub fn absolute(alloc: Global, base: &str) -> Result<Allowed, ParseFault>
+        ensures ok { IfOk result (λ allowed. limit_of allowed ≡ Absolute (chars base.now)) }
+        ensures fault { IfErr result (λ fault. fault ≡ Memory) }
+    {
+        Ok(Allowed::Absolute {
+            base: Text::from_str(alloc, base)?,
         })
     }
 }

@@ -42,7 +42,7 @@ pub fn clean<R: Source, W: Target>(
 }
 
 /// The root of a fragment: the first child of its document.
-fn root(forest: &Forest, document: NodeId) -> NodeId
+pub(crate) fn root(forest: &Forest, document: NodeId) -> NodeId
     requires first { document ≡ 0 }
     ensures { result ≡ root_of forest.now }
 {
@@ -83,7 +83,7 @@ pub fn clean_fragment_in<R: Source, W: Target>(
 }
 
 /// The name of HTML's `div`.
-fn div(alloc: Global) -> Result<QualName, ParseFault>
+pub(crate) fn div(alloc: Global) -> Result<QualName, ParseFault>
     ensures ok { IfOk result (λ name. name ≡ div_name) }
 {
     let local = LocalName::from_str(alloc, "div")?;

@@ -12,7 +12,7 @@ use Rattle.std.proofs.lemmas.Slice.Eq.{bytes_eq-Decides}
 use Rattle.html_clean.specs.Values.{greatest, joined_after, words_of}
 use Rattle.html_policy_text.specs.PolicyText.{lines_of, policy_rules, read_lines, with_line}
 use Rattle.html_clean.specs.Limits.{Limit, LimitParts}
-use Rattle.html_clean.specs.Limits.Limit.{Numbers, Parts, Prefixed, Schemes, Texts}
+use Rattle.html_clean.specs.Limits.Limit.{Absolute, Numbers, Parts, Prefixed, Proxied, Schemes, Texts}
 use Rattle.html_clean.specs.declared.policy.IdForm.TheVariants.{Name, Names, Link}
 use Rattle.html_policy_text.specs.Rules.{Rules, bounds, limit_by, limited as with_one, no_rules, number_of, target_of}
 use Rattle.html_policy_text.specs.Rules.{whole_words, word_beginnings}
@@ -61,6 +61,8 @@ keyword-is (Schemes schemes) h = refl
 keyword-is (Prefixed Name prefix) h = refl
 keyword-is (Prefixed Names prefix) h = refl
 keyword-is (Prefixed Link prefix) h = refl
+keyword-is (Proxied prefix) h = refl
+keyword-is (Absolute base) h = refl
 
 limit-words-are : (limit : Limit) → is_limit_writable limit ≡ true → list_all is_word (limit_words limit) ≡ true
 limit-words-are (Texts texts) h = h
@@ -74,6 +76,8 @@ limit-words-are (Numbers least most) h =
     (and_from (is_word (decimal most)) true (decimal-is most both.1) refl)
 limit-words-are (Schemes schemes) h = h
 limit-words-are (Prefixed form prefix) h = and_from (is_word prefix) true h refl
+limit-words-are (Proxied prefix) h = and_from (is_word prefix) true h refl
+limit-words-are (Absolute base) h = and_from (is_word base) true h refl
 
 abbrev Limits : Type 0
 Limits = List LimitParts
@@ -123,6 +127,12 @@ limit-taken rules target attribute (Prefixed Names prefix) t h =
     (target-back target t)
 limit-taken rules target attribute (Prefixed Link prefix) t h =
     ap (λ (of : Option (List ℕ)). Ok (record rules { limits = rules.limits ++ (of, (attribute, Prefixed Link prefix)) ∷ [] }))
+    (target-back target t)
+limit-taken rules target attribute (Proxied prefix) t h =
+    ap (λ (of : Option (List ℕ)). Ok (record rules { limits = rules.limits ++ (of, (attribute, Proxied prefix)) ∷ [] }))
+    (target-back target t)
+limit-taken rules target attribute (Absolute base) t h =
+    ap (λ (of : Option (List ℕ)). Ok (record rules { limits = rules.limits ++ (of, (attribute, Absolute base)) ∷ [] }))
     (target-back target t)
 
 limits-read : (limits : Limits) (rules : Rules) → list_all is_value_rule_writable limits ≡ true

@@ -2,7 +2,7 @@
 use Rattle.std.specs.Prelude.{◌≡◌, ℕ, true, List, [], ◌∷◌, ◌++◌, None, Some, Result, Ok, Err, codes, map}
 use Rattle.html_policy_text.specs.PolicyText.{policy_rules}
 use Rattle.html_policy_text.specs.Rules.{Rules, no_rules}
-use Rattle.html_clean.specs.Limits.Limit.{Numbers, Parts, Prefixed, Schemes, Texts}
+use Rattle.html_clean.specs.Limits.Limit.{Absolute, Numbers, Parts, Prefixed, Proxied, Schemes, Texts}
 use Rattle.html_clean.specs.declared.policy.IdForm.TheVariants.{Name, Names, Link}
 use Rattle.html_policy_text.specs.declared.rules.Problem.{Problem}
 use Rattle.html_policy_text.specs.declared.rules.Problem.TheVariants.{UnknownRule, WrongNumber, WrongWords}
@@ -44,6 +44,17 @@ policy_rows =
             (Some (codes "a"), (codes "href", Prefixed Link (codes "user-"))) ∷ [];
       }),
     )
+    ∷ (
+      codes "proxy img src https://p/?u=",
+      Ok (record no_rules { limits = (Some (codes "img"), (codes "src", Proxied (codes "https://p/?u="))) ∷ [] }),
+    )
+    ∷ (
+      codes "base * href https://b/c/",
+      Ok (record no_rules { limits = (None, (codes "href", Absolute (codes "https://b/c/"))) ∷ [] }),
+    )
+    ∷ (codes "base * href", Err (1, WrongWords))
+    ∷ (codes "proxy img src", Err (1, WrongWords))
+    ∷ (codes "proxy img src a b", Err (1, WrongWords))
     ∷ (codes "prefix * id", Err (1, WrongWords))
     ∷ (codes "prefix-link a href user- x", Err (1, WrongWords))
     ∷ (codes "number ol start 0", Err (1, WrongWords))

@@ -6,7 +6,7 @@ use Rattle.std.specs.Str.{bytes_eq}
 use Rattle.html_clean.specs.Ready.{addition_parts, rule_names}
 use Rattle.html_clean.specs.Values.{after_sign, joined_after, with_digit}
 use Rattle.html_clean.specs.Limits.{Limit, LimitParts, limit_parts}
-use Rattle.html_clean.specs.Limits.Limit.{Numbers, Parts, Prefixed, Schemes, Texts}
+use Rattle.html_clean.specs.Limits.Limit.{Absolute, Numbers, Parts, Prefixed, Proxied, Schemes, Texts}
 use Rattle.html_clean.specs.declared.policy.IdForm.{IdForm}
 use Rattle.html_clean.specs.declared.policy.IdForm.TheVariants.{Name, Names, Link}
 use Rattle.html_clean.specs.declared.policy.Policy.{Policy}
@@ -76,9 +76,11 @@ keyword_of word =
     (cond (bytes_eq word (codes "prefix")) (Some (Values (kind.Prefix Name)))
     (cond (bytes_eq word (codes "prefix-words")) (Some (Values (kind.Prefix Names)))
     (cond (bytes_eq word (codes "prefix-link")) (Some (Values (kind.Prefix Link)))
+    (cond (bytes_eq word (codes "proxy")) (Some (Values kind.Proxy))
+    (cond (bytes_eq word (codes "base")) (Some (Values kind.Base))
     (cond (bytes_eq word (codes "add")) (Some Add)
     (cond (bytes_eq word (codes "relative")) (Some Relative)
-    (cond (bytes_eq word (codes "host")) (Some Host) None)))))))))))))))
+    (cond (bytes_eq word (codes "host")) (Some Host) None)))))))))))))))))
 
 -- `keep`, an element and its attributes
 abbrev pub with_kept : Rules → List (List ℕ) → Result Rules Problem
@@ -131,13 +133,25 @@ prefix_by form [] = Err WrongWords
 prefix_by form (prefix ∷ []) = Ok (Prefixed form prefix)
 prefix_by form (prefix ∷ (word ∷ words)) = Err WrongWords
 
--- what a value may be, by words: words, or beginnings of words after "^"; texts; schemes; two numbers; or a prefix
+abbrev pub proxy_by : List (List ℕ) → Result Limit Problem
+proxy_by [] = Err WrongWords
+proxy_by (prefix ∷ []) = Ok (Proxied prefix)
+proxy_by (prefix ∷ (word ∷ words)) = Err WrongWords
+
+abbrev pub base_by : List (List ℕ) → Result Limit Problem
+base_by [] = Err WrongWords
+base_by (base ∷ []) = Ok (Absolute base)
+base_by (base ∷ (word ∷ words)) = Err WrongWords
+
+-- what a value may be, by words: words, or beginnings of words after "^"; texts; schemes; two numbers; a prefix, that of a proxy; or a base
 abbrev pub limit_by : LimitKind → List (List ℕ) → Result Limit Problem
 limit_by kind.Words words = Ok (Parts (whole_words words) (word_beginnings words))
 limit_by kind.OneOf texts = Ok (Texts texts)
 limit_by kind.Schemes schemes = Ok (Schemes schemes)
 limit_by kind.Number words = numbers_by words
 limit_by (kind.Prefix form) words = prefix_by form words
+limit_by kind.Proxy words = proxy_by words
+limit_by kind.Base words = base_by words
 
 -- rules with one more for values
 abbrev pub limited : Rules → Option (List ℕ) → List ℕ → Result Limit Problem → Result Rules Problem

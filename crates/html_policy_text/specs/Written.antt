@@ -8,7 +8,7 @@ use Rattle.std.specs.Str.{bytes_eq}
 use Rattle.html_clean.specs.Values.{greatest, joined_after, words_of}
 use Rattle.html_policy_text.specs.PolicyText.{policy_rules}
 use Rattle.html_clean.specs.Limits.{Limit, LimitParts}
-use Rattle.html_clean.specs.Limits.Limit.{Numbers, Parts, Prefixed, Schemes, Texts}
+use Rattle.html_clean.specs.Limits.Limit.{Absolute, Numbers, Parts, Prefixed, Proxied, Schemes, Texts}
 use Rattle.html_clean.specs.declared.policy.IdForm.TheVariants.{Name, Names, Link}
 use Rattle.html_policy_text.specs.Rules.{Rules, after_mark}
 use Rattle.html_policy_text.specs.declared.writing.WriteFault.{WriteFault}
@@ -50,6 +50,8 @@ limit_keyword (Schemes schemes) = codes "schemes-for"
 limit_keyword (Prefixed Name prefix) = codes "prefix"
 limit_keyword (Prefixed Names prefix) = codes "prefix-words"
 limit_keyword (Prefixed Link prefix) = codes "prefix-link"
+limit_keyword (Proxied prefix) = codes "proxy"
+limit_keyword (Absolute base) = codes "base"
 
 -- a beginning of words
 abbrev pub marked : List ℕ → List ℕ
@@ -61,6 +63,8 @@ limit_words (Parts words beginnings) = words ++ map marked beginnings
 limit_words (Numbers least most) = decimal least ∷ decimal most ∷ []
 limit_words (Schemes schemes) = schemes
 limit_words (Prefixed form prefix) = prefix ∷ []
+limit_words (Proxied prefix) = prefix ∷ []
+limit_words (Absolute base) = base ∷ []
 
 abbrev pub limit_text : LimitParts → List ℕ
 limit_text limit = line_of (limit_keyword limit.1.1) (target_word limit.0 ∷ (limit.1.0 ∷ limit_words limit.1.1))
@@ -114,6 +118,8 @@ is_limit_writable (Parts words beginnings) = list_all is_whole words && list_all
 is_limit_writable (Numbers least most) = nat_le least greatest && nat_le most greatest
 is_limit_writable (Schemes schemes) = list_all is_word schemes
 is_limit_writable (Prefixed form prefix) = is_word prefix
+is_limit_writable (Proxied prefix) = is_word prefix
+is_limit_writable (Absolute base) = is_word base
 
 abbrev pub is_value_rule_writable : LimitParts → Bool
 is_value_rule_writable limit = is_target_writable limit.0 && (is_word limit.1.0 && is_limit_writable limit.1.1)

@@ -5,8 +5,9 @@ ghost use Rattle.html_clean.specs.Limits.{limit_of};
 ghost use Rattle.html_clean.specs.Limits.Limit.{Parts, Schemes, Texts};
 ghost use Rattle.markup.specs.declared.fault.ParseFault.TheVariants.{Memory};
 ghost use Rattle.html_policy_text.specs.PolicyText.{IsApplied, IsRefused};
-ghost use Rattle.html_policy_text.specs.Rules.{after_mark, beginning_if, bounds, limit_by, number_of, numbers_by, prefix_by, rules_of};
-ghost use Rattle.html_policy_text.specs.Rules.{target_of, whole_if, whole_words, with_added, with_limit, word_beginnings};
+ghost use Rattle.html_policy_text.specs.Rules.{after_mark, base_by, beginning_if, bounds, limit_by, number_of, numbers_by, prefix_by};
+ghost use Rattle.html_policy_text.specs.Rules.{proxy_by, rules_of, target_of, whole_if, whole_words, with_added, with_limit};
+ghost use Rattle.html_policy_text.specs.Rules.{word_beginnings};
 
 use crate::lists::push_texts;
 use crate::rules::{LimitKind, Problem, RuleFault, or_memory};
@@ -133,6 +134,34 @@ fn prefix_of(alloc: Global, form: IdForm, words: &[Text]) -> Result<Allowed, Rul
     or_memory(Allowed::prefixed(alloc, form, prefix.as_str()))
 }
 
+/// URLs through a proxy, by the only word.
+fn proxy_of(alloc: Global, words: &[Text]) -> Result<Allowed, RuleFault>
+    ensures ok { IfOk result (λ allowed. proxy_by words.now ≡ Ok (limit_of allowed)) }
+    ensures err { IfErr result (λ fault. IsRefused fault (proxy_by words.now)) }
+{
+    let Some((prefix, more)) = words.split_first() else {
+        return Err(RuleFault::Problem(Problem::WrongWords));
+    };
+    if !more.is_empty() {
+        return Err(RuleFault::Problem(Problem::WrongWords));
+    }
+    or_memory(Allowed::proxied(alloc, prefix.as_str()))
+}
+
+/// URLs that are absolute, by the only word.
+fn base_of(alloc: Global, words: &[Text]) -> Result<Allowed, RuleFault>
+    ensures ok { IfOk result (λ allowed. base_by words.now ≡ Ok (limit_of allowed)) }
+    ensures err { IfErr result (λ fault. IsRefused fault (base_by words.now)) }
+{
+    let Some((base, more)) = words.split_first() else {
+        return Err(RuleFault::Problem(Problem::WrongWords));
+    };
+    if !more.is_empty() {
+        return Err(RuleFault::Problem(Problem::WrongWords));
+    }
+    or_memory(Allowed::absolute(alloc, base.as_str()))
+}
+
 /// What a value may be, by the words of a rule.
 fn allowed_of(alloc: Global, kind: LimitKind, words: &[Text]) -> Result<Allowed, RuleFault>
     ensures ok { IfOk result (λ allowed. limit_by kind words.now ≡ Ok (limit_of allowed)) }
@@ -144,6 +173,8 @@ fn allowed_of(alloc: Global, kind: LimitKind, words: &[Text]) -> Result<Allowed,
         LimitKind::Schemes => or_memory(schemes_of(alloc, words)),
         LimitKind::Number => numbers_of(words),
         LimitKind::Prefix(form) => prefix_of(alloc, form, words),
+        LimitKind::Proxy => proxy_of(alloc, words),
+        LimitKind::Base => base_of(alloc, words),
     }
 }
 

@@ -49,6 +49,10 @@ pub(crate) enum LimitKind {
     Number,
     /// `prefix`, `prefix-words` or `prefix-link`
     Prefix(IdForm),
+    /// `proxy`
+    Proxy,
+    /// `base`
+    Base,
 }
 
 /// Why a line is refused.
@@ -112,6 +116,10 @@ fn keyword_of(word: &Text) -> Option<Keyword>
         Some(Keyword::Values(LimitKind::Prefix(IdForm::Names)))
     } else if word.is("prefix-link") {
         Some(Keyword::Values(LimitKind::Prefix(IdForm::Link)))
+    } else if word.is("proxy") {
+        Some(Keyword::Values(LimitKind::Proxy))
+    } else if word.is("base") {
+        Some(Keyword::Values(LimitKind::Base))
     } else if word.is("add") {
         Some(Keyword::Add)
     } else if word.is("relative") {

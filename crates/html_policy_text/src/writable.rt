@@ -111,7 +111,8 @@ fn is_limit_writable(allowed: &Allowed) -> bool
         // Always so of 32 bits; the definition is of all numbers.
         Allowed::Number { least, most } => *least <= u32::MAX && *most <= u32::MAX,
         Allowed::Schemes(schemes) => are_words(schemes),
-        Allowed::Prefixed { prefix, .. } => is_word(prefix),
+        Allowed::Prefixed { prefix, .. } | Allowed::Proxied { prefix } => is_word(prefix),
+        Allowed::Absolute { base } => is_word(base),
     }
 }
 

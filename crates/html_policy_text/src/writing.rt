@@ -151,6 +151,8 @@ fn limit_keyword(allowed: &Allowed) -> &'static str
         Allowed::Number { .. } => "number",
         Allowed::Schemes(_) => "schemes-for",
         Allowed::Prefixed { form, .. } => prefix_keyword(*form),
+        Allowed::Proxied { .. } => "proxy",
+        Allowed::Absolute { .. } => "base",
     }
 }
 
@@ -213,6 +215,8 @@ fn push_allowed(alloc: Global, text: &mut Text, allowed: &Allowed) -> Result<(),
         Allowed::Number { least, most } => push_numbers(alloc, text, *least, *most),
         Allowed::Schemes(schemes) => push_words(text, schemes),
         Allowed::Prefixed { prefix, .. } => push_one(text, prefix),
+        Allowed::Proxied { prefix } => push_one(text, prefix),
+        Allowed::Absolute { base } => push_one(text, base),
     }
 }
 

@@ -1,6 +1,6 @@
 use Rattle.std.proofs.Common.{◌≡◌, Bor, List, ℕ, drop, map}
 use Rattle.std.specs.Str.{chars}
-use Rattle.html_clean.specs.Values.{begins_with_one}
+use Rattle.html_clean.specs.Beginnings.{begins_with_one}
 use Rattle.html_clean.proofs.pictures.begins_with_any.Given as goal
 
 abbrev pub invariant-loop-beginning : goal.invariant-loop-beginning

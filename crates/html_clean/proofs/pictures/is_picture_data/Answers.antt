@@ -2,7 +2,7 @@ use Rattle.std.proofs.Common.{◌∙◌, ◌++◌, ℕ, List, ap, map}
 use Rattle.std.specs.Char.{to_ascii_lowercase}
 use Rattle.std.specs.Str.{chars}
 use Rattle.html_clean.specs.Pictures.{is_picture_data, picture_beginnings}
-use Rattle.html_clean.specs.Values.{begins_with_one}
+use Rattle.html_clean.specs.Beginnings.{begins_with_one}
 use Rattle.html_clean.proofs.pictures.is_picture_data.Goals as goal
 
 pub returns-clause-ok : goal.returns-clause-ok

@@ -5,7 +5,7 @@ use Rattle.std.proofs.lemmas.Iterator.{YieldsList-from_chars}
 use Rattle.std.proofs.lemmas.Iterator.Consumers.{YieldsList-turn, YieldsList-end}
 use Rattle.std.proofs.lemmas.List.{at_drop_all, length_push}
 use Rattle.std.proofs.lemmas.Str.{IsUtf8-past_char}
-use Rattle.html_clean.specs.Values.{begins_with}
+use Rattle.html_clean.specs.Beginnings.{begins_with}
 use Rattle.html_clean.proofs.ValueTexts.{begins-at, begins-none}
 use Rattle.html_clean.proofs.values.begins_with.Goals as goal
 

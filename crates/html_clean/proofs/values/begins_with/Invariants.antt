@@ -1,7 +1,7 @@
 use Rattle.std.proofs.Common.{◌≡◌, drop, length}
 use Rattle.std.specs.Prelude.{IsUtf8}
 use Rattle.std.specs.Str.{chars}
-use Rattle.html_clean.specs.Values.{begins_with}
+use Rattle.html_clean.specs.Beginnings.{begins_with}
 use Rattle.html_clean.proofs.values.begins_with.Given as goal
 
 abbrev pub invariant-loop-c : goal.invariant-loop-c

@@ -21,6 +21,14 @@ pub returns-in-Schemes : goal.returns-in-Schemes
 unfolding chars
 returns-in-Schemes c = sym (ap (λ (a : Allowed). limit_keyword (limit_of a)) c.in-Schemes.is)
 
+pub returns-in-Proxied : goal.returns-in-Proxied
+unfolding chars
+returns-in-Proxied c = sym (ap (λ (a : Allowed). limit_keyword (limit_of a)) c.in-Proxied.is)
+
+pub returns-in-Absolute : goal.returns-in-Absolute
+unfolding chars
+returns-in-Absolute c = sym (ap (λ (a : Allowed). limit_keyword (limit_of a)) c.in-Absolute.is)
+
 pub returns-in-Prefixed : goal.returns-in-Prefixed
 returns-in-Prefixed c =
     c.prefix_keyword.ensures c.in-Prefixed.prefix ∙ sym (ap (λ (a : Allowed). limit_keyword (limit_of a)) c.in-Prefixed.is)

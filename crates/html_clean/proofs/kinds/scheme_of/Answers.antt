@@ -5,9 +5,9 @@ use Rattle.std.proofs.lemmas.Iterator.{YieldsList-from_chars}
 use Rattle.std.proofs.lemmas.Iterator.Consumers.{YieldsList-turn, YieldsList-end}
 use Rattle.std.proofs.lemmas.List.{at_drop_all, length_push}
 use Rattle.html_clean.specs.Urls.{scheme_after, scheme_by, step_of}
-use Rattle.html_clean.specs.declared.url.SchemeStep.TheVariants.{Ends, Stops, Grows}
+use Rattle.html_clean.specs.declared.kinds.SchemeStep.TheVariants.{Ends, Stops, Grows}
 use Rattle.html_clean.proofs.Urls.{scheme-at, scheme-end}
-use Rattle.html_clean.proofs.url.scheme_of.Goals as goal
+use Rattle.html_clean.proofs.kinds.scheme_of.Goals as goal
 
 pub returns-in-Ends-clause-ok : goal.returns-in-Ends-clause-ok
 returns-in-Ends-clause-ok c =

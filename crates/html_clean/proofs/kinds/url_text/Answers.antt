@@ -4,7 +4,7 @@ use Rattle.std.proofs.lemmas.Iterator.{YieldsList-from_chars}
 use Rattle.std.proofs.lemmas.Iterator.Consumers.{YieldsList-end}
 use Rattle.html_clean.specs.Urls.{has_begun, is_blank, url_text}
 use Rattle.html_clean.proofs.Urls.{grown, has_begun-more}
-use Rattle.html_clean.proofs.url.url_text.Goals as goal
+use Rattle.html_clean.proofs.kinds.url_text.Goals as goal
 
 pub loop-c-preserved-in-Continue-1 : goal.loop-c-preserved-in-Continue-1
 loop-c-preserved-in-Continue-1 c =
