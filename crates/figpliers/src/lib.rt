@@ -67,6 +67,7 @@ pub use html_normal::read_document;
 pub use html_normal::read_table;
 pub use html_pages::Noted;
 pub use html_pages::NotedForest;
+pub use html_pages::Place;
 pub use html_pages::document;
 pub use html_pages::document_lossy;
 pub use html_pages::fragment;

@@ -13,7 +13,9 @@ pub use html_nodes::{
     nodes_below, push_text, text_content,
 };
 pub use html_normal::{Exact, NormalFault, TableFileFault, read_document, read_table};
-pub use html_pages::{Noted, NotedForest, document, document_lossy, fragment, noted_document};
+pub use html_pages::{
+    Noted, NotedForest, Place, document, document_lossy, fragment, noted_document,
+};
 pub use html_parser::{
     ParseOpts, Parser, parse_document, parse_fragment, parse_fragment_for_element,
 };

@@ -1,5 +1,5 @@
 -- What a parser makes of a text that was decoded.
-use Rattle.std.proofs.Common.{◌≡◌, ◌∙◌, ℕ, Bool, List, [], Option, Some, None, Result, Ok, IsUtf8, refl, sym, ap, subst}
+use Rattle.std.proofs.Common.{◌≡◌, ◌∙◌, ℕ, Bool, true, List, [], Option, Some, None, Result, Ok, IsUtf8, refl, sym, ap, subst}
 use Rattle.std.specs.Prelude.{IfOk}
 use Rattle.std.specs.Str.{chars}
 use Rattle.markup.specs.Forest.{Forest, empty_forest}
@@ -20,10 +20,15 @@ use Rattle.html_tree_builder.specs.States.{answers_of, setting_of}
 use Rattle.html_tree_builder.specs.declared.options.TreeBuilderOpts.{TreeBuilderOpts}
 use Rattle.html_tree_builder.specs.declared.builder.TreeBuilder.{TreeBuilder}
 use Rattle.html_pages.specs.Pages.{IsPage}
+use Rattle.html_pages.proofs.Emitted.{page-of-all}
+use Rattle.html_places.specs.Noted.{IsPlaced}
+use Rattle.html_places.specs.declared.noted.NotedForest.{NotedForest}
+use Rattle.html_tokens.specs.Forbidden.{is_forbidden}
+use Rattle.std.specs.List.{list_any}
 use Rattle.html_pages.proofs.Parsed.{memory-alone, page-made}
 use Rattle.html_encodings.specs.declared.names.Encoding.{Encoding}
 use Rattle.html_decoded_pages.specs.Changing.{named_in, settled}
-use Rattle.html_decoded_pages.specs.DecodedPages.{IsParsedPage}
+use Rattle.html_decoded_pages.specs.DecodedPages.{IsNotedPage, IsParsedPage}
 use Rattle.html_decoded_pages.specs.Parsing.{IsOutcome, IsParsed, beginning_of, setting_with}
 use Rattle.html_decoded_pages.specs.Pauses.{IsBefore, ReadsIn, settled_by}
 use Rattle.html_decoded_pages.specs.declared.parsing.Parsed.{Parsed}
@@ -169,3 +174,20 @@ pub parsed-as : {T : Type 0} (Is Is' : List ℕ → T → Type 0) (table : List 
 unfolding IsParsedPage
 parsed-as Is Is' table text encoding (Whole made) fits is = (fits made is.0, is.1)
 parsed-as Is Is' table text encoding (Other other) fits is = is
+
+-- a parsed page into which places were put
+pub page-placed : (table : List Row) (exact : Bool) (text : List ℕ) (encoding : Encoding) (noted made : NotedForest)
+    → exact ≡ list_any is_forbidden (chars text)
+    → IsParsedPage (λ bytes (n : NotedForest). IsPage table exact bytes n.forest) table text encoding (Whole noted)
+    → made.forest ≡ noted.forest → IsPlaced (chars text) made → IsParsedPage (IsNotedPage table) table text encoding (Whole made)
+unfolding IsParsedPage
+page-placed table exact text encoding noted made finds is same placed = (
+  (subst (λ (f : Forest). IsPage table true text f) (sym same) (page-of-all table exact text noted.forest finds is.0), placed),
+  is.1,
+)
+
+-- that a page is to be read in another encoding says nothing of what was made
+pub page-other : {T U : Type 0} (Is : List ℕ → T → Type 0) (Is' : List ℕ → U → Type 0) (table : List Row) (text : List ℕ)
+    (encoding other : Encoding) → IsParsedPage Is table text encoding (Other other) → IsParsedPage Is' table text encoding (Other other)
+unfolding IsParsedPage
+page-other Is Is' table text encoding other is = is

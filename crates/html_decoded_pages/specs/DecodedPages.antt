@@ -1,6 +1,7 @@
 -- Pages in any encoding, and what they are read as (HTML Standard, section 13.2.3).
 use Rattle.std.specs.declared.alloc.Global.{Global}
 use Rattle.std.specs.Prelude.{◌≡◌, ℕ, ◌-◌, ◌^◌, min, true, false, List, String, drop, encode_utf8_all, string_bytes}
+use Rattle.std.specs.Str.{chars}
 use Rattle.markup.specs.Forest.{Forest}
 use Rattle.html_tokens.specs.Table.{Row}
 use Rattle.html_encodings.specs.Decoders.{decoding}
@@ -9,7 +10,8 @@ use Rattle.html_encodings.specs.declared.names.Encoding.{Encoding}
 use Rattle.html_encodings.specs.declared.sniffing.Sniffed.{Sniffed}
 use Rattle.html_encodings_multibyte.specs.Every.{decoded, every_end, every_start, every_step}
 use Rattle.html_pages.specs.Pages.{IsPage}
-use Rattle.html_pages.specs.declared.noted.NotedForest.{NotedForest}
+use Rattle.html_places.specs.Noted.{IsPlaced}
+use Rattle.html_places.specs.declared.noted.NotedForest.{NotedForest}
 use Rattle.html_decoded_pages.specs.Changing.{is_tentative, named_in, settled, settled_if}
 use Rattle.html_decoded_pages.specs.declared.page.DecodedPage.{DecodedPage}
 use Rattle.html_decoded_pages.specs.declared.parsing.Parsed.{Parsed}
@@ -49,9 +51,9 @@ module _ {T : Type 0} (Is : List ℕ → T → Type 0) where
 abbrev pub IsTextOf : List ℕ → String Global → Type 0
 IsTextOf text string = string_bytes string ≡ text
 
--- a forest that keeps its errors is the document of a text
+-- a forest that keeps its errors is the document of a text, and has the places of its nodes and errors in it
 abbrev pub IsNotedPage : List Row → List ℕ → NotedForest → Type 0
-IsNotedPage table text noted = IsPage table true text noted.forest
+IsNotedPage table text noted = IsPage table true text noted.forest × IsPlaced (chars text) noted
 
 abbrev pub IsDecodedText : List Row → Sniffed → List ℕ → DecodedPage (String Global) → Type 0
 IsDecodedText table found bytes page = IsDecoded IsTextOf table found bytes page

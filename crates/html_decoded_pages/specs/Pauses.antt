@@ -1,6 +1,5 @@
 -- What a tokenizer has read up to where an encoding is named, over any sink.
 use Rattle.std.specs.Prelude.{◌≡◌, ℕ, ◌<◌, List, [], ◌++◌, length, Option, Some, None, Ok}
-use Rattle.html_queue.specs.Queue.{Queue}
 use Rattle.html_tokens.specs.Notes.{Notes, pauses_of}
 use Rattle.html_tokens.specs.Sink.{Reply}
 use Rattle.html_tokens.specs.declared.sink.TokenSink.{Ghosts}
@@ -33,22 +32,22 @@ module _ {K H : Type 0} (Sink : Ghosts K H) where
     pub taken : IsTaken Sink begin
     pub free : IsFree k
 
-  -- Some of an input was read, with these pauses.
-  pub record Goes (old new : Tokenizer K) (from to : Queue) (added : List Reply) : Type 0 where
+  -- Some of an input was read, with these pauses, whatever follows it.
+  pub record Goes (old new : Tokenizer K) (from to : List ℕ) (added : List Reply) : Type 0 where
     pub front : List ℕ
-    pub whole : front ++ to.characters ≡ from.characters
+    pub whole : front ++ to ≡ from
     pub reads : ReadsOn Sink old new front
     pub free : IsFree new
-    pub pauses : (begin : Beginning Sink.State) (text : List ℕ) (earlier : List Reply)
-        → HasPaused begin text earlier old from.characters → HasPaused begin text (earlier ++ added) new to.characters
+    pub pauses : (begin : Beginning Sink.State) (text behind : List ℕ) (earlier : List Reply)
+        → HasPaused begin text earlier old (from ++ behind) → HasPaused begin text (earlier ++ added) new (to ++ behind)
 
   -- at the end of the input, or after a tag that named an encoding
-  abbrev pub StandsAt : Tokenizer K → Queue → Queue → Option Encoding → Type 0
-  StandsAt k from to None = to.characters ≡ []
-  StandsAt k from to (Some encoding) = IsAt k state.Data × (length to.characters < length from.characters)
+  abbrev pub StandsAt : Tokenizer K → (from to : List ℕ) → Option Encoding → Type 0
+  StandsAt k from to None = to ≡ []
+  StandsAt k from to (Some encoding) = IsAt k state.Data × (length to < length from)
 
   -- An input was read up to the first `meta` that names an encoding, or all of it where none does.
-  pub record Meets (old new : Tokenizer K) (from to : Queue) (met : Option Encoding) : Type 0 where
+  pub record Meets (old new : Tokenizer K) (from to : List ℕ) (met : Option Encoding) : Type 0 where
     pub added : List Reply
     pub goes : Goes old new from to added
     pub first : first_named added ≡ met

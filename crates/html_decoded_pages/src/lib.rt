@@ -9,6 +9,7 @@ mod noted;
 mod page;
 mod parsing;
 mod pauses;
+mod pieces;
 
 pub use html_encodings::{Encoding, Sniffed, Why};
 pub use noted::decoded_noted_document;

@@ -8,29 +8,38 @@ ghost use Rattle.html_decoded_pages.specs.DecodedPages.{IsDecodedNoted, IsNotedP
 
 use crate::changing::is_tentative;
 use crate::page::DecodedPage;
-use crate::parsing::{Parsed, parse};
+use crate::parsing::{Parsed, parse_pieces};
 use html_encodings::{Decoded, Encoding, Sniffed};
 use html_encodings_multibyte::{decode, decode_page};
 use html_normal::{NormalFault, References};
 use html_pages::{NotedForest, exact_for, noted_document};
+use html_places::Pieces;
 use std::alloc::Global;
 
 /// The document of a text that was decoded by an encoding; or the other encoding in which it is to be read.
 fn parse_noted(
     alloc: Global,
     references: &References,
-    text: String,
+    text: &str,
     encoding: Encoding,
 ) -> Result<Parsed<NotedForest>, NormalFault>
-    ensures ok { IfOk result (IsParsedPage (IsNotedPage references.now) references.now (string_bytes text) encoding) }
+    ensures ok { IfOk result (IsParsedPage (IsNotedPage references.now) references.now text.now encoding) }
     ensures fault { IfErr result (λ fault. fault ≡ Memory) }
 {
     let Ok(table) = references.copy(alloc) else {
         return Err(NormalFault::Memory);
     };
-    let forest = NotedForest::new(alloc)?;
-    let exact = exact_for(text.as_str());
-    parse(alloc, forest, exact, table, text, encoding)
+    let noted = NotedForest::new(alloc)?;
+    let exact = exact_for(text);
+    let mut pieces = Pieces::new(alloc, text, exact.tokenizer);
+    let parsed = parse_pieces(alloc, noted, exact, table, &mut pieces, encoding)?;
+    match parsed {
+        Parsed::Whole(built) => {
+            let placed = pieces.end(built)?;
+            Ok(Parsed::Whole(placed))
+        }
+        Parsed::Other(other) => Ok(Parsed::Other(other)),
+    }
 }
 
 /// The document of a page whose encoding was found, which may give way to another.
@@ -47,7 +56,7 @@ fn tentative_noted(
     ensures fault { IfErr result (λ fault. fault ≡ Memory) }
 {
     let Decoded { text, errors } = decoded;
-    let parsed = parse_noted(alloc, &references, text, sniffed.encoding)?;
+    let parsed = parse_noted(alloc, &references, text.as_str(), sniffed.encoding)?;
     match parsed {
         Parsed::Whole(noted) => Ok(DecodedPage {
             content: noted,
@@ -93,8 +102,9 @@ fn noted_page(
     })
 }
 
-/// The document of a page, as [`decoded_document`](crate::decoded_document) reads it, with all its parse errors, in the order in which they
-/// were found. [`DecodedPage::errors`] counts those of the bytes.
+/// The document of a page, as [`decoded_document`](crate::decoded_document) reads it, with the places of its nodes, and with all its
+/// parse errors, in the order in which they were found; a place is that in the decoded text. [`DecodedPage::errors`] counts those of the
+/// bytes.
 ///
 /// Errors: [`NormalFault::Memory`].
 pub fn decoded_noted_document(

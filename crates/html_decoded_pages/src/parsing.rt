@@ -6,14 +6,17 @@ ghost use Rattle.markup.specs.Forest.{above_of};
 ghost use Rattle.html_normal.specs.Document.{default_opts, default_setting};
 ghost use Rattle.html_normal.specs.declared.fault.NormalFault.TheVariants.{Memory};
 ghost use Rattle.html_parser.specs.Documents.{builder, of_document};
+ghost use Rattle.html_places.specs.Pieces.{IsTaken};
 ghost use Rattle.html_tree_builder.specs.States.{answers_of, setting_of};
 ghost use Rattle.html_decoded_pages.specs.Parsing.{IsOutcome, IsParsed};
 ghost use Rattle.html_decoded_pages.specs.Pauses.{IsBefore};
 
 use crate::pauses::read_in;
+use crate::pieces::read_pieces_in;
 use html_encodings::Encoding;
 use html_normal::{Exact, NormalFault, References, options};
 use html_parser::ParseOpts;
+use html_places::{Noting, Pieces};
 use html_rules_laws::laws::each_text_has_a_document;
 use html_tokenizer::{BufferQueue, TokenSink, Tokenizer};
 use html_tokens::laws::notes_change_nothing;
@@ -98,6 +101,29 @@ pub(crate) fn parse<Sink: TreeSink + Drop>(
     let mut input = queue_of(text)?;
     let mut tokenizer = begin(alloc, sink, options(exact), references);
     let answer = read_in(&mut tokenizer, &mut input, encoding);
+    let left = sink_of(tokenizer);
+    let other = answer?;
+    Ok(outcome_of(left, other))
+}
+
+/// The document of the pieces of a text that was decoded by an encoding; or the other encoding in which it is to be read.
+pub(crate) fn parse_pieces<Sink: TreeSink + Noting + Drop>(
+    alloc: Global,
+    sink: Sink,
+    exact: Exact,
+    references: References,
+    pieces: &mut Pieces<'_>,
+    encoding: Encoding,
+) -> Result<Parsed<Sink::Output>, NormalFault>
+    requires top { above_of (Sink.forest sink) 0 ≡ None }
+    requires taken { IsTaken pieces.old }
+    ensures ok { IfOk result (IsParsed Sink.TreeSink references exact.tokenizer (Sink.forest sink) (chars pieces.old.rest.now) encoding) }
+    ensures fault { IfErr result (λ fault. fault ≡ Memory) }
+    ensures taken { IsTaken pieces.new }
+    ensures text { pieces.new.text.now ≡ pieces.old.text.now }
+{
+    let mut tokenizer = begin(alloc, sink, options(exact), references);
+    let answer = read_pieces_in(alloc, &mut tokenizer, pieces, encoding);
     let left = sink_of(tokenizer);
     let other = answer?;
     Ok(outcome_of(left, other))

@@ -18,12 +18,12 @@ fn encoding_named(label: &Text) -> Option<Encoding>
 }
 
 /// Has a tokenizer read up to the first `meta` that names an encoding, or all of its input where none does.
-fn next_encoding<S: TokenSink>(
+pub(crate) fn next_encoding<S: TokenSink>(
     tokenizer: &mut Tokenizer<S>,
     input: &mut BufferQueue,
 ) -> Result<Option<Encoding>, ParseFault>
     requires free { IsFree S.TokenSink tokenizer.old }
-    ensures ok { IfOk result (Meets S.TokenSink tokenizer.old tokenizer.new input.old input.new) }
+    ensures ok { IfOk result (Meets S.TokenSink tokenizer.old tokenizer.new input.old.characters input.new.characters) }
     ensures err { IfErr result (FailsAfter S.TokenSink tokenizer.old) }
 {
     loop {
@@ -39,7 +39,7 @@ fn next_encoding<S: TokenSink>(
 }
 
 /// Has a tokenizer read all of its input, past every pause.
-fn read_on<S: TokenSink>(
+pub(crate) fn read_on<S: TokenSink>(
     tokenizer: &mut Tokenizer<S>,
     input: &mut BufferQueue,
 ) -> Result<(), ParseFault>
@@ -55,7 +55,7 @@ fn read_on<S: TokenSink>(
 }
 
 /// Has a tokenizer that has read all of its input read the end of it.
-fn end<S: TokenSink>(tokenizer: &mut Tokenizer<S>) -> Result<(), ParseFault>
+pub(crate) fn end<S: TokenSink>(tokenizer: &mut Tokenizer<S>) -> Result<(), ParseFault>
     requires free { IsFree S.TokenSink tokenizer.old }
     ensures ok { OnOk result (Ends S.TokenSink tokenizer.old tokenizer.new.sink) }
     ensures err { IfErr result (FailsAfter S.TokenSink tokenizer.old) }

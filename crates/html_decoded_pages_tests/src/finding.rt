@@ -257,7 +257,7 @@ fn a_page_that_is_read_again_has_each_error_once(rt: HostRuntime) -> Result<(), 
     assert_eq!(rt; read.encoding, Encoding::Koi8R);
     assert_eq!(rt; read.content.errors.len(), 1);
     for error in &read.content.errors {
-        assert_eq!(rt; error.line, 2);
+        assert_eq!(rt; error.place.line, 2);
     }
     Ok(())
 }

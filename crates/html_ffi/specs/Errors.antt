@@ -7,13 +7,13 @@ use Rattle.markup.specs.Forest.{Forest}
 use Rattle.html_input.specs.TableFault.{IsTableFile}
 use Rattle.html_normal.specs.declared.report.Report.{Report}
 use Rattle.html_pages.specs.Pages.{IsPage}
-use Rattle.html_pages.specs.declared.noted.Noted.{Noted}
+use Rattle.html_places.specs.declared.noted.Noted.{Noted}
 use Rattle.html_tokens.specs.Table.{Row}
 use Rattle.html_ffi.specs.Calls.{IsReportOf}
 
 -- the line of the page, and the Standard's code or words
 abbrev pub error_line : Noted → List ℕ
-error_line error = decimal error.line ++ codes ": " ++ cow_str_bytes error.message ++ 10 ∷ []
+error_line error = decimal error.place.line ++ codes ": " ++ cow_str_bytes error.message ++ 10 ∷ []
 
 abbrev pub error_lines : List Noted → List ℕ
 error_lines errors = flat_map error_line errors

@@ -20,7 +20,7 @@ use std::alloc::{AllocError, Global};
 fn push_line(alloc: Global, text: &mut String, error: &Noted) -> Result<(), AllocError>
     ensures { IfOk result (λ _. string_bytes text.new ≡ string_bytes text.old ++ error_line error.now) }
 {
-    let line = error.line;
+    let line = error.place.line;
     let message = error.message.as_str();
     let words = format!(in alloc; "{line}: {message}\n")?;
     text.push_str(words.as_str())

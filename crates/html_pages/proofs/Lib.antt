@@ -2,3 +2,4 @@ pub mod Parsed
 mod Again
 mod Leads
 pub mod Emitted
+mod Takings

@@ -1,3 +1,4 @@
 pub mod Pages
+pub mod Pieces
 pub mod ReadBack
 pub mod Forbidden

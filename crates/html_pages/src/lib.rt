@@ -4,12 +4,12 @@
 #![tactic(auto)]
 
 mod forbidden;
-mod noted;
+mod pieces;
 mod read_back;
 mod reading;
 
 pub use forbidden::exact_for;
 pub use html_normal::{Exact, NormalFault, References, read_document};
-pub use noted::{Noted, NotedForest};
+pub use html_places::{Noted, NotedForest, Place};
 pub use read_back::is_read_back;
 pub use reading::{document, document_lossy, fragment, noted_document};

@@ -8,13 +8,15 @@ ghost use Rattle.html_parser.specs.Documents.{Begins, IsBuilt, builder};
 ghost use Rattle.html_parser.specs.Read.{Beginning, stopped_by};
 ghost use Rattle.html_rules.specs.State.{State};
 ghost use Rattle.html_tokenizer.specs.Calls.{IsReadyIf, refusal_of};
+ghost use Rattle.html_places.specs.Noted.{IsPlaced};
 ghost use Rattle.html_pages.specs.Pages.{IsFragment, IsPage, html_name};
 
 use crate::forbidden::exact_for;
-use crate::noted::NotedForest;
+use crate::pieces::whole_in_pieces;
 use html_forest::Forest;
 use html_normal::{Exact, NormalFault, References, options};
 use html_parser::{Parser, parse_document, parse_fragment};
+use html_places::{NotedForest, Pieces};
 use markup::{Attributes, KnownNamespace, LocalName, Namespace, QualName, TreeSink};
 use std::alloc::Global;
 
@@ -95,7 +97,7 @@ pub fn fragment(
     whole(parser, text)
 }
 
-/// The document of a text with all its parse errors, in the order in which they were found.
+/// The document of a text with the places of its nodes, and with all its parse errors, in the order in which they were found.
 ///
 /// Errors: [`NormalFault::Memory`].
 pub fn noted_document(
@@ -105,12 +107,16 @@ pub fn noted_document(
 ) -> Result<NotedForest, NormalFault>
     ensures ok { IfOk result (λ made. IsPage references true (string_bytes page) made.forest) }
     ensures all { IfOk result (λ made. length made.errors.items ≡ made.forest.errors) }
+    ensures places { IfOk result (IsPlaced (chars (string_bytes page))) }
     ensures fault { IfErr result (λ fault. fault ≡ Memory) }
 {
-    let forest = NotedForest::new(alloc)?;
-    let exact = exact_for(page.as_str());
-    let parser = parse_document(alloc, forest, options(exact), references)?;
-    let made = whole(parser, page)?;
+    let text = page.as_str();
+    let sink = NotedForest::new(alloc)?;
+    let exact = exact_for(text);
+    let parser = parse_document(alloc, sink, options(exact), references)?;
+    let mut pieces = Pieces::new(alloc, text, exact.tokenizer);
+    let built = whole_in_pieces(alloc, parser, &mut pieces)?;
+    let made = pieces.end(built)?;
     if !made.is_complete() {
         return Err(NormalFault::Memory);
     }

@@ -13,7 +13,7 @@ fn errors_without_a_code_are_told_by_words(rt: HostRuntime) -> Result<(), Fail> 
         (2, "missing doctype"),
         (3, "an end tag without its element"),
     ]) {
-        assert!(rt; noted.line == line && noted.message.as_str().contains(word));
+        assert!(rt; noted.place.line == line && noted.message.as_str().contains(word));
     }
     let empty = NotedForest::new(alloc)?;
     assert!(rt; empty.errors.is_empty() && empty.forest.error_count() == 0);

@@ -10,4 +10,6 @@ mod nodes;
 #[cfg(test)]
 mod pages;
 #[cfg(test)]
+mod places;
+#[cfg(test)]
 mod references;

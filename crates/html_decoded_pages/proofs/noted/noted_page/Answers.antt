@@ -20,4 +20,5 @@ returns-clause-ok c =
     of-found c.args.bytes.now (option_copied c.args.label) c.args.fallback found c.in_ok-decoded.ensures.sniffed
     (IsDecodedNoted c.args.references) _
     (of-certain (IsNotedPage c.args.references) c.args.references found (unmarked found c.args.bytes.now) c.in_ok-decoded.decoded
-    c.in_ok-decoded.ensures.text c.in_ok-noted.noted (sym c.if-is_tentative.ensures) c.in_ok-noted.ensures.ok)
+    c.in_ok-decoded.ensures.text c.in_ok-noted.noted (sym c.if-is_tentative.ensures)
+    (c.in_ok-noted.ensures.ok, c.in_ok-noted.ensures.places))

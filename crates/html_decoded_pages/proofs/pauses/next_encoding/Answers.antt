@@ -6,7 +6,7 @@ use Rattle.html_decoded_pages.proofs.pauses.next_encoding.Goals as goal
 use Rattle.html_decoded_pages.proofs.pauses.next_encoding.Goals.{in-Script, in-EncodingIndicator+in-None}
 
 pub loop-label-init : goal.loop-label-init
-loop-label-init g c = seeks-first g.S.TokenSink c.args.tokenizer.now c.args.input.now c.requires.free
+loop-label-init g c = seeks-first g.S.TokenSink c.args.tokenizer.now c.args.input.now.characters c.requires.free
 
 pub returns-in_err-feed-clause-err : goal.returns-in_err-feed-clause-err
 returns-in_err-feed-clause-err g c =

@@ -1,8 +1,10 @@
-//! A forest that keeps the errors of its page, each with its line.
-ghost use Rattle.std.specs.Prelude.{◌≡◌, ◌==◌, ◌≤◌, IfErr, IfOk, IsSome, OnErr, OnOk, length};
-ghost use Rattle.markup.specs.Forest.{empty_forest};
+//! A forest that keeps the parse errors of its page, and where its nodes and they are in the text of the page.
+ghost use Rattle.std.specs.Prelude.{◌≡◌, ◌==◌, ◌≤◌, IfErr, IfOk, IsSome, OnErr, OnOk, length, map, take, true};
+ghost use Rattle.markup.specs.Forest.{empty_forest, node_count};
 ghost use Rattle.markup.specs.declared.fault.ParseFault.TheVariants.{Memory};
+ghost use Rattle.html_places.specs.Noted.{place_of};
 
+use crate::place::Place;
 use html_forest::{Forest, NodeId};
 use markup::{
     Attribute, Attributes, ElementFlags, LocalName, NodeOrText, ParseFault, QualName, QuirksMode,
@@ -14,23 +16,38 @@ use std::borrow::CowStr;
 /// A parse error of a page (HTML Standard, section 13.2.2).
 #[derive(Debug, Drop)]
 pub struct Noted {
-    /// The line on which it was found, counted from 1: of a tag or a comment the one on which that ends, of a text the one on which that
-    /// begins. In a page with control characters or noncharacters each character of a text has its own.
-    pub line: u64,
+    /// Where the tag, the comment, the reference or the text begins in which it was found.
+    pub place: Place,
     /// The Standard's code of it where it has one, else words, which may change.
     pub message: CowStr<'static>,
 }
 
-/// A forest, and the parse errors that it was told, each with its line. As a sink of trees it is the forest that it has.
+/// A forest, the places of its nodes, and the parse errors that it was told. As a sink of trees it is the forest that it has.
 ///
-/// Where memory is wanting for an error it has fewer than its forest counts.
+/// A parser does not tell a sink any place: of an error the sink notes the line that it was told, and of a node nothing. The calls that
+/// read a page put the places in. Where memory is wanting for an error it has fewer than its forest counts.
 #[derive(Debug, Drop)]
 pub struct NotedForest {
     /// The tree.
     pub forest: Forest,
+    /// Where each node begins, by its number: an element at the tag that made it, or at what made the parser put it there.
+    pub places: Vec<Place>,
     /// The errors, in the order in which they were told.
     pub errors: Vec<Noted>,
+    // How many errors were told before the last text that was put into the tree.
+    pub(crate) text_errors: usize,
     line: u64,
+}
+
+/// Puts places in where errors are.
+fn put_places(errors: &mut [Noted], places: &[Place])
+    requires enough { length errors.old ≤ length places.now }
+    ensures places { map place_of errors.new ≡ take (length errors.old) places.now }
+    ensures len { length errors.new ≡ length errors.old }
+{
+    for at in 0..errors.len() {
+        errors[at].place = places[at];
+    }
 }
 
 impl NotedForest {
@@ -41,9 +58,20 @@ impl NotedForest {
     {
         Ok(NotedForest {
             forest: Forest::new(alloc)?,
+            places: Vec::new(alloc),
             errors: Vec::new(alloc),
+            text_errors: 0,
             line: 1,
         })
+    }
+
+    /// Notes that a node or a text is put into the tree.
+    fn note_child(&mut self, child: &NodeOrText<NodeId>)
+        ensures { self.new.forest ≡ self.old.forest }
+    {
+        if matches!(child, NodeOrText::AppendText(_)) {
+            self.text_errors = self.errors.len();
+        }
     }
 
     /// Whether it has an error for each that its forest counts.
@@ -51,6 +79,40 @@ impl NotedForest {
         ensures { result ≡ (length self.now.errors.items == self.now.forest.errors) }
     {
         self.errors.len() as u64 == self.forest.error_count()
+    }
+
+    /// Whether it has a place for each node.
+    pub fn has_each_place(&self) -> bool
+        ensures { result ≡ true → length self.now.places.items ≡ node_count self.now.forest }
+    {
+        let count = self.places.len();
+        count > 0
+            && self.forest.node(NodeId::new(count - 1)).is_some()
+            && self.forest.node(NodeId::new(count)).is_none()
+    }
+
+    /// Puts in where the nodes and the errors are.
+    pub(crate) fn put_places(&mut self, nodes: Vec<Place>, errors: &[Place])
+        requires enough { length self.old.errors.items ≤ length errors.now }
+        ensures forest { self.new.forest ≡ self.old.forest }
+        ensures nodes { self.new.places.items ≡ nodes.items }
+        ensures errors { map place_of self.new.errors.items ≡ take (length self.old.errors.items) errors.now }
+        ensures len { length self.new.errors.items ≡ length self.old.errors.items }
+    {
+        put_places(self.errors.as_mut_slice(), errors);
+        self.places = nodes;
+    }
+}
+
+/// What notes parse errors beside a tree.
+pub trait Noting {
+    /// The tree and the errors.
+    fn noted(&self) -> &NotedForest;
+}
+
+impl Noting for NotedForest {
+    fn noted(&self) -> &NotedForest {
+        self
     }
 }
 
@@ -79,7 +141,10 @@ impl TreeSink for NotedForest {
 
     fn parse_error(&mut self, message: CowStr<'static>) {
         let noted = Noted {
-            line: self.line,
+            place: Place {
+                line: self.line,
+                column: 1,
+            },
             message,
         };
         let _ = self.errors.push(noted);
@@ -136,6 +201,7 @@ impl TreeSink for NotedForest {
         ensures fault { IfErr result (λ fault. fault ≡ Memory) }
         ensures grows { node_count self.old.forest ≤ node_count self.new.forest }
     {
+        self.note_child(&child);
         self.forest.append(parent, child)
     }
 
@@ -152,6 +218,7 @@ impl TreeSink for NotedForest {
         ensures fault { IfErr result (λ fault. fault ≡ Memory) }
         ensures grows { node_count self.old.forest ≤ node_count self.new.forest }
     {
+        self.note_child(&child);
         self.forest.append_before_sibling(sibling, child)
     }
 
@@ -171,6 +238,7 @@ impl TreeSink for NotedForest {
         ensures fault { IfErr result (λ fault. fault ≡ Memory) }
         ensures grows { node_count self.old.forest ≤ node_count self.new.forest }
     {
+        self.note_child(&child);
         self.forest
             .append_based_on_parent_node(element, previous, child)
     }
