@@ -3,7 +3,7 @@
 
     tools/attacks_in_browser.py 'COMMAND' [FILE.dat..]
 
-COMMAND reads a fragment from standard input, in UTF-8, and prints it cleaned, as `html_clean` does. The attacks are the rows of
+COMMAND reads a fragment from standard input, in UTF-8, and prints it cleaned, as `figpliers clean` does. The attacks are the rows of
 files, or of crates/conformance/data/attacks. Each cleaned text is written into a document behind each context's text, and is set as
 `innerHTML` of an element in it; links are followed, and events are sent to every element. Prints each attack that calls `alert`, or makes
 an element or an attribute that the policy for text and links does not keep, and the numbers of all; ends with status 1 if there is one.

@@ -37,7 +37,7 @@ def options_in(body):
     """The options that a body makes, in their order."""
     made = [(m.start(), Option(m[1], None, m[2])) for m in re.finditer(rf"\bflag\(\s*alloc,\s*{TEXT},\s*{TEXT},?\s*\)", body)]
     made += [(m.start(), Option(m[1], m[2], m[3]))
-             for m in re.finditer(rf"\boption\(\s*alloc,\s*{TEXT},\s*{TEXT},\s*{TEXT},?\s*\)", body)]
+             for m in re.finditer(rf"\b(?:option|several)\(\s*alloc,\s*{TEXT},\s*{TEXT},\s*{TEXT},?\s*\)", body)]
     made += [(m.start(), Option(m[1], None, m[2]))
              for m in re.finditer(rf"\.long\({TEXT}\)\s*\.action\(ArgAction::Help\)\s*\.help\({TEXT}\)", body)]
     for m in re.finditer(r"\.short\('(.)'\)", body):
@@ -72,7 +72,7 @@ def described(source):
     for name, body in bodies.items():
         made = [(m.start(), m[1], m[2], m[3]) for m in
                 re.finditer(rf"\bover_pages\(\s*alloc,\s*{TEXT},\s*(?:{TEXT}|(about)),", body)]
-        made += [(m.start(), m[1], m[2], None) for m in re.finditer(rf"Command::new\(alloc, {TEXT}\)\s*\.about\({TEXT}\)", body)
+        made += [(m.start(), m[1], m[2], None) for m in re.finditer(rf"Command::new\(alloc, {TEXT}\)\s*\.about\(\s*{TEXT},?\s*\)", body)
                  if name != "program"]
         for at, command, about, variable in sorted(made):
             if variable:
@@ -124,7 +124,8 @@ def manual(commands, about, status):
         lines += [f".B {roff(usage(command))}", ".br"]
     lines += [".SH DESCRIPTION",
               roff("Each command reads the HTML pages in the files that are named, or on standard input where none is named and for the "
-                   "name -. The files after one that cannot be read are still read.")]
+                   "name -. The files after one that cannot be read are still read. The command clean has no name for standard input, "
+                   "and reads no file after one that cannot be read.")]
     for command in commands:
         lines += [f".SH {command.name.upper()}", roff(command.about + ".")]
         for name, required, help in command.operands:
@@ -183,7 +184,7 @@ def zsh(commands):
     for command in commands:
         lines += [f"        {command.name})", "            _arguments \\"]
         for option in command.options:
-            value = f":{option.value}:" + ("_files" if takes_file(option) else "") if option.value else ""
+            value = f":{zsh_text(option.value)}:" + ("_files" if takes_file(option) else "") if option.value else ""
             for name in names(option):
                 lines += [f"                '{name}[{zsh_text(option.help)}]{value}' \\"]
         for name, required, _ in command.operands:

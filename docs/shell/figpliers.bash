@@ -2,7 +2,7 @@
 _figpliers() {
     local word=${COMP_WORDS[COMP_CWORD]} before=${COMP_WORDS[COMP_CWORD-1]} options=
     if [ "$COMP_CWORD" -eq 1 ]; then
-        COMPREPLY=($(compgen -W 'errors tree links markdown text check select normal --help --version' -- "$word"))
+        COMPREPLY=($(compgen -W 'errors tree links markdown text check select normal clean --help --version' -- "$word"))
         return
     fi
     case "${COMP_WORDS[1]} $before" in
@@ -14,6 +14,7 @@ _figpliers() {
         'check --encoding') return ;;
         'select --encoding'|'select --attr') return ;;
         'normal --encoding') return ;;
+        'clean --print-policy'|'clean --element'|'clean --attribute'|'clean --beginning'|'clean --add'|'clean --scheme') return ;;
     esac
     case "${COMP_WORDS[1]}" in
         errors) options='--encoding --utf-8 --lossy -o --output -h --help -V --version' ;;
@@ -24,6 +25,7 @@ _figpliers() {
         check) options='--encoding --utf-8 --lossy -o --output -h --help -V --version' ;;
         select) options='--encoding --utf-8 --lossy -o --output --text --attr --count --json -h --help -V --version' ;;
         normal) options='--encoding --utf-8 --lossy -o --output -h --help -V --version' ;;
+        clean) options='--policy --print-policy --document --table --element --attribute --beginning --add --scheme -o --output -h --help -V --version' ;;
     esac
     case "$word" in
         -*) COMPREPLY=($(compgen -W "$options" -- "$word")) ;;

@@ -3,16 +3,18 @@
 use crate::lines::{put_line, without_last};
 use crate::settings::five;
 use crate::written::cleaned_by;
-use html_clean::Policy;
 use html_forest::{Forest, NodeData, NodeId};
 use html_pages::document;
+use html_policy_text::Ready;
 use markup::{Attribute, ParseFault};
 use row_format::{How, Row};
 use std::alloc::{AllocError, Global};
 
 /// What a policy may keep.
 struct Kept {
-    policy: &'static str,
+    policy: Ready,
+    /// Its name.
+    name: &'static str,
     /// Elements without attributes of their own.
     bare: &'static [&'static str],
     /// Elements with attributes of their own, and others with more.
@@ -20,6 +22,10 @@ struct Kept {
     others: &'static [(&'static str, &'static [&'static str])],
     /// Attributes of each of these elements.
     everywhere: &'static [&'static str],
+    /// What its URLs begin with; if there is nothing, whatever runs no script.
+    schemes: &'static [&'static str],
+    /// What the URLs of its pictures may begin with besides.
+    pictures: &'static [&'static str],
 }
 
 /// Where cleaned text is put: behind a text, which makes these elements.
@@ -136,28 +142,163 @@ const USERS: &[(&str, &[&str])] = &[
     ("time", &["datetime"]),
 ];
 
+/// Elements of mails without attributes of their own.
+const MAIL_BARE: &[&str] = &[
+    "abbr",
+    "acronym",
+    "address",
+    "b",
+    "bdi",
+    "bdo",
+    "big",
+    "br",
+    "center",
+    "cite",
+    "dd",
+    "dfn",
+    "dl",
+    "dt",
+    "em",
+    "figcaption",
+    "figure",
+    "i",
+    "kbd",
+    "mark",
+    "pre",
+    "rp",
+    "rt",
+    "ruby",
+    "s",
+    "samp",
+    "section",
+    "small",
+    "span",
+    "strike",
+    "strong",
+    "sub",
+    "summary",
+    "sup",
+    "tt",
+    "u",
+    "var",
+    "wbr",
+];
+
+const MAILS: &[(&str, &[&str])] = &[
+    ("a", &["href", "rel", "target"]),
+    ("blockquote", &["cite"]),
+    ("caption", &["align"]),
+    ("code", &["class"]),
+    ("col", MAIL_COLUMN),
+    ("colgroup", MAIL_COLUMN),
+    ("data", &["value"]),
+    ("del", &["cite", "datetime"]),
+    ("details", &["open"]),
+    ("div", &["align"]),
+    ("font", &["color", "face", "size"]),
+    ("h1", &["align"]),
+    ("h2", &["align"]),
+    ("h3", &["align"]),
+    ("h4", &["align"]),
+    ("h5", &["align"]),
+    ("h6", &["align"]),
+    ("hr", &["align", "size", "width"]),
+    (
+        "img",
+        &[
+            "align", "alt", "border", "height", "hspace", "src", "vspace", "width",
+        ],
+    ),
+    ("ins", &["cite", "datetime"]),
+    ("li", &["type", "value"]),
+    ("ol", &["reversed", "start", "type"]),
+    ("p", &["align"]),
+    ("q", &["cite"]),
+    (
+        "table",
+        &[
+            "align",
+            "bgcolor",
+            "border",
+            "cellpadding",
+            "cellspacing",
+            "height",
+            "summary",
+            "width",
+        ],
+    ),
+    ("tbody", &["align", "valign"]),
+    ("td", MAIL_CELL),
+    ("tfoot", &["align", "valign"]),
+    ("th", MAIL_CELL),
+    ("thead", &["align", "valign"]),
+    ("time", &["datetime"]),
+    ("tr", &["align", "bgcolor", "height", "valign"]),
+    ("ul", &["type"]),
+];
+
+const MAIL_COLUMN: &[&str] = &["align", "span", "valign", "width"];
+
+const MAIL_CELL: &[&str] = &[
+    "align", "bgcolor", "colspan", "height", "nowrap", "rowspan", "scope", "valign", "width",
+];
+
 const KEPT: &[Kept] = &[
     Kept {
-        policy: "text alone",
+        policy: Ready::TextAlone,
+        name: "text alone",
         bare: &[],
         elements: &[],
         others: &[],
         everywhere: &[],
+        schemes: &[],
+        pictures: &[],
     },
     Kept {
-        policy: "text and links",
+        policy: Ready::TextAndLinks,
+        name: "text and links",
         bare: BARE,
         elements: LINKS,
         others: &[],
         everywhere: &["lang", "title"],
+        schemes: &[],
+        pictures: &[],
     },
     Kept {
-        policy: "user content",
+        policy: Ready::UserContent,
+        name: "user content",
         bare: BARE,
         elements: LINKS,
         others: USERS,
         everywhere: &["dir", "id", "lang", "title"],
+        schemes: &[],
+        pictures: &[],
     },
+    Kept {
+        policy: Ready::Mail,
+        name: "mail",
+        bare: MAIL_BARE,
+        elements: MAILS,
+        others: &[],
+        everywhere: &["dir", "lang", "title"],
+        schemes: &["http:", "https:", "mailto:", "tel:"],
+        pictures: PICTURES,
+    },
+];
+
+/// What the URLs of pictures that come with a mail begin with: those that hold no script.
+const PICTURES: &[&str] = &[
+    "cid:",
+    "data:image/avif,",
+    "data:image/avif;",
+    "data:image/gif,",
+    "data:image/gif;",
+    "data:image/jpeg,",
+    "data:image/jpeg;",
+    "data:image/png,",
+    "data:image/png;",
+    "data:image/webp,",
+    "data:image/webp;",
 ];
 
 /// Elements that the parser makes by itself (HTML Standard, section 13.2.6).
@@ -334,9 +475,9 @@ fn begins(url: &str, front: &str) -> bool {
     front.is_empty()
 }
 
-/// Whether a URL runs a script, or may.
-fn runs(url: &str) -> bool {
-    for front in RUN {
+/// Whether a URL begins with one of these.
+fn begins_with_one(url: &str, fronts: &[&str]) -> bool {
+    for front in fronts {
         if begins(url, front) {
             return true;
         }
@@ -344,19 +485,22 @@ fn runs(url: &str) -> bool {
     false
 }
 
-/// Whether an attribute has a value that no policy keeps: a URL that runs a script, or a name that may be one of the page's.
-fn is_harmful(name: &str, value: &str) -> bool {
-    has(URLS, name) && runs(value) || has(NAMES, name) && !value.starts_with(PREFIX)
-}
-
 impl Kept {
-    /// The policy that it is of.
-    fn policy(&self, alloc: Global) -> Result<Policy, ParseFault> {
-        match self.policy {
-            "text alone" => Policy::text_alone(alloc),
-            "text and links" => Policy::text_and_links(alloc),
-            _ => Policy::user_content(alloc),
+    /// Whether a URL may be kept: it runs no script, and has one of the policy's schemes.
+    fn has_scheme(&self, url: &str) -> bool {
+        !begins_with_one(url, RUN)
+            && (self.schemes.is_empty() || begins_with_one(url, self.schemes))
+    }
+
+    /// Whether an attribute has a value that the policy doesn't keep: another URL, or a name that may be one of the page's.
+    fn is_harmful(&self, element: &str, name: &str, value: &str) -> bool {
+        if has(NAMES, name) && !value.starts_with(PREFIX) {
+            return true;
         }
+        let is_picture = element.eq_ignore_ascii_case("img") && name.eq_ignore_ascii_case("src");
+        has(URLS, name)
+            && !self.has_scheme(value)
+            && !(is_picture && begins_with_one(value, self.pictures))
     }
 
     /// Whether an element may be kept.
@@ -385,12 +529,12 @@ fn put_attribute(
 ) -> Result<(), AllocError> {
     let name = attribute.name.local.as_str();
     let value = attribute.value.as_str();
-    if kept.has_attribute(element, name) && !is_harmful(name, value) {
+    if kept.has_attribute(element, name) && !kept.is_harmful(element, name, value) {
         return Ok(());
     }
     let words = format!(in alloc;
         "{}, after {}: <{element} {name}=\"{value}\">",
-        kept.policy, context.before
+        kept.name, context.before
     )?;
     put_line(lines, words.as_str())
 }
@@ -405,7 +549,7 @@ fn put_element(
     lines: &mut String,
 ) -> Result<(), AllocError> {
     if !(kept.has_element(element) || has(IMPLIED, element) || has(context.makes, element)) {
-        let words = format!(in alloc; "{}, after {}: <{element}>", kept.policy, context.before)?;
+        let words = format!(in alloc; "{}, after {}: <{element}>", kept.name, context.before)?;
         put_line(lines, words.as_str())?;
     }
     for attribute in attributes {
@@ -457,7 +601,7 @@ fn put_kept(
     how: How,
     lines: &mut String,
 ) -> Result<(), ParseFault> {
-    let policy = kept.policy(alloc)?;
+    let policy = kept.policy.policy(alloc)?;
     let text = cleaned_by(alloc, row, false, how, &policy)?;
     for context in CONTEXTS {
         let forest = page(alloc, context, text.as_str())?;

@@ -133,7 +133,7 @@ fn put_code(alloc: Global, lines: &mut String, error: &Noted) -> Result<(), Allo
     if message.contains(' ') {
         return Ok(());
     }
-    let words = format!(in alloc; "{} {message}", error.line)?;
+    let words = format!(in alloc; "{} {message}", error.place.line)?;
     put_line(lines, words.as_str())
 }
 

@@ -1,4 +1,4 @@
-//! The program `figpliers`: parse errors, trees, links, texts, Markdown, checks, elements and normal texts of HTML pages.
+//! The program `figpliers`: parse errors, trees, links, texts, Markdown, checks, elements, normal texts and clean texts of HTML pages.
 //!
 //! What it does is `figpliers_program`; here it gets its words, its files and its streams.
 #![tactic(auto)]

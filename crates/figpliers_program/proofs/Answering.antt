@@ -5,7 +5,7 @@ use Rattle.std.specs.Bool.{MatchBool}
 use Rattle.clap.specs.declared.error.kind.ErrorKind.{ErrorKind}
 use Rattle.clap.specs.declared.error.kind.ErrorKind.TheVariants.{DisplayHelp, DisplayVersion, OutOfMemory}
 use Rattle.figpliers.specs.Puts.{WriterView}
-use Rattle.figpliers_program.specs.Jobs.{IsAnswered, IsHelped, IsOutOfMemory, IsOutcome}
+use Rattle.figpliers_program.specs.Jobs.{IsAnswered, IsHelped, IsOutOfMemory, IsPagesOutcome}
 use Rattle.figpliers_program.specs.Outcome.{Stream}
 use Rattle.figpliers_program.specs.Rejected.{IsRejected, IsRejectedBy, is_help}
 use Rattle.figpliers_program.specs.declared.faults.Verdict.{Verdict}
@@ -48,7 +48,7 @@ rejected words kind other (inr why) = (kind, why)
 pub nothing-done : (words : List (List ℕ)) (kind : ErrorKind) (left : Stream) (out out' : WriterView) (errors errors' : Stream)
     (verdict : Verdict) (files : Files) → ((kind ≡ OutOfMemory) ⊎ IsRejectedBy words kind)
     → (IsOutOfMemory out out' errors errors' verdict ⊎ ((kind ≡ OutOfMemory → ⊥) × IsAnswered kind out out' errors errors' verdict))
-    → IsOutcome files words left left out out' errors errors' verdict
+    → IsPagesOutcome files words left left out out' errors errors' verdict
 nothing-done words kind left out out' errors errors' verdict files why (inl none) = inl (refl, none)
 nothing-done words kind left out out' errors errors' verdict files (inl is) (inr answer) = absurd (answer.0 is)
 nothing-done words kind left out out' errors errors' verdict files (inr rejected) (inr answer) =

@@ -1,3 +1,4 @@
+mod AfterCommand
 mod Answering
 mod Building
 mod Found

@@ -10,7 +10,7 @@ use Rattle.html_selector_text.specs.Trees.{list_tree}
 use Rattle.selectors.specs.declared.selector.Selectors.{Selectors}
 use Rattle.std.proofs.Common.{length}
 use Rattle.figpliers.specs.Forest.{Forest}
-use Rattle.html_pages.specs.declared.noted.NotedForest.{NotedForest}
+use Rattle.html_places.specs.declared.noted.NotedForest.{NotedForest}
 use Rattle.figpliers.specs.Puts.{WriterView}
 use Rattle.figpliers.specs.Table.{Row}
 use Rattle.figpliers_program.specs.Jobs.{IsMadeOf, IsWritten, has_several}

@@ -11,17 +11,17 @@ use Rattle.clap.specs.declared.error.kind.ErrorKind.{ErrorKind}
 use Rattle.clap.specs.declared.error.kind.ErrorKind.TheVariants.{OutOfMemory}
 use Rattle.clap.specs.declared.parser.matches.ArgMatches.{ArgMatches}
 use Rattle.figpliers_program.specs.Asked.{IsCommandOf, has_no_name, has_unknown_label}
-use Rattle.figpliers_program.specs.CommandLine.{figpliers, links_command, select_command, tree_command}
+use Rattle.figpliers_program.specs.CommandLine.{clean_command, figpliers, links_command, select_command, tree_command}
 use Rattle.figpliers_program.specs.Rejected.{IsRejectedBy, IsUnfit, Label, Name, is_help}
 use Rattle.figpliers_program.specs.declared.command.Asked.{Asked}
 
 pub simple : is_simple figpliers ≡ true
-unfolding figpliers links_command select_command tree_command
+unfolding clean_command figpliers links_command select_command tree_command
 simple = refl
 
 -- no option has a rule on another
 pub simple-and-free : is_simple_and_free figpliers ≡ true
-unfolding figpliers links_command select_command tree_command
+unfolding clean_command figpliers links_command select_command tree_command
 simple-and-free = refl
 
 -- an error of clap's

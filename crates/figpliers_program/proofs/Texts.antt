@@ -1,6 +1,6 @@
 -- What each command writes of a page, from what the calls answered.
-use Rattle.std.proofs.Common.{◌≡◌, ◌∙◌, ◌+◌, ◌<◌, ℕ, Bool, true, List, [], ◌∷◌, ◌++◌, Option, Some, Ok, Err, ap}
-use Rattle.std.proofs.Common.{append_assoc, drop, get_or, inl, inr, length, map, refl, sym, take}
+use Rattle.std.proofs.Common.{◌≡◌, ◌∙◌, ◌+◌, ◌<◌, ℕ, true, List, [], ◌∷◌, ◌++◌, Err, ap}
+use Rattle.std.proofs.Common.{append_assoc, drop, get_or, length, map, refl, sym, take}
 use Rattle.std.proofs.lemmas.List.{append-nil, map-append, take-append-drop, take_more}
 use Rattle.std.specs.Prelude.{None, cond, encode_utf8_all, false}
 use Rattle.std.specs.Str.{chars}
@@ -18,8 +18,9 @@ use Rattle.figpliers.specs.Trees.{default_entry, trees_of, written}
 use Rattle.figpliers.specs.Walk.{walked}
 use Rattle.html_serialize.specs.declared.opts.SerializeOpts.{SerializeOpts}
 use Rattle.figpliers_program.specs.Pages.{FragmentText, RenderedText}
+use Rattle.html_places.specs.declared.place.Place.{Place}
 use Rattle.figpliers_program.specs.Pages.{ended, error_line, error_lines, top_of}
-use Rattle.figpliers_program.specs.Printing.{IsCut, PrintsSome}
+use Rattle.figpliers_program.specs.Printing.{IsCut}
 use Rattle.figpliers_program.specs.declared.faults.PageFault.{PageFault}
 use Rattle.figpliers_program.specs.declared.faults.Verdict.{Verdict}
 use Rattle.figpliers_program.specs.declared.faults.Verdict.TheVariants.{Fine}
@@ -55,14 +56,14 @@ document-given f id opts top id_is opts_is =
     ∙ ap (λ about. encode_utf8_all (written true default_entry (trees_of f (children_of f (cond (template_of about) 1 0))))) top
 
 -- `errors`: the lines of several errors after those of others
-lines-append : (name : List ℕ) (errors others : List (ℕ × List ℕ))
+lines-append : (name : List ℕ) (errors others : List (Place × List ℕ))
     → error_lines name (errors ++ others) ≡ error_lines name errors ++ error_lines name others
 lines-append name [] others = refl
 lines-append name (e ∷ errors) others = ap (λ rest. error_line name e ++ rest) (lines-append name errors others)
     ∙ sym (append_assoc (error_line name e) (error_lines name errors) (error_lines name others))
 
 -- one line more
-pub lines-next : {X : Type 0} (note : X → ℕ × List ℕ) (name : List ℕ) (items : List X) (i : ℕ) (d : X) (error : ℕ × List ℕ)
+pub lines-next : {X : Type 0} (note : X → Place × List ℕ) (name : List ℕ) (items : List X) (i : ℕ) (d : X) (error : Place × List ℕ)
     → i < length items → error ≡ note (get_or items i d)
     → error_lines name (map note (take i items)) ++ error_line name error ≡ error_lines name (map note (take (i + 1) items))
 lines-next note name items i d error inside is =
@@ -73,7 +74,7 @@ lines-next note name items i d error inside is =
     ∙ ap (λ line. error_lines name (map note (take i items)) ++ line) (append-nil (error_line name (note (get_or items i d)))))
 
 -- a line that was not all written
-pub lines-cut : {X : Type 0} (note : X → ℕ × List ℕ) (name : List ℕ) (items : List X) (i : ℕ) (d : X) (error : ℕ × List ℕ)
+pub lines-cut : {X : Type 0} (note : X → Place × List ℕ) (name : List ℕ) (items : List X) (i : ℕ) (d : X) (error : Place × List ℕ)
     (old mid new : WriterView) (fault : PageFault) → i < length items → error ≡ note (get_or items i d)
     → mid ≡ with_bytes old (error_lines name (map note (take i items))) → IsCut (error_line name error) mid fault new
     → IsCut (error_lines name (map note items)) old fault new

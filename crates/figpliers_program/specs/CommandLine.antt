@@ -18,6 +18,10 @@ flag_rule name = record (new_rule name) { long = Some name; action = Some SetTru
 abbrev pub option_rule : Text → Rule
 option_rule name = record (new_rule name) { long = Some name; action = Some Set; value_names = 1 }
 
+-- the same, which may be used several times
+abbrev pub several_rule : Text → Rule
+several_rule name = record (option_rule name) { action = Some Append }
+
 -- an option of its command alone, of which clap has no rule on its use beside others
 abbrev pub IsPlainOption : Arg → Type 0
 IsPlainOption option = (option.global ≡ false) × (option.conflicts.items ≡ [])
@@ -71,6 +75,16 @@ abbrev pub with_naming : App → App
 with_naming command = with_rule (with_rule (with_rule (on_top (λ s. record s { disable_help_flag = true }) command) with_names_rule)
     without_names_rule) long_help_rule
 
+-- which policy pages are cleaned by, and how they are read
+abbrev pub with_policy : App → App
+with_policy command = with_rule (with_rule (with_rule (with_rule command (option_rule (codes "policy")))
+    (option_rule (codes "print-policy"))) (flag_rule (codes "document"))) (option_rule (codes "table"))
+
+-- what is kept and added beside what the policy says
+abbrev pub with_extras : App → App
+with_extras command = with_rule (with_rule (with_rule (with_rule (with_rule command (several_rule (codes "element")))
+    (several_rule (codes "attribute"))) (several_rule (codes "beginning"))) (several_rule (codes "add"))) (several_rule (codes "scheme"))
+
 -- COMMANDS
 
 abbrev pub pages_command : Text → ArgAction → App
@@ -85,6 +99,9 @@ select_command = with_pages Append (with_shows (with_rule (new_app (codes "selec
 unfoldable pub links_command : App
 links_command = with_naming (with_listing (pages_command (codes "links") Append))
 
+unfoldable pub clean_command : App
+clean_command = with_rule (with_rule (with_extras (with_policy (new_app (codes "clean")))) output_rule) (pages_rule Append)
+
 -- the program with no command
 abbrev pub program : App
 program = on_top (λ s. record s { propagate_version = true; has_version = true; subcommand_required = true }) (new_app (codes "figpliers"))
@@ -96,6 +113,6 @@ with_plain command = with_subcommand (with_subcommand (with_subcommand command (
 
 -- the program
 unfoldable pub figpliers : App
-figpliers = with_subcommand (with_subcommand (with_plain (with_subcommand (with_subcommand (with_subcommand program
+figpliers = with_subcommand (with_subcommand (with_subcommand (with_plain (with_subcommand (with_subcommand (with_subcommand program
     (pages_command (codes "errors") Append).top) tree_command.top) links_command.top)) select_command.top)
-    (pages_command (codes "normal") Append).top
+    (pages_command (codes "normal") Append).top) clean_command.top

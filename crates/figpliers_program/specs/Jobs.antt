@@ -113,10 +113,11 @@ abbrev pub IsRejection : List (List ℕ) → (out out' : WriterView) (errors err
 IsRejection words out out' errors errors' verdict =
     (kind : ErrorKind) × IsRejectedBy words kind × IsAnswered kind out out' errors errors' verdict
 
--- The outcome of the program, by the files and the words, the bytes of standard input that are left before and after it, the view of
--- standard output, and the bytes that were written to standard error.
-abbrev pub IsOutcome : Files → List (List ℕ) → (left left' : Stream) (out out' : WriterView) (errors errors' : Stream) → Verdict → Type 0
-IsOutcome files words left left' out out' errors errors' verdict =
+-- The outcome of another command than `clean`, by the files and the words, the bytes of standard input that are left before and after it,
+-- the view of standard output, and the bytes that were written to standard error.
+abbrev pub IsPagesOutcome : Files → List (List ℕ) → (left left' : Stream) (out out' : WriterView) (errors errors' : Stream) → Verdict
+    → Type 0
+IsPagesOutcome files words left left' out out' errors errors' verdict =
     ((left' ≡ left) × IsOutOfMemory out out' errors errors' verdict)
     ⊎ ((left' ≡ left) × IsRejection words out out' errors errors' verdict)
     ⊎ ((asked : Asked) × AsksFor words asked × IsRun files asked left left' out out' errors errors' verdict)

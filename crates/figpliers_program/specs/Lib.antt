@@ -1,5 +1,6 @@
 pub mod Asked
 pub mod Checking
+pub mod Cleaning
 pub mod CommandLine
 pub mod Faults
 pub mod Jobs
@@ -8,6 +9,7 @@ pub mod Pages
 pub mod Printing
 pub mod Reading
 pub mod Rejected
+pub mod RowsOfCleaning
 pub mod RowsOfLines
 pub mod RowsOfWords
 pub mod Verdicts

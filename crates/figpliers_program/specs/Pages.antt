@@ -8,8 +8,9 @@ use Rattle.std.specs.String.{string_bytes}
 use Rattle.selectors.specs.declared.selector.Selectors.{Selectors}
 use Rattle.html_selector_text.specs.Grammar.{parsed}
 use Rattle.html_selector_text.specs.Trees.{list_tree}
-use Rattle.html_pages.specs.declared.noted.Noted.{Noted}
-use Rattle.html_pages.specs.declared.noted.NotedForest.{NotedForest}
+use Rattle.html_places.specs.declared.noted.Noted.{Noted}
+use Rattle.html_places.specs.declared.noted.NotedForest.{NotedForest}
+use Rattle.html_places.specs.declared.place.Place.{Place}
 use Rattle.html_listings.specs.Listings.{links_text}
 use Rattle.html_listings.specs.Selected.{selected_in, selected_text}
 use Rattle.html_listings.specs.declared.selected.Show.{Show}
@@ -81,15 +82,19 @@ pub record FragmentText (table : List Row) (element page text : List ℕ) (verdi
   pub written : text ≡ tree_lines document (top_of (children_of document 0))
   pub done : verdict ≡ Fine
 
--- a parse error as its line and its words
-abbrev pub note_of : Noted → ℕ × List ℕ
-note_of error = (error.line, cow_str_bytes error.message)
+-- a parse error as its place and its words
+abbrev pub note_of : Noted → Place × List ℕ
+note_of error = (error.place, cow_str_bytes error.message)
+
+-- the line and the column of a place
+abbrev pub place_words : Place → List ℕ
+place_words place = decimal place.line ++ (codes ":" ++ decimal place.column)
 
 -- the lines of parse errors
-abbrev pub error_line : List ℕ → ℕ × List ℕ → List ℕ
-error_line name error = name ++ codes ":" ++ decimal error.0 ++ codes ": " ++ error.1 ++ 10 ∷ []
+abbrev pub error_line : List ℕ → Place × List ℕ → List ℕ
+error_line name error = name ++ codes ":" ++ place_words error.0 ++ codes ": " ++ error.1 ++ 10 ∷ []
 
-abbrev pub error_lines : List ℕ → List (ℕ × List ℕ) → List ℕ
+abbrev pub error_lines : List ℕ → List (Place × List ℕ) → List ℕ
 error_lines name [] = []
 error_lines name (error ∷ errors) = error_line name error ++ error_lines name errors
 
@@ -97,7 +102,7 @@ error_lines name (error ∷ errors) = error_line name error ++ error_lines name 
 pub record ErrorsText (table : List Row) (name page text : List ℕ) (verdict : Verdict) : Type 0 where
   pub document : Forest
   pub is_page : IsPage table true page document
-  pub errors : List (ℕ × List ℕ)
+  pub errors : List (Place × List ℕ)
   pub each : length errors ≡ document.errors
   pub written : text ≡ error_lines name errors
   pub done : verdict ≡ (if document.errors == 0 then Fine else Errors)

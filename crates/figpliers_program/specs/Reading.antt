@@ -10,7 +10,7 @@ use Rattle.figpliers.specs.Encoding.{Encoding}
 use Rattle.figpliers.specs.Encoding.TheVariants as encoding
 use Rattle.figpliers.specs.Forest.{Forest}
 use Rattle.figpliers.specs.Pages.{IsPage}
-use Rattle.html_pages.specs.declared.noted.NotedForest.{NotedForest}
+use Rattle.html_places.specs.declared.noted.NotedForest.{NotedForest}
 use Rattle.figpliers.specs.Sniffed.{Sniffed}
 use Rattle.figpliers.specs.Sniffing.{sniffed}
 use Rattle.figpliers.specs.Table.{Row}

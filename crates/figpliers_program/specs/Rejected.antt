@@ -1,5 +1,5 @@
--- Which words the program rejects, and with which kind of error: those that clap takes for none of its commands with its options, and
--- those that ask for what cannot be done. Requests for help and for the version are among them.
+-- Which words of other commands than `clean` the program rejects, and with which kind of error: those that clap takes for none of its
+-- commands with its options, and those that ask for what cannot be done. Requests for help and for the version are among them.
 use Rattle.std.specs.Prelude.{◌≡◌, ◌⊎◌, Bool, String, true, false, List, [], ◌∷◌, Option, Some, None, codes}
 use Rattle.std.specs.List.{list_any}
 use Rattle.std.specs.Str.{bytes_eq}
@@ -48,6 +48,6 @@ IsRejectedBy words kind = IsAmong kind (fault_of figpliers words) ⊎ ((is_help 
 abbrev pub IsRejected : List Text → Type 0
 IsRejected words = (kind : ErrorKind) × IsRejectedBy words kind
 
--- The words name this file to write to, or none; or they are rejected, and there is none.
-abbrev pub IsOutputOf : List Text → Option (String Global) → Type 0
-IsOutputOf words found = ((asked : Asked) × AsksFor words asked × (found ≡ asked.output)) ⊎ ((found ≡ None) × IsRejected words)
+-- Words of another command than `clean` name this file to write to, or none; or they are rejected, and there is none.
+abbrev pub IsPagesOutput : List Text → Option (String Global) → Type 0
+IsPagesOutput words found = ((asked : Asked) × AsksFor words asked × (found ≡ asked.output)) ⊎ ((found ≡ None) × IsRejected words)

@@ -12,8 +12,9 @@ use Rattle.figpliers_program.specs.declared.faults.Why.TheVariants.{Missing}
 -- texts that are written, beside how they look
 abbrev pub line_rows : List (List ℕ × List ℕ)
 line_rows = (
-  error_lines (codes "a.html") ((1, codes "eof-in-tag") ∷ (12, codes "duplicate-attribute") ∷ []),
-  codes "a.html:1: eof-in-tag\na.html:12: duplicate-attribute\n",
+  error_lines (codes "a.html") ((record { line = 1; column = 7 }, codes "eof-in-tag")
+      ∷ (record { line = 12; column = 1 }, codes "duplicate-attribute") ∷ []),
+  codes "a.html:1:7: eof-in-tag\na.html:12:1: duplicate-attribute\n",
 )
     ∷ (fault_line (codes "a.html") (NotUtf8 21), codes "a.html: not UTF-8 at byte 21\n")
     ∷ (fault_line (codes "a.html") (Open Missing), codes "a.html: cannot be opened: no such file\n")

@@ -26,6 +26,7 @@ rejected_rows = (codes "errors" ∷ [], [])
     ∷ (codes "none" ∷ [], UnknownArgument ∷ InvalidSubcommand ∷ [])
     ∷ (codes "--version" ∷ [], DisplayVersion ∷ [])
     ∷ (codes "text" ∷ codes "--help" ∷ [], DisplayHelp ∷ [])
+    ∷ (codes "clean" ∷ codes "a" ∷ codes "--help" ∷ [], DisplayHelp ∷ [])
     ∷ []
 
 abbrev pub AreWordsRejected : Type 0

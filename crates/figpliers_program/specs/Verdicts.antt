@@ -8,7 +8,7 @@ use Rattle.figpliers_program.specs.declared.faults.PageFault.TheVariants.{Memory
 use Rattle.figpliers_program.specs.declared.faults.Verdict.{Verdict}
 use Rattle.figpliers_program.specs.declared.faults.Verdict.TheVariants.{Errors, Fault, Fine, Nothing, Unwritten}
 use Rattle.figpliers_program.specs.declared.faults.Why.{Why}
-use Rattle.figpliers_program.specs.declared.faults.Why.TheVariants.{Forbidden, Missing, Other}
+use Rattle.figpliers_program.specs.declared.faults.Why.TheVariants.{Directory, Forbidden, Missing, Other}
 
 -- VERDICTS
 
@@ -36,6 +36,7 @@ graver verdict other = if nat_lt (weight verdict) (weight other) then other else
 abbrev pub open_words : Why → List ℕ
 open_words Missing = codes "cannot be opened: no such file"
 open_words Forbidden = codes "cannot be opened: permission denied"
+open_words Directory = codes "cannot be opened: is a directory"
 open_words Other = codes "cannot be opened"
 
 abbrev pub fault_words : PageFault → List ℕ

@@ -78,7 +78,7 @@ pub struct Asked {
 }
 
 /// A text of its own.
-fn copied(alloc: Global, text: &str) -> Result<Option<String>, AllocError>
+pub(crate) fn copied(alloc: Global, text: &str) -> Result<Option<String>, AllocError>
     ensures { IfOk result (λ found. option_map string_bytes found ≡ Some text.now) }
 {
     Ok(Some(String::from_str(alloc, text)?))

@@ -2,6 +2,7 @@
 ghost use Rattle.std.specs.Prelude.{◌≡◌, IfOk};
 ghost use Rattle.clap.specs.Simple.{app_of};
 ghost use Rattle.clap.specs.Walk.{rule_of};
+ghost use Rattle.clap.specs.declared.builder.action.ArgAction.TheVariants.{Append};
 ghost use Rattle.figpliers_program.specs.CommandLine as spec;
 ghost use Rattle.figpliers_program.specs.CommandLine.{IsLocal, IsPlainOption, flag_rule, option_rule, output_rule, pages_command};
 ghost use Rattle.figpliers_program.specs.CommandLine.{pages_rule, with_pages};
@@ -30,6 +31,14 @@ fn option<'a>(alloc: Global, name: &'a str, value: &'a str, help: &'a str) -> Ar
         .value_name(value)
         .action(ArgAction::Set)
         .help(help)
+}
+
+/// An option with a value that may be used several times.
+fn several<'a>(alloc: Global, name: &'a str, value: &'a str, help: &'a str) -> Arg<'a>
+    ensures rule { rule_of result ≡ spec.several_rule name.entry.now }
+    ensures plain { IsPlainOption result }
+{
+    option(alloc, name, value, help).action(ArgAction::Append)
 }
 
 /// The files with the pages.
@@ -240,6 +249,100 @@ fn links<'a>(alloc: Global) -> Result<Command<'a>, AllocError>
     names(alloc, lists(alloc, command)?)
 }
 
+/// A command with the options that say which policy pages are cleaned by, and how they are read.
+fn with_policy<'a>(alloc: Global, command: Command<'a>) -> Result<Command<'a>, AllocError>
+    ensures app { IfOk result (λ made. app_of made ≡ spec.with_policy (app_of command.entry)) }
+    ensures local { IsLocal command.entry → IfOk result IsLocal }
+{
+    let policy = option(
+        alloc,
+        "policy",
+        "FILE",
+        "Keep what the policy in this file keeps, in place of text-and-links",
+    );
+    let printed = option(
+        alloc,
+        "print-policy",
+        "NAME",
+        "Alone: print a ready policy: text-alone, text-and-links, user-content or mail",
+    );
+    let document = flag(
+        alloc,
+        "document",
+        "Clean pages as whole documents, not as fragments",
+    );
+    let table = option(
+        alloc,
+        "table",
+        "FILE",
+        "Read character references by the table in this file; without it five names are known",
+    );
+    command.arg(policy)?.arg(printed)?.arg(document)?.arg(table)
+}
+
+/// A command with the options that say what is kept and added beside what the policy says.
+fn with_extras<'a>(alloc: Global, command: Command<'a>) -> Result<Command<'a>, AllocError>
+    ensures app { IfOk result (λ made. app_of made ≡ spec.with_extras (app_of command.entry)) }
+    ensures local { IsLocal command.entry → IfOk result IsLocal }
+{
+    let element = several(
+        alloc,
+        "element",
+        "NAME[:ATTRIBUTE,..]",
+        "Keep elements of this name too, with these attributes",
+    );
+    let attribute = several(
+        alloc,
+        "attribute",
+        "NAME",
+        "Keep attributes of this name of all elements too",
+    );
+    let beginning = several(
+        alloc,
+        "beginning",
+        "TEXT",
+        "Keep attributes whose names begin with this text of all elements too",
+    );
+    let added = several(
+        alloc,
+        "add",
+        "ELEMENT:NAME=VALUE",
+        "Give elements of this name an attribute",
+    );
+    let scheme = several(alloc, "scheme", "NAME", "Keep URLs of this scheme too");
+    command
+        .arg(element)?
+        .arg(attribute)?
+        .arg(beginning)?
+        .arg(added)?
+        .arg(scheme)
+}
+
+/// The files that the command `clean` reads.
+fn cleaned_pages<'a>(alloc: Global) -> Arg<'a>
+    ensures rule { rule_of result ≡ pages_rule Append }
+    ensures plain { IsPlainOption result }
+{
+    Arg::new(alloc, "files")
+        .value_name("FILE")
+        .action(ArgAction::Append)
+        .help("HTML pages in UTF-8; standard input, where none is named")
+}
+
+/// The command `clean`, for its help: the words after it are read by `html_clean_program`.
+fn clean<'a>(alloc: Global) -> Result<Command<'a>, AllocError>
+    ensures app { IfOk result (λ made. app_of made ≡ spec.clean_command) }
+    ensures local { IfOk result IsLocal }
+{
+    let command = Command::new(alloc, "clean").about(
+        "Print what a policy keeps of pages: never scripts, styles or event handlers",
+    );
+    let command = with_policy(alloc, command)?;
+    with_extras(alloc, command)?
+        .arg(output(alloc))?
+        .arg(cleaned_pages(alloc))
+}
+
 /// The program with no command.
 fn program<'a>(alloc: Global) -> Result<Command<'a>, AllocError>
     ensures app { IfOk result (λ made. app_of made ≡ spec.program) }
@@ -252,7 +355,7 @@ fn program<'a>(alloc: Global) -> Result<Command<'a>, AllocError>
     Ok(
         command
             .about(
-                "Parse errors, trees, links, texts, Markdown, checks, elements and normal texts of HTML pages",
+                "Parse errors, trees, links, texts, Markdown, checks, elements, normal texts and clean texts of HTML pages",
             )
             .after_help(
                 "Status: 0 done; 1 a page has parse errors or is not read back, or no element was selected; 2 a fault",
@@ -296,7 +399,7 @@ pub fn command_line<'a>(alloc: Global) -> Result<Command<'a>, AllocError>
     let errors = over_pages(
         alloc,
         "errors",
-        "List the parse errors of pages, as FILE:LINE: CODE; status 1 where there is one",
+        "List the parse errors of pages, as FILE:LINE:COLUMN: CODE; status 1 where there is one",
         ArgAction::Append,
     )?;
     let normal = over_pages(
@@ -311,5 +414,6 @@ pub fn command_line<'a>(alloc: Global) -> Result<Command<'a>, AllocError>
         .subcommand(links(alloc)?)?;
     with_plain(alloc, command)?
         .subcommand(select(alloc)?)?
-        .subcommand(normal)
+        .subcommand(normal)?
+        .subcommand(clean(alloc)?)
 }

@@ -1,5 +1,6 @@
 //! What each command writes of a page.
-ghost use Rattle.std.specs.Prelude.{◌≡◌, ◌==◌, if◌then◌else◌, length};
+ghost use Rattle.std.specs.Prelude.{◌≡◌, ◌==◌, IfOk, if◌then◌else◌, length};
+ghost use Rattle.std.specs.Fmt.{decimal};
 ghost use Rattle.std.specs.String.{string_bytes};
 ghost use Rattle.figpliers.specs.Document.{document_bytes};
 ghost use Rattle.figpliers.specs.Forest.{children_of};
@@ -7,19 +8,20 @@ ghost use Rattle.figpliers.specs.Lines.{tree_lines};
 ghost use Rattle.figpliers.specs.Puts.{told_by};
 ghost use Rattle.html_listings.specs.Listings.{links_text};
 ghost use Rattle.html_listings.specs.Selected.{selected_in, selected_text};
-ghost use Rattle.figpliers_program.specs.Pages.{FragmentText, NotedText, RenderedText, error_line, top_of, verdict_on};
+ghost use Rattle.figpliers_program.specs.Pages.{FragmentText, NotedText, RenderedText, error_line, place_words, top_of};
+ghost use Rattle.figpliers_program.specs.Pages.{verdict_on};
 ghost use Rattle.figpliers_program.specs.Printing.{Prints, PrintsSome};
 ghost use Rattle.figpliers_program.specs.declared.faults.Verdict.TheVariants.{Errors, Fine};
 
 use crate::faults::{PageFault, Verdict};
 use crate::writing::{put, put_ended};
 use figpliers::{
-    Forest, ForestNode, NodeId, NotedForest, References, SerializeOpts, Target, fragment,
+    Forest, ForestNode, NodeId, NotedForest, Place, References, SerializeOpts, Target, fragment,
     inner_text, markdown, serialize, write_tree,
 };
 use html_listings::{Listing, Show, write_links, write_selected};
 use selectors::Selectors;
-use std::alloc::Global;
+use std::alloc::{AllocError, Global};
 
 /// Writes the text of a document as it is rendered, with a line feed at its end.
 pub fn text<W: Target>(alloc: Global, forest: &Forest, writer: &mut W) -> Result<Verdict, PageFault>
@@ -135,18 +137,38 @@ pub fn normal<W: Target>(
     Ok(Verdict::Fine)
 }
 
+/// A number in decimal digits.
+fn digits_of(alloc: Global, number: u64) -> Result<String, AllocError>
+    ensures { IfOk result (λ digits. string_bytes digits ≡ decimal number) }
+{
+    format!(in alloc; "{number}")
+}
+
+/// The line and the column of a place.
+fn place_words(alloc: Global, place: Place) -> Result<String, AllocError>
+    ensures { IfOk result (λ words. string_bytes words ≡ place_words place) }
+{
+    let line = digits_of(alloc, place.line)?;
+    let line = line.as_str();
+    let column = digits_of(alloc, place.column)?;
+    let column = column.as_str();
+    format!(in alloc; "{line}:{column}")
+}
+
 /// Writes the line of a parse error.
 fn put_error<W: Target>(
     alloc: Global,
     name: &str,
-    line: u64,
+    place: Place,
     message: &str,
     writer: &mut W,
 ) -> Result<(), PageFault>
-    ensures { Prints (error_line name.now (line, message.now)) (told_by W.written W.failures writer.old) result
+    ensures { Prints (error_line name.now (place, message.now)) (told_by W.written W.failures writer.old) result
         (told_by W.written W.failures writer.new) }
 {
-    let words = format!(in alloc; "{name}:{line}: {message}\n")?;
+    let at = place_words(alloc, place)?;
+    let at = at.as_str();
+    let words = format!(in alloc; "{name}:{at}: {message}\n")?;
     put(writer, words.as_str())
 }
 
@@ -172,7 +194,7 @@ pub fn errors<W: Target>(
         (told_by W.written W.failures writer.new) }
 {
     for error in &noted.errors {
-        put_error(alloc, name, error.line, error.message.as_str(), writer)?;
+        put_error(alloc, name, error.place, error.message.as_str(), writer)?;
     }
     Ok(verdict_of(noted.forest.error_count()))
 }

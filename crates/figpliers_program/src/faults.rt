@@ -58,6 +58,8 @@ pub enum Why {
     Missing,
     /// It may not be read.
     Forbidden,
+    /// It is a directory.
+    Directory,
     /// For another reason.
     Other,
 }
@@ -125,6 +127,7 @@ fn open_words(why: Why) -> &'static str
     match why {
         Why::Missing => "cannot be opened: no such file",
         Why::Forbidden => "cannot be opened: permission denied",
+        Why::Directory => "cannot be opened: is a directory",
         Why::Other => "cannot be opened",
     }
 }

@@ -3,7 +3,7 @@
 use crate::faults::Why;
 use figpliers::{Source, StdSource};
 use html_normal_program::Opener;
-use std::fs::File;
+use std::fs::{self, File};
 use std::io::{Error, ErrorKind};
 
 /// What opens files by their names, and says why it doesn't.
@@ -18,6 +18,14 @@ pub fn why_of(error: &Error) -> Why {
         ErrorKind::NotFound => Why::Missing,
         ErrorKind::PermissionDenied => Why::Forbidden,
         _ => Why::Other,
+    }
+}
+
+/// Whether a directory has that name.
+fn is_directory(rt: &HostRuntime, name: &str) -> bool {
+    match fs::metadata(rt, name) {
+        Ok(it) => it.is_dir(),
+        Err(_) => false,
     }
 }
 
@@ -39,7 +47,11 @@ impl Opener<StdSource<File>> for Disk<'_> {
 
     ghost files = { λ _ _. None };
 
+    // A directory can be opened, but not read.
     fn open(&self, name: &str) -> Option<StdSource<File>> {
+        if is_directory(self.rt, name) {
+            return None;
+        }
         match File::open(self.rt, name) {
             Ok(file) => Some(StdSource::new(file)),
             Err(_) => None,
@@ -49,6 +61,9 @@ impl Opener<StdSource<File>> for Disk<'_> {
 
 impl Files<StdSource<File>> for Disk<'_> {
     fn why(&self, name: &str) -> Why {
+        if is_directory(self.rt, name) {
+            return Why::Directory;
+        }
         match File::open(self.rt, name) {
             Ok(_) => Why::Other,
             Err(error) => why_of(&error),

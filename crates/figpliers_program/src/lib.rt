@@ -4,6 +4,7 @@
 #![tactic(auto)]
 
 mod checking;
+mod cleaning;
 mod command;
 mod command_line;
 mod commands;

@@ -4,10 +4,12 @@ ghost use Rattle.std.specs.String.{string_bytes};
 ghost use Rattle.clap.specs.Values.{kind_of};
 ghost use Rattle.clap.specs.declared.error.kind.ErrorKind.TheVariants.{OutOfMemory};
 ghost use Rattle.figpliers.specs.Puts.{told_by};
-ghost use Rattle.figpliers_program.specs.Jobs.{IsAnswered, IsOutOfMemory, IsOutcome};
-ghost use Rattle.figpliers_program.specs.Rejected.{IsOutputOf};
+ghost use Rattle.figpliers_program.specs.Cleaning.{IsOutcome, IsOutputOf};
+ghost use Rattle.figpliers_program.specs.Jobs.{IsAnswered, IsOutOfMemory, IsPagesOutcome};
+ghost use Rattle.figpliers_program.specs.Rejected.{IsPagesOutput};
 ghost use Rattle.figpliers_program.specs.declared.faults.PageFault.TheVariants.{Memory};
 
+use crate::cleaning::{clean, clean_output, clean_words};
 use crate::command::{Asked, read_words};
 use crate::faults::{PageFault, Verdict, report};
 use crate::files::Files;
@@ -69,11 +71,9 @@ fn output_in(asked: Asked) -> Option<String>
     output
 }
 
-/// The file to write to that the words name with which the program was started; nothing where they name none, or are rejected.
-///
-/// Errors: [`PageFault::Memory`].
-pub fn output_of(alloc: Global, words: &[String]) -> Result<Option<String>, PageFault>
-    ensures ok { IfOk result (IsOutputOf (map string_bytes words.now)) }
+/// The file to write to that words of another command than `clean` name; nothing where they name none, or are rejected.
+fn pages_output(alloc: Global, words: &[String]) -> Result<Option<String>, PageFault>
+    ensures ok { IfOk result (IsPagesOutput (map string_bytes words.now)) }
     ensures fault { IfErr result (λ fault. fault ≡ Memory) }
 {
     match read_words(alloc, words) {
@@ -82,6 +82,44 @@ pub fn output_of(alloc: Global, words: &[String]) -> Result<Option<String>, Page
             ErrorKind::OutOfMemory => Err(PageFault::Memory),
             _ => Ok(None),
         },
+    }
+}
+
+/// The file to write to that the words name with which the program was started; nothing where they name none, or are rejected.
+///
+/// Errors: [`PageFault::Memory`].
+pub fn output_of(alloc: Global, words: &[String]) -> Result<Option<String>, PageFault>
+    ensures ok { IfOk result (IsOutputOf (map string_bytes words.now)) }
+    ensures fault { IfErr result (λ fault. fault ≡ Memory) }
+{
+    match clean_words(words) {
+        Some(rest) => clean_output(alloc, rest),
+        None => pages_output(alloc, words),
+    }
+}
+
+/// Does what words of another command than `clean` ask for.
+fn obey_pages<
+    File: Source + Drop,
+    Opens: Files<File>,
+    Input: Source,
+    Output: Target,
+    Errors: Target,
+>(
+    alloc: Global,
+    words: &[String],
+    opener: &Opens,
+    input: &mut Input,
+    output: &mut Output,
+    errors: &mut Errors,
+) -> Verdict
+    ensures { IsPagesOutcome (Opens.files opener.now) (map string_bytes words.now) (Input.left input.old) (Input.left input.new)
+        (told_by Output.written Output.failures output.old) (told_by Output.written Output.failures output.new)
+        (Errors.written errors.old) (Errors.written errors.new) result }
+{
+    match read_words(alloc, words) {
+        Ok(asked) => run(alloc, &asked, opener, input, output, errors),
+        Err(error) => answer(alloc, &error, output, errors),
     }
 }
 
@@ -101,8 +139,8 @@ pub fn obey<File: Source + Drop, Opens: Files<File>, Input: Source, Output: Targ
         (told_by Output.written Output.failures output.old) (told_by Output.written Output.failures output.new)
         (Errors.written errors.old) (Errors.written errors.new) result }
 {
-    match read_words(alloc, words) {
-        Ok(asked) => run(alloc, &asked, opener, input, output, errors),
-        Err(error) => answer(alloc, &error, output, errors),
+    match clean_words(words) {
+        Some(rest) => clean(alloc, rest, opener, input, output, errors),
+        None => obey_pages(alloc, words, opener, input, output, errors),
     }
 }

@@ -1,4 +1,5 @@
 //! Worked rows of the definitions: what they give for each is computed by the check.
+ghost use Rattle.figpliers_program.specs.RowsOfCleaning.{AreCleanWordsFound};
 ghost use Rattle.figpliers_program.specs.RowsOfLines.{AreLinesWritten, AreVerdictsGraver};
 ghost use Rattle.figpliers_program.specs.RowsOfWords.{AreConflictsFound, AreNamesKnown, AreWordsFound, AreWordsRejected};
 
@@ -20,6 +21,11 @@ pub fn conflict_rows()
 /// Names of elements, as the rows say.
 pub fn name_rows()
     ensures { AreNamesKnown }
+{}
+
+/// Words for `clean`, as the rows say.
+pub fn clean_rows()
+    ensures { AreCleanWordsFound }
 {}
 
 /// Lines that are written, as the rows say.

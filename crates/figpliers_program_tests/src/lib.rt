@@ -4,4 +4,6 @@
 #![tactic(auto)]
 
 #[cfg(test)]
+mod cleaning;
+#[cfg(test)]
 mod runs;

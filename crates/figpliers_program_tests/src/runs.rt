@@ -19,6 +19,10 @@ const FILES: &[(&str, &[u8])] = &[
         b"<!DOCTYPE html><a href='a?b'></a><a href=#f></a><img src=i.png srcset='j.png 2x, k,l.png'><form action=/s></form><object data=d></object><video src=v poster=p></video><a href='../c'></a>",
     ),
     ("latin.html", b"<!DOCTYPE html><p>caf\xE9"),
+    (
+        "site.policy",
+        b"# Texts and links\nkeep p\nkeep b\nkeep a href\ndrop script style\nscheme https mailto\nrelative\nadd a rel nofollow noopener\n",
+    ),
     ("korean.html", b"<!DOCTYPE html><p>\xC7\xD1\xB1\xB9"),
     (
         "declared.html",
@@ -61,8 +65,8 @@ fn reader(bytes: Result<Vec<u8>, AllocError>) -> Option<MemReader> {
 
 /// A disk with these files.
 #[derive(Drop)]
-struct Disk {
-    alloc: Global,
+pub(crate) struct Disk {
+    pub(crate) alloc: Global,
 }
 
 impl Opener<MemReader> for Disk {
@@ -90,16 +94,16 @@ impl Files<MemReader> for Disk {
 }
 
 /// A run of the program: the words after its name, standard input, and which call of a stream fails.
-struct Run {
-    words: &'static [&'static str],
-    input: &'static [u8],
-    input_fails: Option<u64>,
-    output_fails: Option<u64>,
-    errors_fail: Option<u64>,
+pub(crate) struct Run {
+    pub(crate) words: &'static [&'static str],
+    pub(crate) input: &'static [u8],
+    pub(crate) input_fails: Option<u64>,
+    pub(crate) output_fails: Option<u64>,
+    pub(crate) errors_fail: Option<u64>,
 }
 
 /// No word, and nothing fails.
-const PLAIN: Run = Run {
+pub(crate) const PLAIN: Run = Run {
     words: &[],
     input: b"",
     input_fails: None,
@@ -108,7 +112,7 @@ const PLAIN: Run = Run {
 };
 
 /// What is written to standard output and to standard error, and the status.
-type Seen = (&'static str, &'static str, u8);
+pub(crate) type Seen = (&'static str, &'static str, u8);
 
 /// Commands that read pages.
 const READING: &[(Run, Seen)] = &[
@@ -125,7 +129,7 @@ const READING: &[(Run, Seen)] = &[
             ..PLAIN
         },
         (
-            "b.html:1: missing doctype\nb.html:1: an end tag without its element\n",
+            "b.html:1:1: missing doctype\nb.html:1:14: an end tag without its element\n",
             "",
             1,
         ),
@@ -136,7 +140,7 @@ const READING: &[(Run, Seen)] = &[
             input: b"<!DOCTYPE html>\n<p a a>",
             ..PLAIN
         },
-        ("-:2: duplicate-attribute\n", "", 1),
+        ("-:2:1: duplicate-attribute\n", "", 1),
     ),
     (
         Run {
@@ -539,11 +543,13 @@ const REFUSALS: &[(&[&str], &str)] = &[
         "error: no element has the name",
     ),
     (&["neither"], "error: "),
+    (&["clean", "--neither"], "fault: usage: figpliers clean ["),
+    (&["clean", "--", "--help"], "error: no command was named"),
     (&[], ""),
 ];
 
 /// The name of the program, and these words.
-fn words_of(alloc: Global, after: &[&str]) -> Result<Vec<String>, AllocError> {
+pub(crate) fn words_of(alloc: Global, after: &[&str]) -> Result<Vec<String>, AllocError> {
     let mut words = Vec::new(alloc);
     words.push(String::from_str(alloc, "figpliers")?)?;
     for &word in after {
@@ -606,7 +612,7 @@ fn first_other(alloc: Global, rows: &[(Run, Seen)]) -> Option<&'static [&'static
 }
 
 /// Sees that all runs are seen as their rows say.
-fn assert_seen(rt: &impl Abort, alloc: Global, rows: &[(Run, Seen)]) {
+pub(crate) fn assert_seen(rt: &impl Abort, alloc: Global, rows: &[(Run, Seen)]) {
     if let Some(words) = first_other(alloc, rows) {
         assert!(rt; false, "{words:?}");
     }
@@ -628,7 +634,7 @@ fn pages_are_checked(rt: HostRuntime) {
 }
 
 /// The file to write to that words name.
-fn output_is(alloc: Global, after: &[&str], wanted: Option<&str>) -> bool {
+pub(crate) fn output_is(alloc: Global, after: &[&str], wanted: Option<&str>) -> bool {
     let Ok(words) = words_of(alloc, after) else {
         return false;
     };

@@ -1,6 +1,6 @@
 mod Pages
 mod Printed
-mod Putting
+mod Reported
 mod Requests
 mod Rules
 mod TwoWords

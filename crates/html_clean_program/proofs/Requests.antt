@@ -1,6 +1,6 @@
 -- What words ask for, and what is held of it.
 use Rattle.std.proofs.Common.{inl, None, Some, Option, Result, Ok, Err, ◌≡◌, ◌∙◌, ℕ, Bool, List, [], ◌∷◌, ◌++◌, ap, map, refl, subst, sym}
-use Rattle.std.specs.Prelude.{◌⊎◌, IfErr, IfOk, OnOk}
+use Rattle.std.specs.Prelude.{◌⊎◌, IfErr, IfOk, OnOk, option_map}
 use Rattle.html_clean.specs.declared.policy.Policy.{Policy}
 use Rattle.html_normal.specs.declared.fault.NormalFault.TheVariants.{Memory}
 use Rattle.html_normal_program.specs.Program.{Files, HasNoTable, IsTable, named}
@@ -13,7 +13,7 @@ use Rattle.html_normal.specs.declared.program.ProgramFault.TheVariants as progra
 use Rattle.html_clean_program.specs.Program.{IsRefused, LacksTable, Wanted, table_fault_of}
 use Rattle.html_clean_program.specs.Words.{AsksFor, IsAsked, Request, asked_by, extra_of, taken}
 use Rattle.html_clean_program.specs.declared.fault.CleanFault.{CleanFault}
-use Rattle.html_clean_program.specs.declared.fault.CleanFault.TheVariants.{NeverKept, Normal, Policy as Unread, Table, Usage}
+use Rattle.html_clean_program.specs.declared.fault.CleanFault.TheVariants.{NeverKept, Normal, Page, Policy as Unread, Table, Usage}
 use Rattle.html_clean_program.specs.declared.words.Asked.{Asked}
 use Rattle.html_clean_program.specs.declared.words.Kind.{Kind}
 use Rattle.html_clean_program.specs.declared.words.Takes.{Takes}
@@ -31,6 +31,7 @@ extra-taken (Ok x) asked asked' kind word same ok = λ request held. record {
   extras = ok ∙ ap (λ (extras : List (Kind × List ℕ)). extras ++ (kind, word) ∷ []) held.extras;
   document = ap (λ (a : Asked). a.is_document) same ∙ held.document;
   table = ap (λ (a : Asked). named a.table) same ∙ held.table;
+  output = ap (λ (a : Asked). option_map (λ name. name.now) a.output) same ∙ held.output;
   files = ap (λ (a : Asked). map (λ name. name.now) a.files.items) same ∙ held.files;
 }
 extra-taken (Err fault) asked asked' kind word same ok = tt
@@ -68,6 +69,7 @@ no-file files name why (Unread spelled given) h k =
     (k.0, subst (λ (w : PolicyFileFault). IsNoPolicyIn (files name) w) (sym k.1) h)
 no-file files name why (Table given) h k = k
 no-file files name why (Normal given) h k = k
+no-file files name why (Page given) h k = k
 
 -- what is missing to start from is missing
 pub no-start : (files : Files) (names : List (List ℕ)) (extras : List (Kind × List ℕ)) (document : Bool) (fault : CleanFault)
@@ -77,6 +79,7 @@ no-start files names extras document (NeverKept word) h = absurd h
 no-start files names extras document (Unread spelled why) h = h
 no-start files names extras document (Table why) h = h
 no-start files names extras document (Normal why) h = h
+no-start files names extras document (Page why) h = h
 
 -- a policy that names what is never kept
 pub no-policy : (files : Files) (names : List (List ℕ)) (extras : List (Kind × List ℕ)) (document : Bool) (policy : Policy)
@@ -87,6 +90,7 @@ no-policy files names extras document policy (NeverKept word) has h = record { p
 no-policy files names extras document policy (Unread spelled why) has h = absurd h
 no-policy files names extras document policy (Table why) has h = h
 no-policy files names extras document policy (Normal why) has h = h
+no-policy files names extras document policy (Page why) has h = h
 
 -- why there is no table
 pub no-table : (files : Files) (names : List (List ℕ)) (fault : ProgramFault) → HasNoTable files names fault
@@ -138,6 +142,7 @@ refused-from files words asked (Unread spelled why) asks h = record {
 }
 refused-from files words asked (Table why) asks h = absurd h
 refused-from files words asked (Normal why) asks h = h
+refused-from files words asked (Page why) asks h = h
 
 -- the words ask for a table that there isn't
 pub tableless-from : (files : Files) (words : List (List ℕ)) (asked : Asked) (fault : CleanFault) → AsksFor words asked
@@ -151,3 +156,4 @@ tableless-from files words asked (Table why) asks h = record {
   holds = subst (λ (names : List (List ℕ)). LacksTable files names (Table why)) asks.held.table h;
 }
 tableless-from files words asked (Normal why) asks h = h
+tableless-from files words asked (Page why) asks h = h

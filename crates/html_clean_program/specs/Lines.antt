@@ -1,15 +1,18 @@
--- The lines on standard error, and the statuses.
-use Rattle.std.specs.Prelude.{ℕ, List, ◌++◌, codes, encode_utf8_all}
+-- The lines on standard error.
+use Rattle.std.specs.Prelude.{◌≡◌, ℕ, Bool, true, false, List, [], ◌∷◌, ◌++◌, Option, codes, encode_utf8_all}
+use Rattle.std.specs.Bool.{MatchBool}
 use Rattle.std.specs.Fmt.{decimal}
 use Rattle.html_clean.specs.declared.counts.Cleaned.{Cleaned}
 use Rattle.html_normal.specs.Lines.{fault_line, table_line}
-use Rattle.html_normal.specs.Status.{status_of as normal_status_of, table_status_of}
+use Rattle.html_normal.specs.declared.fault.NormalFault.{NormalFault}
+use Rattle.html_normal.specs.declared.fault.NormalFault.TheVariants.{Memory, NotUtf8, Read, Refused, Write}
+use Rattle.html_normal_program.specs.Streams.{IsPut}
 use Rattle.html_policy_text.specs.declared.file.PolicyFileFault.{PolicyFileFault}
 use Rattle.html_policy_text.specs.declared.file.PolicyFileFault.TheVariants as file
 use Rattle.html_policy_text.specs.declared.rules.Problem.{Problem}
 use Rattle.html_policy_text.specs.declared.rules.Problem.TheVariants.{UnknownRule, WrongNumber, WrongWords}
 use Rattle.html_clean_program.specs.declared.fault.CleanFault.{CleanFault}
-use Rattle.html_clean_program.specs.declared.fault.CleanFault.TheVariants.{NeverKept, Normal, Policy, Table, Usage}
+use Rattle.html_clean_program.specs.declared.fault.CleanFault.TheVariants.{NeverKept, Normal, Page, Policy, Table, Usage}
 
 -- how many elements were taken away of a page, and how many attributes and comments
 abbrev pub elements_words : Cleaned → List ℕ
@@ -18,8 +21,26 @@ elements_words counts = (codes "unwrapped=" ++ decimal counts.unwrapped) ++ (cod
 abbrev pub others_words : Cleaned → List ℕ
 others_words counts = (codes " attributes=" ++ decimal counts.attributes) ++ (codes " comments=" ++ decimal counts.comments)
 
-abbrev pub counts_line : Cleaned → List ℕ
-counts_line counts = elements_words counts ++ others_words counts
+abbrev pub counts_words : Cleaned → List ℕ
+counts_words counts = elements_words counts ++ others_words counts
+
+-- the name of a page, or - of the one on standard input, and what stands after it
+abbrev pub front : List ℕ → List ℕ
+front name = name ++ codes ": "
+
+abbrev pub counts_line : List ℕ → Cleaned → List ℕ
+counts_line name counts = front name ++ counts_words counts
+
+-- why a page was not cleaned
+abbrev pub page_fault_words : NormalFault → List ℕ
+page_fault_words (NotUtf8 at) = codes "not UTF-8 at byte " ++ decimal at
+page_fault_words Read = codes "cannot be read"
+page_fault_words Write = codes "standard output cannot be written"
+page_fault_words Memory = codes "no memory was left"
+page_fault_words Refused = codes "refused"
+
+abbrev pub page_line : List ℕ → NormalFault → List ℕ
+page_line name fault = front name ++ page_fault_words fault
 
 abbrev pub problem_words : Problem → List ℕ
 problem_words UnknownRule = codes ": no rule begins with this word"
@@ -37,25 +58,33 @@ policy_words name file.Read = encode_utf8_all name ++ codes ": cannot be read"
 policy_words name (file.Line line problem) = place_words name line ++ problem_words problem
 policy_words name file.Memory = codes "fault: memory"
 
--- why the program did nothing, or not all
+-- why nothing was cleaned, or not all
 abbrev pub fault_words : CleanFault → List ℕ
-fault_words Usage = codes "fault: usage: html_clean [--policy FILE] [--document] [--element NAME[:ATTRIBUTE,..]] [--attribute NAME] [--beginning TEXT] [--add ELEMENT:NAME=VALUE] [--scheme NAME] [--table FILE] [FILE].. | --print-policy NAME"
+fault_words Usage = codes "fault: usage: figpliers clean [--policy FILE] [--document] [--element NAME[:ATTRIBUTE,..]] [--attribute NAME] [--beginning TEXT] [--add ELEMENT:NAME=VALUE] [--scheme NAME] [--table FILE] [-o FILE] [FILE].. | --print-policy NAME"
 fault_words (NeverKept word) = codes "fault: never kept: " ++ encode_utf8_all word
 fault_words (Policy name fault) = policy_words name fault
 fault_words (Table fault) = table_line fault
 fault_words (Normal fault) = fault_line fault
+fault_words (Page fault) = fault_line fault
 
--- 2 for what stands in the file, 3 for the device and 4 for memory
-abbrev pub policy_status_of : PolicyFileFault → ℕ
-policy_status_of (file.NotUtf8 at) = 2
-policy_status_of file.Read = 3
-policy_status_of (file.Line line problem) = 2
-policy_status_of file.Memory = 4
+-- a fault is another than a failed write to standard output
+abbrev pub is_other : NormalFault → Bool
+is_other Write = false
+is_other fault = true
 
--- 2 for the words and the policy
-abbrev pub status_of : CleanFault → ℕ
-status_of Usage = 2
-status_of (NeverKept word) = 2
-status_of (Policy name fault) = policy_status_of fault
-status_of (Table fault) = table_status_of fault
-status_of (Normal fault) = normal_status_of fault
+-- a fault is reported by its line: that of a page was reported with the page, and a failed write to standard output is not
+abbrev pub has_line : CleanFault → Bool
+has_line (Page fault) = false
+has_line (Normal fault) = is_other fault
+has_line fault = true
+
+-- How the fault of a page is reported on standard error: by its line, or a beginning of the line where a write failed. A failed write to
+-- standard output is not reported.
+abbrev pub IsPageReported : List ℕ → NormalFault → (errors errors' : Option (List ℕ)) → Type 0
+IsPageReported name fault errors errors' =
+    MatchBool (is_other fault) ((failed : Bool) × IsPut (page_line name fault ++ 10 ∷ []) errors errors' failed) (errors' ≡ errors)
+
+-- how a fault is reported
+abbrev pub IsReported : CleanFault → (errors errors' : Option (List ℕ)) → Type 0
+IsReported fault errors errors' =
+    MatchBool (has_line fault) ((failed : Bool) × IsPut (fault_words fault ++ 10 ∷ []) errors errors' failed) (errors' ≡ errors)

@@ -83,6 +83,7 @@ IsPolicyFault name why (clean.NeverKept word) = ⊥
 IsPolicyFault name why (clean.Policy spelled given) = (spelled ≡ chars name) × (given ≡ why)
 IsPolicyFault name why (clean.Table given) = ⊥
 IsPolicyFault name why (clean.Normal given) = given ≡ Memory
+IsPolicyFault name why (clean.Page given) = ⊥
 
 -- why there is nothing to put the options to
 abbrev pub HasNoStart : Files → List (List ℕ) → CleanFault → Type 0
@@ -91,6 +92,7 @@ HasNoStart files names (clean.NeverKept word) = ⊥
 HasNoStart files names (clean.Policy spelled why) = LacksPolicy files names spelled why
 HasNoStart files names (clean.Table why) = ⊥
 HasNoStart files names (clean.Normal why) = why ≡ Memory
+HasNoStart files names (clean.Page why) = ⊥
 
 -- THE POLICY
 
@@ -106,6 +108,7 @@ IsRefusedBy first (clean.NeverKept word) = first ≡ Some word
 IsRefusedBy first (clean.Policy spelled why) = ⊥
 IsRefusedBy first (clean.Table why) = ⊥
 IsRefusedBy first (clean.Normal why) = why ≡ Memory
+IsRefusedBy first (clean.Page why) = ⊥
 
 -- a policy has what the file says, and what the options add
 pub record HasRules (files : Files) (names : List (List ℕ)) (extras : List (Kind × List ℕ)) (policy : Policy) : Type 0 where
@@ -127,3 +130,4 @@ HasNoPolicy files names extras document (clean.NeverKept word) = NamesNeverKept 
 HasNoPolicy files names extras document (clean.Policy spelled why) = LacksPolicy files names spelled why
 HasNoPolicy files names extras document (clean.Table why) = ⊥
 HasNoPolicy files names extras document (clean.Normal why) = why ≡ Memory
+HasNoPolicy files names extras document (clean.Page why) = ⊥

@@ -1,5 +1,5 @@
--- Ready policies as text, and the program as a whole.
-use Rattle.std.specs.Prelude.{◌≡◌, ℕ, Bool, true, false, cond, List, [], ◌∷◌, codes, encode_utf8_all, Option, Some, None, Result, Ok, Err}
+-- Ready policies as text, and the command as a whole.
+use Rattle.std.specs.Prelude.{◌≡◌, ℕ, true, false, cond, List, [], ◌∷◌, codes, encode_utf8_all, Option, Some, None, Result, Ok, Err}
 use Rattle.std.specs.Str.{bytes_eq}
 use Rattle.html_normal.specs.declared.fault.NormalFault.{NormalFault}
 use Rattle.html_normal.specs.declared.fault.NormalFault.TheVariants.{Memory, NotUtf8, Read, Refused, Write}
@@ -44,6 +44,6 @@ module _ (files : Files) (words : List (List ℕ)) (left left' old new errors er
   IsObeyedBy None = IsOutcome files words left left' old new errors errors' result
   IsObeyedBy (Some name) = (left' ≡ left) × (errors' ≡ errors) × IsPrintedBy (ready_named name) old new result
 
-  -- what the program does
+  -- what the command does
   abbrev pub IsObeyed : Type 0
   IsObeyed = IsObeyedBy (printed_name words)

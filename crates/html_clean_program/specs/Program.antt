@@ -1,5 +1,5 @@
--- What the program does: what it writes to standard output, what to standard error, and its status.
-use Rattle.std.specs.Prelude.{◌≡◌, ◌⊎◌, ℕ, Bool, true, false, List, [], ◌∷◌, ◌++◌, Option, Some, None, Result, Ok, Err}
+-- What cleaning by words does: what it writes to standard output, and what to standard error.
+use Rattle.std.specs.Prelude.{◌≡◌, ◌⊎◌, ℕ, Bool, true, false, List, [], ◌∷◌, ◌++◌, Option, Some, None, Result, Ok, Err, codes}
 use Rattle.markup.specs.Trees.{Trees}
 use Rattle.html_clean.specs.declared.counts.Cleaned.{Cleaned}
 use Rattle.html_clean.specs.declared.policy.Policy.{Policy}
@@ -11,11 +11,11 @@ use Rattle.html_normal.specs.declared.program.ProgramFault.{ProgramFault}
 use Rattle.html_normal.specs.declared.program.ProgramFault.TheVariants as program
 use Rattle.html_normal_program.specs.Program.{Files, HasNoTable, IsTable}
 use Rattle.html_normal_program.specs.Streams.{IsMissing, IsOpened, IsPut}
-use Rattle.html_clean_program.specs.Lines.{counts_line}
+use Rattle.html_clean_program.specs.Lines.{IsPageReported, counts_line}
 use Rattle.html_clean_program.specs.Policies.{HasRules, LacksPolicy, NamesNeverKept, refused}
 use Rattle.html_clean_program.specs.Words.{Request, asked_by, no_request}
 use Rattle.html_clean_program.specs.declared.fault.CleanFault.{CleanFault}
-use Rattle.html_clean_program.specs.declared.fault.CleanFault.TheVariants.{NeverKept, Normal, Policy as Unread, Table, Usage}
+use Rattle.html_clean_program.specs.declared.fault.CleanFault.TheVariants.{NeverKept, Normal, Page, Policy as Unread, Table, Usage}
 
 -- what is written to standard output or to standard error, where that is stated
 abbrev pub Stream : Type 0
@@ -31,13 +31,14 @@ abbrev pub bytes_of : Option (Option (List ℕ)) → Option (List ℕ)
 bytes_of None = None
 bytes_of (Some told) = told
 
--- A page was cleaned, of which `left` is stated: what is kept of it was written to standard output, and to standard error how much is
--- not, or a beginning of that where a write failed.
-pub record IsPageDone (of : List ℕ → Trees → Type 0) (policy : Policy) (left left' old new errors errors' : Stream) : Type 0 where
-  pub counts : Cleaned
-  pub cleaned : (whole : List ℕ) → left ≡ Some whole → IsCleaned of policy whole left' old new counts
-  pub failed : Bool
-  pub line : IsPut (counts_line counts ++ 10 ∷ []) errors errors' failed
+-- The page of that name was cleaned, of which `left` is stated: what is kept of it was written to standard output, and to standard error
+-- how much is not, or a beginning of that where a write failed.
+pub record IsPageDone (of : List ℕ → Trees → Type 0) (policy : Policy) (name : List ℕ) (left left' old new errors errors' : Stream) : Type 0
+  where
+    pub counts : Cleaned
+    pub cleaned : (whole : List ℕ) → left ≡ Some whole → IsCleaned of policy whole left' old new counts
+    pub failed : Bool
+    pub line : IsPut (counts_line name counts ++ 10 ∷ []) errors errors' failed
 
 module _ (files : Files) (of : List ℕ → Trees → Type 0) (policy : Policy) where
   -- a file was opened, and its page cleaned
@@ -45,7 +46,7 @@ module _ (files : Files) (of : List ℕ → Trees → Type 0) (policy : Policy) 
     pub left : Stream
     pub left' : Stream
     pub opened : IsOpened (files name) left
-    pub done : IsPageDone of policy left left' old new errors errors'
+    pub done : IsPageDone of policy name left left' old new errors errors'
 
   -- a file was opened, and its page not cleaned
   pub record IsPageFailed (name : List ℕ) (old new : Stream) (fault : NormalFault) : Type 0 where
@@ -60,7 +61,7 @@ module _ (files : Files) (of : List ℕ → Trees → Type 0) (policy : Policy) 
 
   abbrev pub IsFileFailed : List ℕ → (old new errors errors' : Stream) → NormalFault → Type 0
   IsFileFailed name old new errors errors' fault =
-      (errors' ≡ errors) × (IsUnopened name old new fault ⊎ IsPageFailed name old new fault)
+      IsPageReported name fault errors errors' × (IsUnopened name old new fault ⊎ IsPageFailed name old new fault)
 
   -- each file's page was cleaned, one after another
   abbrev pub AreDone : List (List ℕ) → (old new errors errors' : Stream) → Type 0
@@ -76,11 +77,12 @@ module _ (files : Files) (of : List ℕ → Trees → Type 0) (policy : Policy) 
 
   -- the pages of the files, or with no file the page on standard input
   abbrev pub ArePagesDone : List (List ℕ) → (left left' old new errors errors' : Stream) → Type 0
-  ArePagesDone [] left left' old new errors errors' = IsPageDone of policy left left' old new errors errors'
+  ArePagesDone [] left left' old new errors errors' = IsPageDone of policy (codes "-") left left' old new errors errors'
   ArePagesDone (name ∷ names) left left' old new errors errors' = (left' ≡ left) × AreDone (name ∷ names) old new errors errors'
 
   abbrev pub ArePagesEnded : List (List ℕ) → (left left' old new errors errors' : Stream) → NormalFault → Type 0
-  ArePagesEnded [] left left' old new errors errors' fault = (errors' ≡ errors) × IsFailed of policy left left' old new fault
+  ArePagesEnded [] left left' old new errors errors' fault =
+      IsPageReported (codes "-") fault errors errors' × IsFailed of policy left left' old new fault
   ArePagesEnded (name ∷ names) left left' old new errors errors' fault =
       (left' ≡ left) × AreEnded (name ∷ names) old new errors errors' fault
 
@@ -102,6 +104,7 @@ LacksTable files names (NeverKept word) = ⊥
 LacksTable files names (Unread spelled why) = ⊥
 LacksTable files names (Table why) = HasNoTable files names (program.Table why)
 LacksTable files names (Normal why) = why ≡ Memory
+LacksTable files names (Page why) = ⊥
 
 -- a fault of the table that is named, and else out of memory
 abbrev pub table_fault_of : ProgramFault → CleanFault
@@ -123,14 +126,15 @@ IsRefused files words (NeverKept word) =
 IsRefused files words (Unread spelled why) = Lacks words (λ request. LacksPolicy files request.policy spelled why)
 IsRefused files words (Table why) = Lacks words (λ request. HasNoTable files request.table (program.Table why))
 IsRefused files words (Normal why) = why ≡ Memory
+IsRefused files words (Page why) = ⊥
 
--- a page was not read, not cleaned or not written
+-- a page was not read, not cleaned or not written, and that was reported
 abbrev pub IsStopped : Files → List (List ℕ) → (left left' old new errors errors' : Stream) → CleanFault → Type 0
-IsStopped files words left left' old new errors errors' (Normal fault) = Wanted files words (λ request policy table.
+IsStopped files words left left' old new errors errors' (Page fault) = Wanted files words (λ request policy table.
     ArePagesEnded files (IsPageOf request.document table) policy request.files left left' old new errors errors' fault)
 IsStopped files words left left' old new errors errors' fault = ⊥
 
--- The outcome of the program, by the files and the words, the bytes of standard input that are left before and after it, and those
+-- The outcome, by the files and the words, the bytes of standard input that are left before and after it, and those
 -- written to standard output and to standard error before and after it.
 abbrev pub IsOutcome : Files → List (List ℕ) → (left left' old new errors errors' : Stream) → Result (Unit {0}) CleanFault → Type 0
 IsOutcome files words left left' old new errors errors' (Ok done) = Wanted files words (λ request policy table.

@@ -1,5 +1,5 @@
--- What the words after the program's name ask for.
-use Rattle.std.specs.Prelude.{◌≡◌, ℕ, nat_eq, Bool, true, false, cond, List, [], ◌∷◌, ◌++◌, map, Option, Some, None, codes}
+-- What the words after the command ask for.
+use Rattle.std.specs.Prelude.{◌≡◌, ℕ, nat_eq, Bool, true, false, cond, List, [], ◌∷◌, ◌++◌, map, Option, Some, None, codes, option_map}
 use Rattle.std.specs.Str.{bytes_eq}
 use Rattle.html_normal_program.specs.Program.{named}
 use Rattle.html_clean_program.specs.declared.words.Asked.{Asked}
@@ -10,13 +10,14 @@ use Rattle.html_clean_program.specs.declared.words.Takes.{Takes}
 use Rattle.html_clean_program.specs.declared.words.Takes.TheVariants as option
 
 -- What is asked for: the file with the policy, if one is named, what the policy is to keep or to add beside what it says, each with its
--- word, whether pages are cleaned as whole documents, the file with the table of references, if one is named, and the files with the
--- pages.
+-- word, whether pages are cleaned as whole documents, the file with the table of references, if one is named, the file to write to, if one
+-- is named, and the files with the pages.
 pub record Request : Type 0 where
   pub policy : List (List ℕ)
   pub extras : List (Kind × List ℕ)
   pub document : Bool
   pub table : List (List ℕ)
+  pub output : Option (List ℕ)
   pub files : List (List ℕ)
 
 abbrev pub no_request : Request
@@ -25,14 +26,16 @@ no_request = record {
   extras = [];
   document = false;
   table = [];
+  output = None;
   files = [];
 }
 
--- after an option and its word; of several files with a policy, or with a table, the last counts
+-- after an option and its word; of several files with a policy, with a table, or to write to, the last counts
 abbrev pub taken : Takes → List ℕ → Request → Request
 taken (option.Extra kind) word request = record request { extras = request.extras ++ (kind, word) ∷ [] }
 taken option.Policy word request = record request { policy = word ∷ [] }
 taken option.Table word request = record request { table = word ∷ [] }
+taken option.Output word request = record request { output = Some word }
 
 -- an option that takes the next word
 abbrev pub option_of : List ℕ → Option Takes
@@ -42,7 +45,9 @@ option_of word = cond (bytes_eq word (codes "--policy")) (Some option.Policy)
     (cond (bytes_eq word (codes "--beginning")) (Some (option.Extra Beginning))
     (cond (bytes_eq word (codes "--add")) (Some (option.Extra Addition))
     (cond (bytes_eq word (codes "--scheme")) (Some (option.Extra Scheme))
-    (cond (bytes_eq word (codes "--table")) (Some option.Table) None))))))
+    (cond (bytes_eq word (codes "--table")) (Some option.Table)
+    (cond (bytes_eq word (codes "--output")) (Some option.Output)
+    (cond (bytes_eq word (codes "-o")) (Some option.Output) None))))))))
 
 abbrev pub starts_with_hyphen : List ℕ → Bool
 starts_with_hyphen [] = false
@@ -63,6 +68,14 @@ asked_by None request (word ∷ words) =
     (cond (starts_with_hyphen word) (if_option (option_of word) (λ takes. asked_by (Some takes) request words))
     (asked_by None (record request { files = request.files ++ word ∷ [] }) words))
 
+-- the file to write to that words name, if they ask for something that can be done
+abbrev pub output_in : Option Request → Option (List ℕ)
+output_in None = None
+output_in (Some request) = request.output
+
+abbrev pub output_named : List (List ℕ) → Option (List ℕ)
+output_named words = output_in (asked_by None no_request words)
+
 abbrev pub extra_of : Extra → Kind × List ℕ
 extra_of extra = (extra.kind, extra.word.now)
 
@@ -72,6 +85,7 @@ pub record IsAsked (asked : Asked) (request : Request) : Type 0 where
   pub extras : map extra_of asked.extras.items ≡ request.extras
   pub document : asked.is_document ≡ request.document
   pub table : named asked.table ≡ request.table
+  pub output : option_map (λ name. name.now) asked.output ≡ request.output
   pub files : map (λ name. name.now) asked.files.items ≡ request.files
 
 -- words ask for what is held

@@ -1,15 +1,16 @@
 //! From pages to what the policy keeps of them.
-ghost use Rattle.std.specs.Prelude.{◌≡◌, ℕ, List, Some, IfErr, IfOk, OnErr, OnOk, map};
+ghost use Rattle.std.specs.Prelude.{◌≡◌, ℕ, List, Some, IfErr, IfOk, OnOk, map};
 ghost use Rattle.std.specs.String.{string_bytes};
 ghost use Rattle.html_clean_document.specs.Clean.{IsCleaned, IsFailed};
 ghost use Rattle.html_normal_program.specs.Program.{IsTable, named};
+ghost use Rattle.html_clean_program.specs.Lines.{IsPageReported};
 ghost use Rattle.html_clean_program.specs.Program.{AreDone, AreEnded, ArePagesDone, ArePagesEnded};
 ghost use Rattle.html_clean_program.specs.Program.{IsFileDone, IsFileFailed, IsOutcome, IsPageDone, IsPageOf, LacksTable};
 ghost use Rattle.html_clean_program.specs.Program.{table_fault_of};
 
 use crate::fault::CleanFault;
 use crate::policies::policy_for;
-use crate::telling::tell_counts;
+use crate::telling::{report_page, tell_counts};
 use crate::words::{Asked, read_words};
 use devices::{Source, Target};
 use html_clean::{Cleaned, Policy};
@@ -51,24 +52,32 @@ fn clean_page<R: Source, Output: Target>(
     clean_fragment(alloc, reader, output, table, Exact::default(), &plan.policy)
 }
 
-/// Cleans what a reader has, and writes to standard error how much was taken away.
+/// Cleans the page of that name, which a reader has, and writes to standard error how much was taken away of it, or why it was not cleaned.
 fn clean_one<R: Source, Output: Target, Errors: Target>(
     alloc: Global,
     plan: &Plan,
+    name: &str,
     reader: &mut R,
     output: &mut Output,
     errors: &mut Errors,
 ) -> Result<(), NormalFault>
-    ensures ok { OnOk result (IsPageDone (IsPageOf plan.now.is_document plan.now.table) plan.now.policy (R.left reader.old)
+    ensures ok { OnOk result (IsPageDone (IsPageOf plan.now.is_document plan.now.table) plan.now.policy name.now (R.left reader.old)
         (R.left reader.new) (Output.written output.old) (Output.written output.new) (Errors.written errors.old)
         (Errors.written errors.new)) }
     ensures err { IfErr result (IsFailed (IsPageOf plan.now.is_document plan.now.table) plan.now.policy (R.left reader.old)
         (R.left reader.new) (Output.written output.old) (Output.written output.new)) }
-    ensures quiet { OnErr result (Errors.written errors.new ≡ Errors.written errors.old) }
+    ensures told { IfErr result (λ fault. IsPageReported name.now fault (Errors.written errors.old) (Errors.written errors.new)) }
 {
-    let counts = clean_page(alloc, plan, reader, output)?;
-    tell_counts(errors, counts);
-    Ok(())
+    match clean_page(alloc, plan, reader, output) {
+        Ok(counts) => {
+            tell_counts(errors, name, counts);
+            Ok(())
+        }
+        Err(fault) => {
+            report_page(errors, name, fault);
+            Err(fault)
+        }
+    }
 }
 
 /// Cleans the page of a file.
@@ -86,8 +95,11 @@ fn clean_file<File: Source + Drop, Opens: Opener<File>, Output: Target, Errors: 
         name.now (Output.written output.old) (Output.written output.new) (Errors.written errors.old) (Errors.written errors.new)) }
 {
     match opener.open(name) {
-        Some(mut file) => clean_one(alloc, plan, &mut file, output, errors),
-        None => Err(NormalFault::Read),
+        Some(mut file) => clean_one(alloc, plan, name, &mut file, output, errors),
+        None => {
+            report_page(errors, name, NormalFault::Read);
+            Err(NormalFault::Read)
+        }
     }
 }
 
@@ -137,7 +149,7 @@ fn clean_asked<
         (Output.written output.old) (Output.written output.new) (Errors.written errors.old) (Errors.written errors.new)) }
 {
     if asked.files.is_empty() {
-        return clean_one(alloc, plan, input, output, errors);
+        return clean_one(alloc, plan, "-", input, output, errors);
     }
     clean_files(alloc, plan, asked, opener, output, errors)
 }
@@ -167,12 +179,15 @@ fn table_for<File: Source + Drop, Opens: Opener<File>>(
     }
 }
 
-/// Cleans the files that the words after the program's name ask for, or else standard input, and writes to standard output what the
-/// policy keeps, and to standard error a line for each page: how many elements, attributes and comments were taken away.
+/// Cleans the files that the words after the command ask for, or else standard input, and writes to standard output what the policy keeps,
+/// and to standard error a line for each page: its name, and how many elements, attributes and comments were taken away of it. To open the
+/// file that the words may name for the output ([`output_of`]) is the caller's.
 ///
 /// Errors: [`CleanFault::Usage`] where the words ask for nothing that can be done, [`CleanFault::Policy`], [`CleanFault::NeverKept`] and
-/// [`CleanFault::Table`], each before any page is read; [`CleanFault::Normal`] of the first page that is not read or not written, after
-/// which no other is.
+/// [`CleanFault::Table`], each before any page is read; [`CleanFault::Page`] of the first page that is not read or not written, after
+/// which no other is, and which is reported on standard error.
+///
+/// [`output_of`]: crate::output_of
 pub fn clean_pages<
     File: Source + Drop,
     Opens: Opener<File>,

@@ -1,15 +1,15 @@
-//! Why the program did nothing, or not all.
+//! Why nothing was cleaned, or not all.
 ghost use Rattle.std.specs.Prelude.{◌≡◌};
-ghost use Rattle.html_clean_program.specs.Lines.{policy_status_of, status_of};
+ghost use Rattle.html_clean_program.specs.Lines.{has_line, is_other};
 
-use html_normal::{NormalFault, ProgramFault, TableFileFault};
+use html_normal::{NormalFault, TableFileFault};
 use html_policy_text::PolicyFileFault;
 use markup::Text;
 
-/// Why the program did nothing, or not all.
+/// Why nothing was cleaned, or not all.
 #[derive(Debug, Drop)]
 pub enum CleanFault {
-    /// The arguments ask for nothing that can be done.
+    /// The words ask for nothing that can be done.
     Usage,
     /// The policy names what is never kept.
     NeverKept(Text),
@@ -22,41 +22,45 @@ pub enum CleanFault {
     },
     /// The file with the table of references has none.
     Table(TableFileFault),
-    /// A page was not read, not cleaned or not written.
+    /// Out of memory before any page was read, or a ready policy was not written.
     Normal(NormalFault),
+    /// A page was not read, not cleaned or not written.
+    Page(NormalFault),
 }
 
 impl From<NormalFault> for CleanFault {
-    ghost use Rattle.html_clean_program.specs.declared.fault.CleanFault.TheVariants.{Normal};
+    ghost use Rattle.html_clean_program.specs.declared.fault.CleanFault.TheVariants.{Page};
 
-    ghost from_gives = { λ fault made. made ≡ Normal fault };
+    ghost from_gives = { λ fault made. made ≡ Page fault };
 
     fn from(fault: NormalFault) -> CleanFault {
-        CleanFault::Normal(fault)
+        CleanFault::Page(fault)
     }
 }
 
-/// The status with which the program ends where the file with the policy has none.
-fn policy_status(fault: PolicyFileFault) -> u8
-    ensures { result ≡ policy_status_of fault }
+/// Whether a fault is another than a failed write to standard output.
+pub(crate) fn is_other(fault: NormalFault) -> bool
+    ensures { result ≡ is_other fault }
 {
     match fault {
-        PolicyFileFault::NotUtf8 { .. } | PolicyFileFault::Line { .. } => 2,
-        PolicyFileFault::Read => 3,
-        PolicyFileFault::Memory => 4,
+        NormalFault::Write => false,
+        NormalFault::NotUtf8 { .. }
+        | NormalFault::Read
+        | NormalFault::Memory
+        | NormalFault::Refused => true,
     }
 }
 
-impl CleanFault {
-    /// The status with which the program ends.
-    pub fn status(&self) -> u8
-        ensures { result ≡ status_of self.now }
-    {
-        match self {
-            CleanFault::Usage | CleanFault::NeverKept(_) => 2,
-            CleanFault::Policy { fault, .. } => policy_status(*fault),
-            CleanFault::Table(fault) => ProgramFault::Table(*fault).status(),
-            CleanFault::Normal(fault) => fault.status(),
-        }
+/// Whether a fault is still to be reported by a line on standard error: that of a page was, and a failed write to standard output is not.
+pub(crate) fn has_line(fault: &CleanFault) -> bool
+    ensures { result ≡ has_line fault.now }
+{
+    match fault {
+        CleanFault::Page(_) => false,
+        CleanFault::Normal(why) => is_other(*why),
+        CleanFault::Usage
+        | CleanFault::NeverKept(_)
+        | CleanFault::Policy { .. }
+        | CleanFault::Table(_) => true,
     }
 }

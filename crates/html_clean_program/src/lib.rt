@@ -1,4 +1,4 @@
-//! The program `html_clean`, as functions over its words, what opens files, and its streams.
+//! The command `clean` of the program `figpliers`, as functions over the words after it, what opens files, and its streams.
 //!
 //! Tests: `html_clean_tests`, `program`.
 #![tactic(auto)]
@@ -14,4 +14,5 @@ pub use cleaning::clean_pages;
 pub use fault::CleanFault;
 pub use html_normal_program::{HostFiles, Opener};
 pub use printing::obey;
-pub use telling::tell;
+pub use telling::report;
+pub use words::output_of;

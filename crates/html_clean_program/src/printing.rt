@@ -1,4 +1,4 @@
-//! Ready policies as text, and the program as a whole.
+//! Ready policies as text, and the command as a whole.
 ghost use Rattle.std.specs.Prelude.{◌≡◌, IfErr, IfOk, map, option_map};
 ghost use Rattle.std.specs.String.{string_bytes};
 ghost use Rattle.html_normal.specs.declared.fault.NormalFault.TheVariants.{Memory as NoMemory};
@@ -75,7 +75,7 @@ fn printed_name(words: &[String]) -> Option<&str>
     }
 }
 
-/// The program: `--print-policy` and the name of a ready policy writes that policy to standard output, as text; any other words are for
+/// The command: `--print-policy` and the name of a ready policy writes that policy to standard output, as text; any other words are for
 /// [`clean_pages`].
 ///
 /// Errors: [`CleanFault::Usage`] where there is no ready policy of that name; out of memory; a failed write.

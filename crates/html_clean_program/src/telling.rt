@@ -1,19 +1,21 @@
-//! The lines on standard error, and the status.
-ghost use Rattle.std.specs.Prelude.{◌≡◌, ◌++◌, ◌∷◌, [], Bool, MatchResult, codes, encode_utf8_all, is_err};
+//! The lines on standard error.
+ghost use Rattle.std.specs.Prelude.{◌≡◌, ◌++◌, ◌∷◌, [], Bool, codes, encode_utf8_all, is_err};
 ghost use Rattle.std.specs.Fmt.{decimal};
 ghost use Rattle.html_normal_program.specs.Streams.{IsPut};
-ghost use Rattle.html_clean_program.specs.Lines.{counts_line, elements_words, fault_words, others_words, place_words, policy_words};
-ghost use Rattle.html_clean_program.specs.Lines.{problem_words, status_of};
+ghost use Rattle.html_clean_program.specs.Lines.{IsPageReported, IsReported, counts_line, counts_words, elements_words, fault_words};
+ghost use Rattle.html_clean_program.specs.Lines.{front, others_words, page_fault_words, page_line, place_words, policy_words};
+ghost use Rattle.html_clean_program.specs.Lines.{problem_words};
 
-use crate::fault::CleanFault;
+use crate::fault::{CleanFault, has_line, is_other};
 use devices::{DeviceFault, Target};
 use html_clean::Cleaned;
+use html_normal::NormalFault;
 use html_normal_program::{put, put_normal_fault, put_numbered, put_table_fault};
 use html_policy_text::{PolicyFileFault, Problem};
 use markup::Text;
 
 const USAGE: &str =
-    "fault: usage: html_clean [--policy FILE] [--document] [--element NAME[:ATTRIBUTE,..]] [--attribute NAME] [--beginning TEXT] [--add ELEMENT:NAME=VALUE] [--scheme NAME] [--table FILE] [FILE].. | --print-policy NAME";
+    "fault: usage: figpliers clean [--policy FILE] [--document] [--element NAME[:ATTRIBUTE,..]] [--attribute NAME] [--beginning TEXT] [--add ELEMENT:NAME=VALUE] [--scheme NAME] [--table FILE] [-o FILE] [FILE].. | --print-policy NAME";
 
 /// Writes how many elements were taken away of a page.
 fn put_elements<Errors: Target>(errors: &mut Errors, counts: Cleaned) -> Result<(), DeviceFault>
@@ -33,18 +35,99 @@ fn put_others<Errors: Target>(errors: &mut Errors, counts: Cleaned) -> Result<()
 
 /// Writes how much was taken away of a page.
 fn put_counts<Errors: Target>(errors: &mut Errors, counts: Cleaned) -> Result<(), DeviceFault>
-    ensures put { IsPut (counts_line counts) (Errors.written errors.old) (Errors.written errors.new) (is_err result) }
+    ensures put { IsPut (counts_words counts) (Errors.written errors.old) (Errors.written errors.new) (is_err result) }
 {
     put_elements(errors, counts)?;
     put_others(errors, counts)
 }
 
-/// Writes the line that says how much was taken away of a page, or a beginning of it where a write fails.
-pub(crate) fn tell_counts<Errors: Target>(errors: &mut Errors, counts: Cleaned)
-    ensures { (failed : Bool) × IsPut (counts_line counts ++ 10 ∷ []) (Errors.written errors.old) (Errors.written errors.new) failed }
+/// Writes the name of a page, and what stands after it.
+fn put_front<Errors: Target>(errors: &mut Errors, name: &str) -> Result<(), DeviceFault>
+    ensures put { IsPut (front name.now) (Errors.written errors.old) (Errors.written errors.new) (is_err result) }
 {
-    if put_counts(errors, counts).is_ok() {
-        let _ = put(errors, "\n");
+    put(errors, name)?;
+    put(errors, ": ")
+}
+
+/// Writes the name of a page, and how much was taken away of it.
+fn put_named_counts<Errors: Target>(
+    errors: &mut Errors,
+    name: &str,
+    counts: Cleaned,
+) -> Result<(), DeviceFault>
+    ensures put { IsPut (counts_line name.now counts) (Errors.written errors.old) (Errors.written errors.new) (is_err result) }
+{
+    put_front(errors, name)?;
+    put_counts(errors, counts)
+}
+
+/// Writes the same, and the end of the line.
+fn put_counts_line<Errors: Target>(
+    errors: &mut Errors,
+    name: &str,
+    counts: Cleaned,
+) -> Result<(), DeviceFault>
+    ensures put { IsPut (counts_line name.now counts ++ 10 ∷ []) (Errors.written errors.old) (Errors.written errors.new) (is_err result) }
+{
+    put_named_counts(errors, name, counts)?;
+    put(errors, "\n")
+}
+
+/// Writes the line that says how much was taken away of the page of that name, or a beginning of it where a write fails.
+pub(crate) fn tell_counts<Errors: Target>(errors: &mut Errors, name: &str, counts: Cleaned)
+    ensures { (failed : Bool) × IsPut (counts_line name.now counts ++ 10 ∷ []) (Errors.written errors.old) (Errors.written errors.new)
+        failed }
+{
+    let _ = put_counts_line(errors, name, counts);
+}
+
+/// Writes why a page was not cleaned.
+fn put_page_fault<Errors: Target>(
+    errors: &mut Errors,
+    fault: NormalFault,
+) -> Result<(), DeviceFault>
+    ensures put { IsPut (page_fault_words fault) (Errors.written errors.old) (Errors.written errors.new) (is_err result) }
+{
+    match fault {
+        NormalFault::NotUtf8 { at } => put_numbered(errors, "not UTF-8 at byte ", at),
+        NormalFault::Read => put(errors, "cannot be read"),
+        NormalFault::Write => put(errors, "standard output cannot be written"),
+        NormalFault::Memory => put(errors, "no memory was left"),
+        NormalFault::Refused => put(errors, "refused"),
+    }
+}
+
+/// Writes the name of a page, and why it was not cleaned.
+fn put_named_fault<Errors: Target>(
+    errors: &mut Errors,
+    name: &str,
+    fault: NormalFault,
+) -> Result<(), DeviceFault>
+    ensures put { IsPut (page_line name.now fault) (Errors.written errors.old) (Errors.written errors.new) (is_err result) }
+{
+    put_front(errors, name)?;
+    put_page_fault(errors, fault)
+}
+
+/// Writes the same, and the end of the line.
+fn put_page_line<Errors: Target>(
+    errors: &mut Errors,
+    name: &str,
+    fault: NormalFault,
+) -> Result<(), DeviceFault>
+    ensures put { IsPut (page_line name.now fault ++ 10 ∷ []) (Errors.written errors.old) (Errors.written errors.new) (is_err result) }
+{
+    put_named_fault(errors, name, fault)?;
+    put(errors, "\n")
+}
+
+/// Reports on standard error why the page of that name was not cleaned; a failed write to standard output is not reported: its reader may
+/// have closed the pipe, and the caller sees it by the fault.
+pub(crate) fn report_page<Errors: Target>(errors: &mut Errors, name: &str, fault: NormalFault)
+    ensures { IsPageReported name.now fault (Errors.written errors.old) (Errors.written errors.new) }
+{
+    if is_other(fault) {
+        let _ = put_page_line(errors, name, fault);
     }
 }
 
@@ -133,7 +216,7 @@ fn put_never_kept<Errors: Target>(errors: &mut Errors, word: &Text) -> Result<()
     put_text(errors, word)
 }
 
-/// Writes why the program did nothing, or not all.
+/// Writes why nothing was cleaned, or not all.
 fn put_fault<Errors: Target>(errors: &mut Errors, fault: &CleanFault) -> Result<(), DeviceFault>
     ensures put { IsPut (fault_words fault.now) (Errors.written errors.old) (Errors.written errors.new) (is_err result) }
 {
@@ -142,7 +225,7 @@ fn put_fault<Errors: Target>(errors: &mut Errors, fault: &CleanFault) -> Result<
         CleanFault::NeverKept(word) => put_never_kept(errors, word),
         CleanFault::Policy { file, fault } => put_policy_fault(errors, file, *fault),
         CleanFault::Table(fault) => put_table_fault(errors, *fault),
-        CleanFault::Normal(fault) => put_normal_fault(errors, *fault),
+        CleanFault::Normal(fault) | CleanFault::Page(fault) => put_normal_fault(errors, *fault),
     }
 }
 
@@ -154,18 +237,12 @@ fn put_line<Errors: Target>(errors: &mut Errors, fault: &CleanFault) -> Result<(
     put(errors, "\n")
 }
 
-/// Writes the line of a fault to standard error, and returns the status with which the program ends. Where a write fails, a beginning of
-/// the line is written, and the status is the same.
-pub fn tell<Errors: Target>(errors: &mut Errors, outcome: &Result<(), CleanFault>) -> u8
-    ensures status { MatchResult outcome.now (λ _. result ≡ 0) (λ fault. result ≡ status_of fault) }
-    ensures line { MatchResult outcome.now (λ _. Errors.written errors.new ≡ Errors.written errors.old)
-        (λ fault. (failed : Bool) × IsPut (fault_words fault ++ 10 ∷ []) (Errors.written errors.old) (Errors.written errors.new) failed) }
+/// Reports on standard error why nothing was cleaned, or not all, by a line, or a beginning of it where a write fails. What went wrong with
+/// a page was reported with that page, and a failed write to standard output is not reported.
+pub fn report<Errors: Target>(errors: &mut Errors, fault: &CleanFault)
+    ensures { IsReported fault.now (Errors.written errors.old) (Errors.written errors.new) }
 {
-    match outcome {
-        Ok(()) => 0,
-        Err(fault) => {
-            let _ = put_line(errors, fault);
-            fault.status()
-        }
+    if has_line(fault) {
+        let _ = put_line(errors, fault);
     }
 }

@@ -1,10 +1,11 @@
-//! What the words after the program's name ask for.
-ghost use Rattle.std.specs.Prelude.{◌≡◌, ◌⊎◌, ◌++◌, ◌∷◌, [], ℕ, List, None, Some, IfErr, IfOk, OnOk, map};
+//! What the words after the command ask for.
+ghost use Rattle.std.specs.Prelude.{◌≡◌, ◌⊎◌, ◌++◌, ◌∷◌, [], ℕ, List, None, Some, IfErr, IfOk, OnOk, map, option_map};
 ghost use Rattle.std.specs.String.{string_bytes};
 ghost use Rattle.html_normal.specs.declared.fault.NormalFault.TheVariants.{Memory as NoMemory};
 ghost use Rattle.html_clean_program.specs.declared.fault.CleanFault.TheVariants.{Normal, Usage};
 ghost use Rattle.html_clean_program.specs.Words.{AsksFor, IsAsked, Request};
-ghost use Rattle.html_clean_program.specs.Words.{asked_by, extra_of, no_request, option_of, starts_with_hyphen, taken};
+ghost use Rattle.html_clean_program.specs.Words.{asked_by, extra_of, no_request, option_of, output_named};
+ghost use Rattle.html_clean_program.specs.Words.{starts_with_hyphen, taken};
 
 use crate::fault::CleanFault;
 use html_normal::NormalFault;
@@ -34,6 +35,8 @@ pub enum Takes {
     Policy,
     /// A file with a table of references.
     Table,
+    /// A file to write to.
+    Output,
 }
 
 /// What the policy is to keep or to add, in a word.
@@ -54,6 +57,8 @@ pub struct Asked<'a> {
     pub is_document: bool,
     /// The file with the table of references; the five that a written text needs, where there is none.
     pub table: Option<&'a str>,
+    /// The file to write to; standard output, where there is none.
+    pub output: Option<&'a str>,
     /// The files with the pages; standard input, where there are none.
     pub files: Vec<&'a str>,
 }
@@ -85,6 +90,10 @@ fn take<'a>(asked: &mut Asked<'a>, takes: Takes, word: &'a str) -> Result<(), Cl
             asked.table = Some(word);
             Ok(())
         }
+        Takes::Output => {
+            asked.output = Some(word);
+            Ok(())
+        }
     }
 }
 
@@ -100,6 +109,7 @@ fn option(word: &str) -> Option<Takes>
         "--add" => Some(Takes::Extra(Kind::Addition)),
         "--scheme" => Some(Takes::Extra(Kind::Scheme)),
         "--table" => Some(Takes::Table),
+        "--output" | "-o" => Some(Takes::Output),
         _ => None,
     }
 }
@@ -120,6 +130,7 @@ fn nothing<'a>(alloc: Global) -> Asked<'a>
         extras: Vec::new(alloc),
         is_document: false,
         table: None,
+        output: None,
         files: Vec::new(alloc),
     }
 }
@@ -209,4 +220,18 @@ pub fn read_words<'a>(alloc: Global, words: &'a [String]) -> Result<Asked<'a>, C
     let mut asked = nothing(alloc);
     take_words(&mut asked, words)?;
     Ok(asked)
+}
+
+/// The file to write to that the words after the command name; nothing where they name none, or ask for nothing that can be done.
+///
+/// Errors: out of memory.
+pub fn output_of<'a>(alloc: Global, words: &'a [String]) -> Result<Option<&'a str>, CleanFault>
+    ensures ok { IfOk result (λ found. option_map (λ name. name.now) found ≡ output_named (map string_bytes words.now)) }
+    ensures err { IfErr result (λ fault. fault ≡ Normal NoMemory) }
+{
+    match read_words(alloc, words) {
+        Ok(asked) => Ok(asked.output),
+        Err(CleanFault::Usage) => Ok(None),
+        Err(fault) => Err(fault),
+    }
 }

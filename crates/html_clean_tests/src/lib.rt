@@ -5,6 +5,10 @@
 #[cfg(test)]
 mod again;
 #[cfg(test)]
+mod bounds;
+#[cfg(test)]
 mod policies;
 #[cfg(test)]
 mod program;
+#[cfg(test)]
+mod urls;

@@ -140,7 +140,7 @@ fn articles(alloc: Global) -> Result<Policy, ParseFault> {
 }
 
 /// Whether a policy leaves this of a fragment.
-fn writes(alloc: Global, policy: &Policy, page: &str, left: &str) -> bool {
+pub(crate) fn writes(alloc: Global, policy: &Policy, page: &str, left: &str) -> bool {
     let (Ok(mut reader), Ok(five)) = (reader_of(alloc, page), References::five(alloc)) else {
         return false;
     };

@@ -1,9 +1,10 @@
-//! The program `html_clean`: what it writes to standard output and to standard error, and its status, by its words, files and input.
+//! The command `clean`: what it writes to standard output and to standard error, and whether all was cleaned, by its words, files and
+//! input.
 
 ghost use Rattle.std.specs.Prelude.{None};
 
 use devices::{MemReader, MemWriter};
-use html_clean_program::{Opener, obey, tell};
+use html_clean_program::{Opener, obey, output_of, report};
 use std::alloc::{AllocError, Global};
 
 /// The files on the disk: two pages, tables of references, and policies.
@@ -46,7 +47,7 @@ impl Opener<MemReader> for Disk {
     }
 }
 
-/// A run of the program: the words after its name, standard input, and which call of a stream fails.
+/// A run of the command: the words after it, standard input, and which call of a stream fails.
 struct Run {
     words: &'static [&'static str],
     input: &'static [u8],
@@ -64,13 +65,13 @@ const PLAIN: Run = Run {
     errors_fail: None,
 };
 
-/// What is written to standard output and to standard error, and the status.
-type Seen = (&'static str, &'static str, u8);
+/// What is written to standard output and to standard error, and whether all was cleaned.
+type Seen = (&'static str, &'static str, bool);
 
-const NOTHING: &str = "unwrapped=0 dropped=0 attributes=0 comments=0\n";
+const NOTHING: &str = "-: unwrapped=0 dropped=0 attributes=0 comments=0\n";
 
 const USAGE: &str =
-    "fault: usage: html_clean [--policy FILE] [--document] [--element NAME[:ATTRIBUTE,..]] [--attribute NAME] [--beginning TEXT] [--add ELEMENT:NAME=VALUE] [--scheme NAME] [--table FILE] [FILE].. | --print-policy NAME\n";
+    "fault: usage: figpliers clean [--policy FILE] [--document] [--element NAME[:ATTRIBUTE,..]] [--attribute NAME] [--beginning TEXT] [--add ELEMENT:NAME=VALUE] [--scheme NAME] [--table FILE] [-o FILE] [FILE].. | --print-policy NAME\n";
 
 const ROWS: &[(Run, Seen)] = &[
     (
@@ -80,8 +81,8 @@ const ROWS: &[(Run, Seen)] = &[
         },
         (
             "<p>one</p>",
-            "unwrapped=0 dropped=1 attributes=1 comments=0\n",
-            0,
+            "-: unwrapped=0 dropped=1 attributes=1 comments=0\n",
+            true,
         ),
     ),
     (
@@ -91,8 +92,8 @@ const ROWS: &[(Run, Seen)] = &[
         },
         (
             "<p>One <b>and</b> <a>two</a> &amp; <a href=\"three\">three</a></p>",
-            "unwrapped=0 dropped=1 attributes=2 comments=1\n",
-            0,
+            "-: unwrapped=0 dropped=1 attributes=2 comments=1\n",
+            true,
         ),
     ),
     (
@@ -103,8 +104,8 @@ const ROWS: &[(Run, Seen)] = &[
         },
         (
             "<p>one</p>four",
-            "unwrapped=0 dropped=1 attributes=1 comments=0\nunwrapped=1 dropped=0 attributes=0 comments=1\n",
-            0,
+            "a: unwrapped=0 dropped=1 attributes=1 comments=0\nb: unwrapped=1 dropped=0 attributes=0 comments=1\n",
+            true,
         ),
     ),
     (
@@ -115,8 +116,8 @@ const ROWS: &[(Run, Seen)] = &[
         },
         (
             "<form id=\"x\"><section>a</section></form>",
-            "unwrapped=0 dropped=0 attributes=1 comments=0\n",
-            0,
+            "-: unwrapped=0 dropped=0 attributes=1 comments=0\n",
+            true,
         ),
     ),
     (
@@ -125,7 +126,15 @@ const ROWS: &[(Run, Seen)] = &[
             input: b"<p id=x>a</p>",
             ..PLAIN
         },
-        ("<p id=\"x\">a</p>", NOTHING, 0),
+        ("<p id=\"x\">a</p>", NOTHING, true),
+    ),
+    (
+        Run {
+            words: &["-o", "x", "--attribute", "id"],
+            input: b"<p id=x>a</p>",
+            ..PLAIN
+        },
+        ("<p id=\"x\">a</p>", NOTHING, true),
     ),
     (
         Run {
@@ -135,8 +144,8 @@ const ROWS: &[(Run, Seen)] = &[
         },
         (
             "<a rel=\"nofollow\" data-x=\"1\">a</a>",
-            "unwrapped=0 dropped=0 attributes=1 comments=0\n",
-            0,
+            "-: unwrapped=0 dropped=0 attributes=1 comments=0\n",
+            true,
         ),
     ),
     (
@@ -145,7 +154,7 @@ const ROWS: &[(Run, Seen)] = &[
             input: b"<a href=gopher:1>a</a>",
             ..PLAIN
         },
-        ("<a href=\"gopher:1\">a</a>", NOTHING, 0),
+        ("<a href=\"gopher:1\">a</a>", NOTHING, true),
     ),
     (
         Run {
@@ -154,8 +163,8 @@ const ROWS: &[(Run, Seen)] = &[
         },
         (
             "<a>a</a>",
-            "unwrapped=0 dropped=0 attributes=1 comments=0\n",
-            0,
+            "-: unwrapped=0 dropped=0 attributes=1 comments=0\n",
+            true,
         ),
     ),
     (
@@ -164,7 +173,7 @@ const ROWS: &[(Run, Seen)] = &[
             input: b"&eacute;&lt;",
             ..PLAIN
         },
-        ("\u{E9}&amp;lt;", NOTHING, 0),
+        ("\u{E9}&amp;lt;", NOTHING, true),
     ),
     (
         Run {
@@ -174,8 +183,8 @@ const ROWS: &[(Run, Seen)] = &[
         },
         (
             "<p>a</p>",
-            "unwrapped=2 dropped=1 attributes=0 comments=0\n",
-            0,
+            "-: unwrapped=2 dropped=1 attributes=0 comments=0\n",
+            true,
         ),
     ),
 ];
@@ -190,8 +199,8 @@ const POLICIES: &[(Run, Seen)] = &[
         },
         (
             "<a rel=\"nofollow\" href=\"https:b\">c</a><a rel=\"nofollow\">e</a><code class=\"language-g\">h</code>",
-            "unwrapped=1 dropped=1 attributes=2 comments=0\n",
-            0,
+            "-: unwrapped=1 dropped=1 attributes=2 comments=0\n",
+            true,
         ),
     ),
     (
@@ -200,7 +209,11 @@ const POLICIES: &[(Run, Seen)] = &[
             input: b"<p>a<script>b</script>",
             ..PLAIN
         },
-        ("ab", "unwrapped=2 dropped=0 attributes=0 comments=0\n", 0),
+        (
+            "ab",
+            "-: unwrapped=2 dropped=0 attributes=0 comments=0\n",
+            true,
+        ),
     ),
     (
         Run {
@@ -210,8 +223,8 @@ const POLICIES: &[(Run, Seen)] = &[
         },
         (
             "<b>a</b><i id=\"c\">d</i>e",
-            "unwrapped=1 dropped=0 attributes=0 comments=0\n",
-            0,
+            "-: unwrapped=1 dropped=0 attributes=0 comments=0\n",
+            true,
         ),
     ),
     (
@@ -229,7 +242,11 @@ const POLICIES: &[(Run, Seen)] = &[
             input: b"<p>a",
             ..PLAIN
         },
-        ("a", "unwrapped=1 dropped=0 attributes=0 comments=0\n", 0),
+        (
+            "a",
+            "-: unwrapped=1 dropped=0 attributes=0 comments=0\n",
+            true,
+        ),
     ),
     (
         Run {
@@ -239,8 +256,8 @@ const POLICIES: &[(Run, Seen)] = &[
         },
         (
             "<body>a</body>",
-            "unwrapped=2 dropped=0 attributes=0 comments=0\n",
-            0,
+            "-: unwrapped=2 dropped=0 attributes=0 comments=0\n",
+            true,
         ),
     ),
 ];
@@ -256,7 +273,7 @@ const PRINTED: &[(Run, Seen)] = &[
         (
             "drop head iframe noembed noframes noscript script style template title\n",
             "",
-            0,
+            true,
         ),
     ),
     (
@@ -264,21 +281,21 @@ const PRINTED: &[(Run, Seen)] = &[
             words: &["--print-policy", "other"],
             ..PLAIN
         },
-        ("", USAGE, 2),
+        ("", USAGE, false),
     ),
     (
         Run {
             words: &["--print-policy"],
             ..PLAIN
         },
-        ("", USAGE, 2),
+        ("", USAGE, false),
     ),
     (
         Run {
             words: &["--print-policy", "text-alone", "a"],
             ..PLAIN
         },
-        ("", USAGE, 2),
+        ("", USAGE, false),
     ),
     (
         Run {
@@ -286,7 +303,7 @@ const PRINTED: &[(Run, Seen)] = &[
             output_fails: Some(1),
             ..PLAIN
         },
-        ("", "fault: write\n", 3),
+        ("", "", false),
     ),
 ];
 
@@ -296,105 +313,105 @@ const FAULTS: &[(Run, Seen)] = &[
             words: &["--policy"],
             ..PLAIN
         },
-        ("", USAGE, 2),
+        ("", USAGE, false),
     ),
     (
         Run {
             words: &["--policy", "unknown", "a"],
             ..PLAIN
         },
-        ("", "unknown:2: no rule begins with this word\n", 2),
+        ("", "unknown:2: no rule begins with this word\n", false),
     ),
     (
         Run {
             words: &["--policy", "short", "a"],
             ..PLAIN
         },
-        ("", "short:2: the rule takes fewer words, or more\n", 2),
+        ("", "short:2: the rule takes fewer words, or more\n", false),
     ),
     (
         Run {
             words: &["--policy", "bytes", "a"],
             ..PLAIN
         },
-        ("", "bytes: not UTF-8 at byte 12\n", 2),
+        ("", "bytes: not UTF-8 at byte 12\n", false),
     ),
     (
         Run {
             words: &["--policy", "missing", "a"],
             ..PLAIN
         },
-        ("", "missing: cannot be read\n", 3),
+        ("", "missing: cannot be read\n", false),
     ),
     (
         Run {
             words: &["--policy", "unsafe", "a"],
             ..PLAIN
         },
-        ("", "fault: never kept: script\n", 2),
+        ("", "fault: never kept: script\n", false),
     ),
     (
         Run {
             words: &["--policy", "page", "a"],
             ..PLAIN
         },
-        ("", "fault: never kept: body\n", 2),
+        ("", "fault: never kept: body\n", false),
     ),
     (
         Run {
             words: &["--unknown"],
             ..PLAIN
         },
-        ("", USAGE, 2),
+        ("", USAGE, false),
     ),
     (
         Run {
             words: &["--element"],
             ..PLAIN
         },
-        ("", USAGE, 2),
+        ("", USAGE, false),
     ),
     (
         Run {
             words: &["--element", "script"],
             ..PLAIN
         },
-        ("", "fault: never kept: script\n", 2),
+        ("", "fault: never kept: script\n", false),
     ),
     (
         Run {
             words: &["--add", "a:onclick=x"],
             ..PLAIN
         },
-        ("", "fault: never kept: onclick\n", 2),
+        ("", "fault: never kept: onclick\n", false),
     ),
     (
         Run {
             words: &["--add", "a"],
             ..PLAIN
         },
-        ("", "fault: never kept: \n", 2),
+        ("", "fault: never kept: \n", false),
     ),
     (
         Run {
             words: &["--scheme", "javascript"],
             ..PLAIN
         },
-        ("", "fault: never kept: javascript\n", 2),
+        ("", "fault: never kept: javascript\n", false),
     ),
     (
         Run {
             words: &["--table", "missing", "a"],
             ..PLAIN
         },
-        ("", "fault: read\n", 3),
+        ("", "fault: read\n", false),
     ),
     (
         Run {
             words: &["--table", "none", "a"],
             ..PLAIN
         },
-        ("", "fault: table: line 1\n", 2),
+        ("", "fault: table: line 1\n", false),
     ),
     (
         Run {
@@ -403,8 +420,8 @@ const FAULTS: &[(Run, Seen)] = &[
         },
         (
             "<p>one</p>",
-            "unwrapped=0 dropped=1 attributes=1 comments=0\nfault: read\n",
-            3,
+            "a: unwrapped=0 dropped=1 attributes=1 comments=0\nmissing: cannot be read\n",
+            false,
         ),
     ),
     (
@@ -412,7 +429,7 @@ const FAULTS: &[(Run, Seen)] = &[
             input: b"ab\xFF",
             ..PLAIN
         },
-        ("", "fault: not UTF-8 at byte 2\n", 1),
+        ("", "-: not UTF-8 at byte 2\n", false),
     ),
     (
         Run {
@@ -420,7 +437,7 @@ const FAULTS: &[(Run, Seen)] = &[
             input_fails: Some(1),
             ..PLAIN
         },
-        ("", "fault: read\n", 3),
+        ("", "-: cannot be read\n", false),
     ),
     (
         Run {
@@ -428,7 +445,7 @@ const FAULTS: &[(Run, Seen)] = &[
             output_fails: Some(1),
             ..PLAIN
         },
-        ("", "fault: write\n", 3),
+        ("", "", false),
     ),
     (
         Run {
@@ -436,16 +453,22 @@ const FAULTS: &[(Run, Seen)] = &[
             errors_fail: Some(1),
             ..PLAIN
         },
-        ("<p>one</p>", "", 0),
+        ("<p>one</p>", "", true),
     ),
 ];
 
-/// Whether a run of the program is seen so.
-fn is_seen(alloc: Global, started: &Run, seen: &Seen) -> Result<bool, AllocError> {
+/// The words, each in a room of its own.
+fn words_of(alloc: Global, given: &[&str]) -> Result<Vec<String>, AllocError> {
     let mut words = Vec::new(alloc);
-    for &word in started.words {
+    for &word in given {
         words.push(String::from_str(alloc, word)?)?;
     }
+    Ok(words)
+}
+
+/// Whether a run of the command is seen so.
+fn is_seen(alloc: Global, started: &Run, seen: &Seen) -> Result<bool, AllocError> {
+    let words = words_of(alloc, started.words)?;
     let mut input = MemReader::new(
         Vec::from_slice(alloc, started.input)?,
         3,
@@ -461,11 +484,13 @@ fn is_seen(alloc: Global, started: &Run, seen: &Seen) -> Result<bool, AllocError
         &mut output,
         &mut errors,
     );
-    let status = tell(&mut errors, &outcome);
+    if let Err(fault) = &outcome {
+        report(&mut errors, fault);
+    }
     Ok(
         output.written() == seen.0.as_bytes()
             && errors.written() == seen.1.as_bytes()
-            && status == seen.2,
+            && outcome.is_ok() == seen.2,
     )
 }
 
@@ -511,4 +536,25 @@ fn faults_of_the_program(rt: HostRuntime) {
             seen.1
         );
     }
+}
+
+/// Whether words name this file to write to, or none.
+fn output_is(alloc: Global, given: &[&str], wanted: Option<&str>) -> bool {
+    let Ok(words) = words_of(alloc, given) else {
+        return false;
+    };
+    match output_of(alloc, words.as_slice()) {
+        Ok(found) => found == wanted,
+        Err(_) => false,
+    }
+}
+
+#[test]
+fn a_file_to_write_to_is_named(rt: HostRuntime) {
+    let alloc = rt.alloc();
+    assert!(rt; output_is(alloc, &["a", "-o", "x"], Some("x")));
+    assert!(rt; output_is(alloc, &["-o", "x", "--output", "y"], Some("y")));
+    assert!(rt; output_is(alloc, &["a"], None));
+    assert!(rt; output_is(alloc, &["-o"], None));
+    assert!(rt; output_is(alloc, &["-o", "x", "--unknown"], None));
 }

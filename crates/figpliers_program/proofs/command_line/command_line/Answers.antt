@@ -6,7 +6,8 @@ use Rattle.figpliers_program.proofs.command_line.command_line.Goals as goal
 
 pub returns : goal.returns
 unfolding figpliers
-returns c = IfOk-weaker c.subcommand-5.result _ _ (λ made adds. command-after _ made _ _ _ adds c.in_ok-normal.ensures.local
+returns c = IfOk-weaker c.subcommand-6.result _ _ (λ made adds. command-after _ made _ _ _ adds c.in_ok-clean.ensures.local
+    (command-after _ _ _ _ _ c.in_ok-subcommand-4.ensures c.in_ok-normal.ensures.local
     (command-after _ _ _ _ _ c.in_ok-subcommand-3.ensures c.in_ok-select.ensures.local
     (c.in_ok-with_plain.ensures ∙ ap with_plain
     (command-after _ _ _ _ _ c.in_ok-command.ensures c.in_ok-links.ensures.local
@@ -15,4 +16,5 @@ returns c = IfOk-weaker c.subcommand-5.result _ _ (λ made adds. command-after _
     c.in_ok-tree.ensures.app)
     c.in_ok-links.ensures.app))
     c.in_ok-select.ensures.app)
-    c.in_ok-normal.ensures.app) c.subcommand-5.ensures
+    c.in_ok-normal.ensures.app)
+    c.in_ok-clean.ensures.app) c.subcommand-6.ensures

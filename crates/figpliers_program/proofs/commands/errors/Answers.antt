@@ -17,11 +17,11 @@ loop-error-preserved g c =
     let name = c.args.name.now in
     let items = c.deref-error-items.result.now in
     let i = c.loop-error.error-index in
-    with_bytes-then _ _ _ (error_lines name (map note_of (take i items))) (error_line name (c.error-item.result.line, c.as_str.result.now))
+    with_bytes-then _ _ _ (error_lines name (map note_of (take i items))) (error_line name (c.error-item.result.place, c.as_str.result.now))
     c.loop-error.invariant c.in_ok-put_error.ensures
     ∙ ap (with_bytes (told_by g.W.Target.written g.W.Target.failures c.args.writer.now))
-    (lines-next note_of name items i c.error-item.result (c.error-item.result.line, c.as_str.result.now) c.loop-error-test.true
-    ((λ j. (c.error-item.result.line, c.as_str.ensures.value j)) ∙ ap note_of c.error-item.is))
+    (lines-next note_of name items i c.error-item.result (c.error-item.result.place, c.as_str.result.now) c.loop-error-test.true
+    ((λ j. (c.error-item.result.place, c.as_str.ensures.value j)) ∙ ap note_of c.error-item.is))
 
 pub returns-in_err-put_error : goal.returns-in_err-put_error
 returns-in_err-put_error g c =
@@ -32,9 +32,9 @@ returns-in_err-put_error g c =
       error_lines name (map note_of items),
       if c.args.noted.now.forest.errors == 0 then Fine else Errors,
       (ap (λ errors. error_lines name (map note_of errors)) c.deref-error-items.ensures.value, refl),
-      lines-cut note_of name items c.loop-error.error-index c.error-item.result (c.error-item.result.line, c.as_str.result.now) _ _ _
+      lines-cut note_of name items c.loop-error.error-index c.error-item.result (c.error-item.result.place, c.as_str.result.now) _ _ _
           c.in_err-put_error.field-0.0 c.loop-error-test.true
-          ((λ j. (c.error-item.result.line, c.as_str.ensures.value j)) ∙ ap note_of c.error-item.is)
+          ((λ j. (c.error-item.result.place, c.as_str.ensures.value j)) ∙ ap note_of c.error-item.is)
           c.loop-error.invariant c.in_err-put_error.ensures,
     ))
 

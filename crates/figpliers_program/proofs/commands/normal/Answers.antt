@@ -1,6 +1,5 @@
-use Rattle.std.proofs.Common.{◌≡◌, ap, inr, refl, subst}
+use Rattle.std.proofs.Common.{inr, refl}
 use Rattle.std.proofs.lemmas.Result.{err_from_is_err_and}
-use Rattle.figpliers.specs.Document.{document_bytes}
 use Rattle.figpliers.specs.Walk.{walked}
 use Rattle.figpliers_program.specs.declared.faults.Verdict.TheVariants.{Fine}
 use Rattle.figpliers_program.proofs.Printing.{cut-as}

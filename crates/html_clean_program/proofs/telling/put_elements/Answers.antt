@@ -1,4 +1,4 @@
-use Rattle.std.proofs.Common.{ℕ, List, ◌++◌, codes}
+use Rattle.std.proofs.Common.{◌++◌, codes}
 use Rattle.std.specs.Fmt.{decimal}
 use Rattle.std.specs.Prelude.{is_err}
 use Rattle.html_normal_program.proofs.Written.{err-is, put-ended, put-then}

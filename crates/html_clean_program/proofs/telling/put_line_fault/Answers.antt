@@ -1,4 +1,3 @@
-use Rattle.std.proofs.Common.{ap}
 use Rattle.std.specs.Prelude.{is_err}
 use Rattle.html_normal_program.proofs.Written.{err-is, put-ended, put-then}
 use Rattle.html_clean_program.specs.Lines.{place_words, problem_words}

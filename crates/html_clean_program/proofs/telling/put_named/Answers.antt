@@ -1,4 +1,3 @@
-use Rattle.std.proofs.Common.{◌++◌}
 use Rattle.std.specs.Prelude.{encode_utf8_all, is_err}
 use Rattle.html_normal_program.proofs.Written.{err-is, put-ended, put-then}
 use Rattle.html_clean_program.proofs.telling.put_named.Goals as goal

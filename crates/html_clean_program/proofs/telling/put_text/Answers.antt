@@ -1,7 +1,6 @@
 use Rattle.std.proofs.Common.{◌∙◌, ap, sym}
-use Rattle.std.specs.Prelude.{encode_utf8_all, is_err}
+use Rattle.std.specs.Prelude.{encode_utf8_all}
 use Rattle.std.proofs.lemmas.Str.{encodes-chars}
-use Rattle.html_normal_program.specs.Streams.{IsPut}
 use Rattle.html_clean_program.proofs.telling.put_text.Goals as goal
 
 pub returns : goal.returns

@@ -10,6 +10,7 @@ returns-then-eq-clause-ok c = λ request held. (
     extras = held.extras;
     document = refl;
     table = held.table;
+    output = held.output;
     files = held.files;
   },
   λ words. rw (sym c.eq.ensures ∙ c.if-eq.true) refl,
@@ -24,6 +25,7 @@ returns-in-Ok-clause-ok c = λ request held.
         extras = held.extras;
         document = held.document;
         table = held.table;
+        output = held.output;
         files = ap (map now) c.in-Ok.ensures.items ∙ map-append now c.args.asked.now.files.items (c.args.word ∷ [])
             ∙ ap (λ names. names ++ c.args.word.now ∷ []) held.files;
       },

@@ -1,7 +1,7 @@
 use Rattle.std.proofs.Common.{◌∙◌, inl, inr, refl}
 use Rattle.clap.specs.Values.{kind_of}
 use Rattle.figpliers_program.proofs.Answering.{rejected}
-use Rattle.figpliers_program.proofs.program.output_of.Goals as goal
+use Rattle.figpliers_program.proofs.program.pages_output.Goals as goal
 
 pub returns-in-Ok-clause-ok : goal.returns-in-Ok-clause-ok
 returns-in-Ok-clause-ok c = inl (c.in-Ok.asked, c.in-Ok.ensures.ok, c.output_in.ensures)
