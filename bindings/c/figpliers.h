@@ -121,13 +121,13 @@ uint32_t fig_errors(const uint8_t *page, size_t page_length, uint8_t *output, si
 uint32_t fig_serialize(const uint8_t *image, size_t image_length, uint32_t node, uint8_t *output, size_t room, fig_report *report);
 uint32_t fig_text_content(const uint8_t *image, size_t image_length, uint32_t node, uint8_t *output, size_t room, fig_report *report);
 
-/* Writes where the elements below a node lead, in tree order, each with a line feed behind it: the `href` of each `a`, `area` and `link`, the
- * `src` of each `img`, `script`, frame, `embed`, `input` and of media, as it is written but for tabs and line breaks. The image and the
- * report are as of fig_serialize. */
+/* Writes where the elements below a node lead, in tree order, each with a line feed behind it: the `href` of each `a`, `area` and
+ * `link`, the `src` of each `img`, `script`, frame, `embed`, `input` and of media, as it is written but for tabs and line breaks. The
+ * image and the report are as of fig_serialize. */
 uint32_t fig_links(const uint8_t *image, size_t image_length, uint32_t node, uint8_t *output, size_t room, fig_report *report);
 
-/* Writes the numbers of the nodes below a node that CSS selectors select (Selectors Level 4), in tree order: four bytes for each, the lowest
- * first. Node 0 asks for the whole document. `:scope` is the node, or where it is no element the first element in it. The image and the
+/* Writes the numbers of the nodes below a node that CSS selectors select (Selectors Level 4), in tree order: four bytes for each,
+ * the lowest first. Node 0 asks for the whole document. `:scope` is the node, or where it is no element the first element in it. The image and the
  * report are as of fig_serialize. */
 uint32_t fig_select(const uint8_t *selector, size_t selector_length, const uint8_t *image, size_t image_length, uint32_t node,
                     uint8_t *output, size_t room, fig_report *report);

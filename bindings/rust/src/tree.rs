@@ -357,8 +357,8 @@ impl<'a> Node<'a> {
         Ok(numbers.into_iter().map(|number| Node { number, ..self }).collect())
     }
 
-    /// Where the elements below this node lead, in tree order: the `href` of each `a`, `area` and `link`, the `src` of each `img`, `script`,
-    /// frame, `embed`, `input` and of media, as it is written but for tabs and line breaks. The library reads the whole image for it.
+    /// Where the elements below this node lead, in tree order: the `href` of each `a`, `area` and `link`, the `src` of each `img`,
+    /// `script`, frame, `embed`, `input` and of media, as it is written but for tabs and line breaks. The library reads the whole image for it.
     ///
     /// ```
     /// let page = figpliers::parse("<link href=a><p><img src=b><a href=c>d</a>")?;
