@@ -67,7 +67,7 @@ typedef struct fig_cleaned {
     uint64_t comments;   /* comments and processing instructions */
 } fig_cleaned;
 
-/* What is told of a page that was decoded. */
+/* The report of a page that was decoded. */
 typedef struct fig_decoded {
     size_t length;    /* how many bytes the text has */
     uint64_t errors;  /* how many errors the page has in its encoding: each stands as U+FFFD in the text */
@@ -133,7 +133,7 @@ uint32_t fig_select(const uint8_t *selector, size_t selector_length, const uint8
                     uint8_t *output, size_t room, fig_report *report);
 
 /* Writes what the ready policy keeps of a page: text, links, tables and formatting, no script, no style, no event. Every reader
- * that follows the Standard is told by it just the tags and texts that were kept, wherever it is put among elements and texts.
+ * that follows the Standard reads just the tags and texts that were kept, wherever it is put among elements and texts.
  * fig_clean reads the page as what stands in a `div`, fig_clean_document as a document. */
 uint32_t fig_clean(const uint8_t *page, size_t page_length, uint8_t *output, size_t room, fig_cleaned *report);
 uint32_t fig_clean_document(const uint8_t *page, size_t page_length, uint8_t *output, size_t room, fig_cleaned *report);

@@ -184,7 +184,7 @@ module _ {K H : Type 0} (Sink : Ghosts K H) where
       → FailsAfter Sink now fault → FailsAfter Sink old fault
   reached-fault old now from mid fault r fails = fails-on Sink old now r.front fault r.reads fails
 
-  -- of want of memory nothing is said
+  -- out of memory says nothing more
   pub memory-fails : (k : Tokenizer K) → FailsAfter Sink k Memory
   memory-fails k = record { refused = λ refusal begin before read. absurd refusal; failed = λ is. absurd cc }
 

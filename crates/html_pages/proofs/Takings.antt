@@ -47,7 +47,7 @@ module _ {K H O : Type 0} (Sink : TreeGhosts K H O) where
   piece-failed old new text (Ok x) free takes = tt
   piece-failed old new text (Err fault) free takes = let t = rw free.begun at takes in t.1
 
-  -- of want of memory nothing is said
+  -- out of memory says nothing more
   pub memory-fails : (p : Parser K H O) → FailsAfter (builder Sink) p.tokenizer parse.Memory
   memory-fails p = record { refused = λ refusal begin before read. absurd refusal; failed = λ is. absurd cc }
 

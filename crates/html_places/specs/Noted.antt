@@ -10,7 +10,7 @@ abbrev pub place_of : Noted → Place
 place_of error = error.place
 
 -- Each node has a place of the text, and so has each error. In the order of their numbers no node is before an earlier one, and no error
--- before one that was told earlier.
+-- before one that was reported earlier.
 pub record IsPlaced (text : List ℕ) (noted : NotedForest) : Type 0 where
   pub each : length noted.places.items ≡ node_count noted.forest
   pub nodes : ArePlaces text noted.places.items

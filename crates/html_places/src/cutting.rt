@@ -91,8 +91,8 @@ fn after_character(text: &str) -> &str {
     characters.as_str()
 }
 
-/// What follows a piece that begins with text, where control characters and noncharacters are told: none of these stands in a piece with
-/// another character.
+/// What follows a piece that begins with text, where control characters and noncharacters are reported as errors: each of these is a
+/// piece of its own.
 fn after_exact_text(text: &str) -> &str {
     let plain = plain_len(text);
     if plain == 0 || !text.is_char_boundary(plain) {
@@ -112,7 +112,7 @@ pub(crate) enum Size {
     Character,
     /// Text.
     Text,
-    /// Text, where control characters and noncharacters are told.
+    /// Text, where control characters and noncharacters are reported as errors.
     ExactText,
     /// Markup.
     Markup,

@@ -22,19 +22,19 @@ pub struct Noted {
     pub message: CowStr<'static>,
 }
 
-/// A forest, the places of its nodes, and the parse errors that it was told. As a sink of trees it is the forest that it has.
+/// A forest, the places of its nodes, and the parse errors that were reported to it. As a sink of trees it is the forest that it has.
 ///
-/// A parser does not tell a sink any place: of an error the sink notes the line that it was told, and of a node nothing. The calls that
-/// read a page put the places in. Where memory is wanting for an error it has fewer than its forest counts.
+/// A parser reports no places to a sink: an error gets the current line, and a node nothing. The calls that read a page put the places
+/// in. Where there is no memory for an error, the list is shorter than the forest's count.
 #[derive(Debug, Drop)]
 pub struct NotedForest {
     /// The tree.
     pub forest: Forest,
     /// Where each node begins, by its number: an element at the tag that made it, or at what made the parser put it there.
     pub places: Vec<Place>,
-    /// The errors, in the order in which they were told.
+    /// The errors, in the order in which they were reported.
     pub errors: Vec<Noted>,
-    // How many errors were told before the last text that was put into the tree.
+    // How many errors were reported before the last text that was put into the tree.
     pub(crate) text_errors: usize,
     line: u64,
 }
