@@ -8,8 +8,10 @@ use Rattle.std.proofs.lemmas.List.Sums.{sum_by_push}
 use Rattle.std.specs.List.{prefix_len, suffix_len}
 use Rattle.markup.specs.Forest.{one_more}
 use Rattle.html_tokens.specs.NormalText.{newline_by, newlines, newlines_after, normal_text, without_mark, without_mark_by}
-use Rattle.html_places.specs.Places.{IsFront, after_return, is_filled, next_place, number_after}
-use Rattle.html_places.specs.Places.{passed, passed_all, place_after, place_at_end, stays}
+use Rattle.html_places.specs.Places.{number_after}
+use Rattle.html_places.specs.Fronts.{IsFront, after_return, is_filled, next_place}
+use Rattle.html_places.specs.Places.{place_after, place_at_end}
+use Rattle.html_places.specs.Fronts.{passed, passed_all, stays}
 use Rattle.html_places.specs.declared.place.Front.{Front}
 use Rattle.html_places.specs.declared.place.Place.{Place}
 

@@ -1,3 +1,4 @@
 pub mod Fronts
+mod Goings
 mod Marks
 mod Takings

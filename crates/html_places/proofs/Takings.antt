@@ -4,8 +4,10 @@ use Rattle.std.proofs.Common.{subst, sym}
 use Rattle.std.specs.Str.{chars}
 use Rattle.std.proofs.lemmas.Str.{IsUtf8-append, chars-append}
 use Rattle.html_places.specs.Pieces.{IsTaken}
-use Rattle.html_places.specs.Places.{ArePlaces, IsFront, IsPlaceIn, passed_all}
+use Rattle.html_places.specs.Places.{ArePlaces, IsPlaceIn}
+use Rattle.html_places.specs.Fronts.{IsFront, passed_all}
 use Rattle.html_places.specs.declared.cutting.Kind.{Kind}
+use Rattle.html_places.specs.declared.pieces.Next.{Next}
 use Rattle.html_places.specs.declared.pieces.Pieces.{Pieces}
 use Rattle.html_places.specs.declared.place.Front.{Front}
 use Rattle.html_places.specs.declared.place.Place.{Place}
@@ -34,7 +36,7 @@ token-begun p kind t = record {
   errors = t.errors;
 }
 
-front-taken : (taken piece : List ℕ) (f : Front) → IsUtf8 taken → IsFront (chars taken) f
+pub front-taken : (taken piece : List ℕ) (f : Front) → IsUtf8 taken → IsFront (chars taken) f
     → IsFront (chars (taken ++ piece)) (passed_all f (chars piece))
 front-taken taken piece f utf8 is =
     subst (λ (cs : List ℕ). IsFront cs (passed_all f (chars piece))) (sym (chars-append taken piece utf8))
@@ -113,4 +115,17 @@ errors-noted p errors t are = record {
   text_place = t.text_place;
   nodes = t.nodes;
   errors = are;
+}
+
+pub decision-begun : (p : Pieces) (next : Next) → IsTaken p → IsTaken (record p { next = next })
+decision-begun p next t = record {
+  taken = t.taken;
+  utf8 = t.utf8;
+  whole = t.whole;
+  front = t.front;
+  token = t.token;
+  next_token = t.next_token;
+  text_place = t.text_place;
+  nodes = t.nodes;
+  errors = t.errors;
 }

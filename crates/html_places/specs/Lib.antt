@@ -1,4 +1,6 @@
 pub mod Places
+pub mod Fronts
 pub mod Pieces
 pub mod Noted
+pub mod Around
 pub mod Rows

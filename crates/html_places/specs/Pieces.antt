@@ -1,7 +1,8 @@
 -- A text in pieces, and the places that are noted as it is taken.
 use Rattle.std.specs.Prelude.{◌≡◌, ◌++◌, ℕ, List, IfSome}
 use Rattle.std.specs.Str.{IsUtf8, chars}
-use Rattle.html_places.specs.Places.{ArePlaces, IsFront, IsPlaceIn}
+use Rattle.html_places.specs.Places.{ArePlaces, IsPlaceIn}
+use Rattle.html_places.specs.Fronts.{IsFront}
 use Rattle.html_places.specs.declared.pieces.Pieces.{Pieces}
 
 -- Some front of the text was taken, and all that is noted are places of the text.

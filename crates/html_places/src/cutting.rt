@@ -37,6 +37,11 @@ pub(crate) fn kind_of(text: &str) -> Kind {
     }
 }
 
+/// Whether a text begins with what ends a piece of text.
+pub(crate) fn begins_with_stop(text: &str) -> bool {
+    matches!(text.as_bytes().first(), Some(0 | b'&' | b'<'))
+}
+
 /// How many bytes of white space stand at the front of a text.
 fn white_space_len(text: &str) -> usize {
     let bytes = text.as_bytes();

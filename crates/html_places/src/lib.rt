@@ -3,6 +3,7 @@
 //! Tests: `pages_tests`.
 #![tactic(auto)]
 
+mod around;
 mod cutting;
 mod marking;
 mod noted;
@@ -10,6 +11,7 @@ mod pieces;
 mod place;
 pub mod rows;
 
+pub use around::{Around, Surroundings};
 pub use noted::{Noted, NotedForest, Noting};
 pub use pieces::Pieces;
 pub use place::Place;

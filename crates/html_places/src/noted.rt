@@ -3,6 +3,7 @@ ghost use Rattle.std.specs.Prelude.{◌≡◌, ◌==◌, ◌≤◌, IfErr, IfOk,
 ghost use Rattle.markup.specs.Forest.{empty_forest, node_count};
 ghost use Rattle.markup.specs.declared.fault.ParseFault.TheVariants.{Memory};
 ghost use Rattle.html_places.specs.Noted.{place_of};
+ghost use Rattle.std.specs.Prelude.{slice_get};
 
 use crate::place::Place;
 use html_forest::{Forest, NodeId};
@@ -72,6 +73,13 @@ impl NotedForest {
         if matches!(child, NodeOrText::AppendText(_)) {
             self.text_errors = self.errors.len();
         }
+    }
+
+    /// Where a node begins.
+    pub fn place_of(&self, id: NodeId) -> Option<Place>
+        ensures { result ≡ slice_get self.now.places.items id }
+    {
+        self.places.get(id.number()).copied()
     }
 
     /// Whether it has an error for each that its forest counts.

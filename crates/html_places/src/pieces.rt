@@ -5,7 +5,7 @@ ghost use Rattle.html_places.specs.Pieces.{IsTaken};
 ghost use Rattle.html_places.specs.Noted.{IsPlaced};
 ghost use Rattle.html_places.specs.Places.{IsPlaceIn};
 
-use crate::cutting::{Kind, Size, cut, kind_of};
+use crate::cutting::{Kind, Size, begins_with_stop, cut, kind_of};
 use crate::marking::{after_last_text, fill, fill_nodes};
 use crate::noted::NotedForest;
 use crate::place::{Front, Place};
@@ -31,6 +31,14 @@ fn next_after(next: Next, kind: Kind, is_between: bool) -> Next {
     match (next, kind) {
         (Next::Token | Next::More, Kind::Text) => Next::Decision,
         _ => Next::More,
+    }
+}
+
+/// What the next piece is that was to be this, of a token that begins so; `is_stop` is whether its first character ends text.
+fn decided(next: Next, kind: Kind, is_stop: bool) -> Next {
+    match (next, kind) {
+        (Next::More, Kind::Text) if is_stop => Next::Decision,
+        _ => next,
     }
 }
 
@@ -78,6 +86,17 @@ impl<'a> Pieces<'a> {
         }
     }
 
+    /// Has the next character decide what the text was that the parser holds, if it cannot go on with it.
+    fn begin_decision(&mut self)
+        requires taken { IsTaken self.old }
+        ensures taken { IsTaken self.new }
+        ensures text { self.new.text.now ≡ self.old.text.now }
+        ensures rest { self.new.rest.now ≡ self.old.rest.now }
+    {
+        let is_stop = begins_with_stop(self.rest);
+        self.next = decided(self.next, self.kind, is_stop);
+    }
+
     /// Begins a token where the text was taken up to, unless more of the last one is to come.
     fn begin_token(&mut self)
         requires taken { IsTaken self.old }
@@ -85,6 +104,7 @@ impl<'a> Pieces<'a> {
         ensures text { self.new.text.now ≡ self.old.text.now }
         ensures rest { self.new.rest.now ≡ self.old.rest.now }
     {
+        self.begin_decision();
         match self.next {
             Next::Token => {
                 self.token = self.front.place;

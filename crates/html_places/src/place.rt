@@ -1,7 +1,8 @@
 //! Places in a text, and how far a text was gone through.
 ghost use Rattle.std.specs.Prelude.{◌≡◌, []};
 ghost use Rattle.std.specs.Str.{chars};
-ghost use Rattle.html_places.specs.Places.{IsFront, is_before, next_place, passed, passed_all, stays};
+ghost use Rattle.html_places.specs.Places.{is_before};
+ghost use Rattle.html_places.specs.Fronts.{IsFront, next_place, passed, passed_all, stays};
 
 /// A place in a text: before one of its characters, or at its end. U+000D, U+000A and both as one end a line (HTML Standard, section
 /// 13.2.3.5); a byte order mark at the front of the text takes no column.
@@ -83,6 +84,11 @@ impl Front {
         self.place = next_place(self.place, stays, c == '\n' || c == '\r');
         self.has_begun = true;
         self.is_return = c == '\r';
+    }
+
+    /// Whether what was gone through ends with U+000D.
+    pub(crate) fn is_return(&self) -> bool {
+        self.is_return
     }
 
     /// Goes past the characters of a text.

@@ -1,7 +1,8 @@
 use Rattle.std.proofs.Common.{[], refl, sym, rules, subst, List}
 use Rattle.std.specs.Str.{IsUtf8, chars}
 use Rattle.std.proofs.lemmas.Str.{chars-nil}
-use Rattle.html_places.specs.Places.{ArePlaces, IsFront}
+use Rattle.html_places.specs.Places.{ArePlaces}
+use Rattle.html_places.specs.Fronts.{IsFront}
 use Rattle.html_places.specs.declared.place.Place.{Place}
 use Rattle.html_places.proofs.Marks.{no-places}
 use Rattle.html_places.proofs.Takings.{place-here}

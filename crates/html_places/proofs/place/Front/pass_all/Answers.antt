@@ -1,7 +1,7 @@
 use Rattle.std.proofs.Common.{◌∙◌, ap, map-id, sym}
 use Rattle.std.proofs.lemmas.Iterator.{YieldsList-from_chars}
 use Rattle.std.proofs.lemmas.Iterator.Consumers.{YieldsList-end}
-use Rattle.html_places.specs.Places.{passed, passed_all}
+use Rattle.html_places.specs.Fronts.{passed, passed_all}
 use Rattle.html_places.specs.declared.place.Front.{Front}
 use Rattle.html_places.proofs.Fronts.{passed-push}
 use Rattle.html_places.proofs.place.Front.pass_all.Goals as goal

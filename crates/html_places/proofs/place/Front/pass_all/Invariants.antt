@@ -1,5 +1,5 @@
 use Rattle.std.proofs.Common.{◌≡◌}
-use Rattle.html_places.specs.Places.{passed_all}
+use Rattle.html_places.specs.Fronts.{passed_all}
 use Rattle.html_places.proofs.place.Front.pass_all.Given as goal
 
 abbrev pub invariant-loop-c : goal.invariant-loop-c
