@@ -7,7 +7,7 @@ use std::test::Fail;
 /// A page; its nodes in the order of their numbers, each with its place; and the places of its errors.
 type Row = (&'static str, &'static str, &'static str);
 
-const ROWS: [Row; 16] = [
+const ROWS: [Row; 17] = [
     (
         "<!doctype html>\n<p class=a\n  id=b>one &amp; two</p>\n<!-- c -->",
         "doctype 1:1 html 2:1 head 2:1 body 2:1 p 2:1 text 3:8 text 3:25 comment 4:1",
@@ -48,6 +48,12 @@ const ROWS: [Row; 16] = [
         "<!doctype html><p title='>'\n>t<!-- > --><b>",
         "doctype 1:1 html 1:16 head 1:16 body 1:16 p 1:16 text 2:2 comment 2:3 b 2:13",
         "2:16",
+    ),
+    // a tag behind two references that do not go on
+    (
+        "<!doctype html>&am&<b>",
+        "doctype 1:1 html 1:16 head 1:16 body 1:16 text 1:16 b 1:20",
+        "1:23",
     ),
     // raw text
     (
