@@ -10,6 +10,6 @@ mod reading;
 
 pub use forbidden::exact_for;
 pub use html_normal::{Exact, NormalFault, References, read_document};
-pub use html_places::{Noted, NotedForest, Place};
+pub use html_places::{Around, Noted, NotedForest, Place, Surroundings};
 pub use read_back::is_read_back;
 pub use reading::{document, document_lossy, fragment, noted_document};
