@@ -1,9 +1,14 @@
 // The calls of the C library (its figpliers.h), in WebAssembly.
 
-const url = new URL('./figpliers.wasm', import.meta.url);
 const isNode = typeof process !== 'undefined' && Boolean(process.versions?.node);
-const bytes = isNode ? await (await import('node:fs/promises')).readFile(url) : await (await fetch(url)).arrayBuffer();
-const wasm = (await WebAssembly.instantiate(bytes, {})).instance.exports;
+
+// An instance of a module that lies beside this file: its exports.
+export async function loaded(name) {
+  const url = new URL(name, import.meta.url);
+  const bytes = isNode ? await (await import('node:fs/promises')).readFile(url) : await (await fetch(url)).arrayBuffer();
+  return (await WebAssembly.instantiate(bytes, {})).instance.exports;
+}
+
 const encoder = new TextEncoder();
 export const decoder = new TextDecoder('utf-8', { fatal: true, ignoreBOM: true });
 const DONE = 0;
@@ -42,19 +47,19 @@ export function bytesOf(text) {
   throw new TypeError('a page is a string or a Uint8Array');
 }
 
-// Memory of the instance, which the caller frees.
-function room(size) {
+// Memory of an instance, which the caller frees.
+function room(wasm, size) {
   const place = wasm.fig_alloc(BigInt(size || 1));
   if (place === 0n) throw new RangeError('out of memory');
   return place;
 }
 
-// Puts texts into the instance's memory, and makes a call with them, with numbers behind them and with room for its output: again with
+// Puts texts into an instance's memory, and makes a call with them, with numbers behind them and with room for its output: again with
 // as much as it wants where that was too short. `read` gets the output and the report, which it must not keep.
-export function call(name, texts, numbers, guess, placeOfAt, read) {
+export function callOf(wasm, name, texts, numbers, guess, placeOfAt, read) {
   const owned = [];
   const take = (size) => {
-    const place = room(size);
+    const place = room(wasm, size);
     owned.push(place);
     return place;
   };
@@ -81,6 +86,11 @@ export function call(name, texts, numbers, guess, placeOfAt, read) {
     for (const place of owned) wasm.fig_free(place);
   }
 }
+
+const wasm = await loaded('./figpliers.wasm');
+
+// A call that does not clean.
+export const call = (...words) => callOf(wasm, ...words);
 
 // What a call writes of a node of an image.
 export function ofNode(name, image, node) {

@@ -1,7 +1,9 @@
 """The steps of build.sh between the proved build and WebAssembly.
 
     module.py capture KIT CRATE FOLDER   builds the library once more, and keeps the module that clang gets as FOLDER/module.ll
-    module.py retarget IN.ll OUT.ll      makes it one for WebAssembly with addresses of 64 bits
+    module.py retarget IN.ll OUT.ll      makes it one for WebAssembly with addresses of 64 bits, to be compiled to little code, its
+                                         functions in the order of their names: so the instances of a generic function stand side by
+                                         side, where gzip sees that they are alike
     module.py strip IN.wasm OUT.wasm     drops the table, through which nothing is called, and the custom sections
 """
 
@@ -45,6 +47,14 @@ def capture(kit, crate, folder):
     subprocess.run([*as_text, folder / "kept", "-o", folder / "module.ll"], check=True)
 
 
+def in_order(text):
+    """The functions of a module behind all else, in the order of their names without the hashes of their type arguments."""
+    parts = re.split(r"(?ms)^(define .*?^}\n)", text)
+    named = [(re.search(r'@("[^"]*"|[\w.$]+)', it).group(1), it) for it in parts[1::2]]
+    named.sort(key=lambda it: (re.sub(r"<#[0-9a-f]+>", "", it[0]), it[0]))
+    return "".join(parts[::2]) + "\n" + "\n".join(it[1] for it in named)
+
+
 def retarget(source, made):
     lines = []
     for line in Path(source).read_text().splitlines(keepends=True):
@@ -53,9 +63,9 @@ def retarget(source, made):
         elif line.startswith("target triple"):
             line = 'target triple = "wasm64-unknown-unknown"\n'
         elif line.startswith("attributes #"):
-            line = re.sub(r"\{.*\}", "{ nounwind }", line)
+            line = re.sub(r"\{.*\}", "{ nounwind optsize }", line)
         lines.append(line)
-    Path(made).write_text("".join(lines))
+    Path(made).write_text(in_order("".join(lines)))
 
 
 def number(data, at):

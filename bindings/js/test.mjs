@@ -3,6 +3,7 @@ import { readFileSync } from 'node:fs';
 import { fileURLToPath } from 'node:url';
 import * as figpliers from 'figpliers';
 import { Document, Fault, clean, cleanDocument, errors, normalise, parse, policy } from 'figpliers';
+import * as core from 'figpliers/core';
 import { check, end, rowsOf, unescaped } from './testing.mjs';
 
 const QUIRKS = ['no', 'limited', 'yes'];
@@ -47,6 +48,7 @@ for (const row of rowsOf(process.argv[2])) {
   check(gotAnswer === Number(answer) && gotTold === told && isText, `${row} ${gotAnswer} ${gotTold}`);
 }
 
+check(core.parse === parse && core.errors === errors && !('clean' in core), 'the part that does not clean');
 check(parse('<p>'.repeat(1000)).elements('p').length === 1000, 'many elements');
 check([...parse('<div>'.repeat(20000)).walk()].length === 20003, 'deep elements');
 const odd = parse('<!DOCTYPE a PUBLIC "b"><p id=c>d<svg xlink:href=e></svg></p><template><i>f</i></template>g<?h>');

@@ -1,6 +1,7 @@
 // What the types allow: compiled by tsc, never run.
 import { Attribute, Cleaned, Document, Fault, Link, Node, Normal, ParseError, Quirks } from 'figpliers';
 import { clean, cleanDocument, errors, normalise, parse, policy } from 'figpliers';
+import { parse as parseByCore } from 'figpliers/core';
 
 const page: Document = parse('<a href=/b>c</a>', 'x; 41');
 const hrefs: (string | null)[] = page.elements('a').map((it: Node) => it.attribute('href'));
@@ -17,5 +18,6 @@ const html: string[] = [page.html(), page.innerHtml(), page.selectOne('p')?.html
 const found: ParseError[] = errors('<p>');
 const at = (fault: unknown): number => (fault instanceof Fault ? fault.at : -1);
 console.log(hrefs, normal.text, normal.plain, quirks, kept, items.length, page.number, at(null), html, found[0].line);
+console.log(parseByCore('<p>').number);
 // @ts-expect-error a page is no number
 parse(1);
