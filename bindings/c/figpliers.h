@@ -45,7 +45,8 @@ enum fig_answer {
     FIG_POLICY_NOT_UTF8 = 64,   /* the policy, or the name of a ready one, is not UTF-8: its longest front that is has `at` bytes */
     FIG_POLICY_LINE = 65,       /* line `at` of the policy, counted from 1, is no rule */
     FIG_NEVER_KEPT = 66,        /* the policy names an element, an attribute or a scheme that is never kept */
-    FIG_NO_SUCH_POLICY = 67     /* there is no ready policy of that name */
+    FIG_NO_SUCH_POLICY = 67,    /* there is no ready policy of that name */
+    FIG_CONTEXT_NOT_UTF8 = 80   /* the name of a fragment's context is not UTF-8: its longest front that is has `at` bytes */
 };
 
 /* What is told of a page. Where an answer is neither FIG_DONE nor FIG_TOO_SHORT all is 0 but `at`. */
@@ -110,6 +111,17 @@ uint32_t fig_normalise_with(const uint8_t *table, size_t table_length, const uin
 uint32_t fig_tree(const uint8_t *page, size_t page_length, uint8_t *output, size_t room, fig_report *report);
 uint32_t fig_tree_with(const uint8_t *table, size_t table_length, const uint8_t *page, size_t page_length,
                        uint8_t *output, size_t room, fig_report *report);
+
+/* Writes the image of the tree that a page makes as a fragment, as where `innerHTML` of a new element of HTML of that name is set ("body",
+ * "td", ..): it stands in the only child of the document, an `html`. `errors` of the report are those that were counted, at least one in
+ * each faulty part of a page; that is only tested. */
+uint32_t fig_fragment_tree(const uint8_t *context, size_t context_length, const uint8_t *page, size_t page_length, uint8_t *output,
+                           size_t room, fig_report *report);
+
+/* Writes the image of a page's tree as fig_tree does, and behind it where its nodes begin in the page, which fig_line and fig_column read.
+ * The calls below take the image alone: its length is fig_image_length(output), and `length` of the report that of both. Control
+ * characters are counted as errors too. It takes about 1.4 of fig_tree's time. */
+uint32_t fig_placed_tree(const uint8_t *page, size_t page_length, uint8_t *output, size_t room, fig_report *report);
 
 /* Writes a line for each parse error of a page, in the order in which they are found: the number of the page's line, ": ", and the
  * Standard's code of the error, or words where it has none, which may change. `errors` of the report is the number of these lines. */
@@ -201,6 +213,20 @@ static inline uint32_t fig_next(const uint8_t *image, uint32_t node) { return fi
 /* The contents of a template; FIG_NO_NODE for every other node. */
 static inline uint32_t fig_contents(const uint8_t *image, uint32_t node) {
     return fig_kind_of(image, node) == FIG_ELEMENT ? fig_of(image, node, 10) : FIG_NO_NODE;
+}
+
+/* How many bytes an image has. */
+static inline size_t fig_image_length(const uint8_t *image) {
+    return 32 + (size_t)fig_word(image + 8) + fig_word(image + 12) + fig_word(image + 16);
+}
+
+/* The line on which a node begins and its column on it, in characters, both counted from 1: of what fig_placed_tree wrote. An element
+ * begins at its tag, or at what made the parser put it there. */
+static inline uint32_t fig_line(const uint8_t *image, uint32_t node) {
+    return fig_word(image + fig_image_length(image) + 8 * (size_t)node);
+}
+static inline uint32_t fig_column(const uint8_t *image, uint32_t node) {
+    return fig_word(image + fig_image_length(image) + 8 * (size_t)node + 4);
 }
 
 /* A text by its place and its length. */

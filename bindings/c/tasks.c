@@ -17,14 +17,19 @@ static void put_word(const char *word) { put(word, strlen(word)); }
 
 static void put_text(fig_text text) { put(text.at, text.length); }
 
-/* The image of a page's tree, in memory of its length. */
-static bytes image_of(bytes page) {
+typedef uint32_t (*call_of_page)(const uint8_t *, size_t, uint8_t *, size_t, fig_report *);
+
+/* The image of a page's tree, in memory of its length, with what the call writes behind it. */
+static bytes image_by(call_of_page call, bytes page) {
     fig_report report;
-    if (fig_tree(page.at, page.length, NULL, 0, &report) != FIG_TOO_SHORT) abort();
+    if (call(page.at, page.length, NULL, 0, &report) != FIG_TOO_SHORT) abort();
     bytes image = {memory(report.length), report.length};
-    if (fig_tree(page.at, page.length, image.at, image.length, &report) != FIG_DONE) abort();
+    if (call(page.at, page.length, image.at, image.length, &report) != FIG_DONE) abort();
+    image.length = fig_image_length(image.at);
     return image;
 }
+
+static bytes image_of(bytes page) { return image_by(fig_tree, page); }
 
 /* What a call writes of a node, in memory of its length. */
 static bytes written(call_of_node call, bytes image, uint32_t node) {
@@ -77,6 +82,11 @@ static void on_node(const char *task, bytes image, uint32_t node) {
     else if (!strcmp(task, "attributes")) put_attributes(image.at, node);
     else if (!strcmp(task, "children")) put_children(image.at, node);
     else if (!strcmp(task, "parent")) put_name(image.at, fig_parent(image.at, node));
+    else if (!strcmp(task, "place")) {
+        char place[32];
+        snprintf(place, sizeof place, "%u:%u", (unsigned)fig_line(image.at, node), (unsigned)fig_column(image.at, node));
+        put_word(place);
+    }
     else if (!strcmp(task, "urls")) {
         bytes text = written(fig_links, image, node);
         put((const char *)text.at, text.length);
@@ -93,7 +103,7 @@ static void on_node(const char *task, bytes image, uint32_t node) {
 
 /* A task with each node that selectors select, or with all of the tree. */
 static void on_nodes(const char *task, bytes selectors, bytes page) {
-    bytes image = image_of(page);
+    bytes image = image_by(strcmp(task, "place") ? fig_tree : fig_placed_tree, page);
     static uint8_t numbers[1 << 12];
     fig_report report;
     if (!selectors.length)
@@ -128,12 +138,25 @@ static void links(bytes page) {
     free(image.at);
 }
 
+/* What a page makes in an element of a name, as HTML. */
+static void fragment(bytes context, bytes page) {
+    static uint8_t image[1 << 16], html[1 << 12];
+    fig_report report;
+    if (!context.length) context.at = (uint8_t *)"body", context.length = 4;
+    if (fig_fragment_tree(context.at, context.length, page.at, page.length, image, sizeof image, &report) != FIG_DONE) abort();
+    uint32_t root = fig_first_child(image, 0);
+    if (fig_serialize(image, report.length, root, html, sizeof html, &report) != FIG_DONE) abort();
+    put_text(fig_inner(image, root, html, report.length));
+}
+
 static void on_page(const char *task, bytes argument, bytes page) {
     static uint8_t text[1 << 12];
     fig_report report;
     fig_cleaned cleaned;
     if (!strcmp(task, "links")) {
         links(page);
+    } else if (!strcmp(task, "fragment")) {
+        fragment(argument, page);
     } else if (!strcmp(task, "clean")) {
         uint32_t told = argument.length ? fig_clean_by(argument.at, argument.length, page.at, page.length, text, sizeof text, &cleaned)
                                         : fig_clean(page.at, page.length, text, sizeof text, &cleaned);
@@ -152,7 +175,10 @@ int main(int argc, char **argv) {
         if (!strcmp(fields[0], "links_at")) continue;
         bytes argument = unescaped(fields[1]), page = unescaped(fields[2]), want = unescaped(fields[3]);
         answer.length = 0;
-        if (!strcmp(fields[0], "links") || !strcmp(fields[0], "clean") || !strcmp(fields[0], "errors")) on_page(fields[0], argument, page);
+        static const char *const of_page[] = {"links", "clean", "errors", "fragment"};
+        int is_of_page = 0;
+        for (size_t i = 0; i < sizeof of_page / sizeof *of_page; i++) is_of_page |= !strcmp(fields[0], of_page[i]);
+        if (is_of_page) on_page(fields[0], argument, page);
         else on_nodes(fields[0], argument, page);
         put("", 0);
         answer.at[answer.length] = 0;

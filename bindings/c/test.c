@@ -53,6 +53,9 @@ static told call(const char *name, bytes table, bytes page, uint8_t *output, siz
     else if (!strcmp(name, "errors")) it.answer = fig_errors(page.at, page.length, output, room, &r);
     else if (!strcmp(name, "policy")) it.answer = fig_policy(page.at, page.length, output, room, &r);
     else if (!strcmp(name, "tree")) it.answer = fig_tree(page.at, page.length, output, room, &r);
+    else if (!strcmp(name, "placed_tree")) it.answer = fig_placed_tree(page.at, page.length, output, room, &r);
+    else if (!strcmp(name, "fragment_tree"))
+        it.answer = fig_fragment_tree(table.at, table.length, page.at, page.length, output, room, &r);
     else if (!strcmp(name, "select")) it.answer = selected(table, page, output, room, &r);
     else it.answer = (strcmp(name, "tree_with") ? fig_normalise_with : fig_tree_with)(
              table.at, table.length, page.at, page.length, output, room, &r);

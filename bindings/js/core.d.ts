@@ -1,2 +1,2 @@
-export { Document, Fault, Node, errors, normalise, parse } from './index.js';
+export { Document, Fault, Node, errors, fragment, normalise, parse, parseWithPlaces } from './index.js';
 export type { Attribute, Kind, Link, Normal, Page, ParseError, Quirks } from './index.js';

@@ -1,6 +1,6 @@
 // Pages to trees, normal text and parse errors, in a WebAssembly without the sanitizer.
 import { Fault, bytesOf, call, decoder } from './library.mjs';
-import { Document, Node } from './tree.mjs';
+import { Document, Node, imageLength } from './tree.mjs';
 
 export { Document, Fault, Node };
 
@@ -24,6 +24,20 @@ export function normalise(page, table) {
 
 export function parse(page, table) {
   return byTable('fig_tree', page, table, 4, (image) => new Document(image.slice()));
+}
+
+export function parseWithPlaces(page) {
+  const text = bytesOf(page);
+  return call('fig_placed_tree', [text], [], text.length * 5 + 1024, 16, (placed) => {
+    const length = imageLength(placed);
+    return new Document(placed.slice(0, length), placed.slice(length));
+  });
+}
+
+export function fragment(page, context = 'body') {
+  const text = bytesOf(page);
+  const guess = text.length * 4 + 1024;
+  return call('fig_fragment_tree', [bytesOf(context), text], [], guess, 16, (image) => new Document(image.slice()));
 }
 
 export function errors(page) {

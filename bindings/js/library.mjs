@@ -30,6 +30,7 @@ const WORDS = {
   65: (at) => `line ${at} of the policy is no rule`,
   66: () => 'the policy names what is never kept',
   67: () => 'there is no ready policy of that name',
+  80: (at) => `the name of the context is not UTF-8 at byte ${at}`,
 };
 
 export class Fault extends Error {

@@ -1,5 +1,5 @@
 // tasks.mjs TASKS: the usual tasks with a page.
-import { clean, errors, parse } from 'figpliers';
+import { clean, errors, fragment, parse, parseWithPlaces } from 'figpliers';
 import { check, end, rowsOf, unescaped } from './testing.mjs';
 
 // The name of a node as `nodeName` of the DOM has it, but for its letters.
@@ -12,12 +12,14 @@ const onNode = {
   parent: (node) => nameOf(node.parent),
   html: (node) => node.html(),
   inner_html: (node) => node.innerHtml(),
+  place: (node) => `${node.line}:${node.column}`,
 };
 
 function answer(task, argument, page) {
   if (task === 'clean') return clean(page, argument || undefined).text;
   if (task === 'errors') return errors(page).map((it) => `${it.line}: ${it.message}\n`).join('');
-  const document = parse(page);
+  if (task === 'fragment') return fragment(page, argument || undefined).root.innerHtml();
+  const document = (task === 'place' ? parseWithPlaces : parse)(page);
   if (task.startsWith('links')) return document.links(argument || null).map((it) => `${it.url}\n`).join('');
   const nodes = argument ? document.select(argument) : [document, ...document.walk()];
   if (task === 'urls') return nodes.flatMap((node) => node.urls()).map((url) => `${url}\n`).join('');

@@ -2,7 +2,7 @@
 import { readFileSync } from 'node:fs';
 import { fileURLToPath } from 'node:url';
 import * as figpliers from 'figpliers';
-import { Document, Fault, clean, cleanDocument, errors, normalise, parse, policy } from 'figpliers';
+import { Document, Fault, clean, cleanDocument, errors, fragment, normalise, parse, parseWithPlaces, policy } from 'figpliers';
 import * as core from 'figpliers/core';
 import { check, end, rowsOf, unescaped } from './testing.mjs';
 
@@ -29,6 +29,14 @@ function called(name, table, page) {
       const lines = errors(page).map((it) => `${it.line}: ${it.message}\n`);
       return [0, numbers(normalise(page)), Buffer.from(lines.join(''))];
     }
+    if (name === 'fragment_tree') {
+      const document = fragment(page, table);
+      return [0, numbers({ errors: document.errors, quirks: document.quirks, plain: false }), Buffer.from(document.image)];
+    }
+    if (name === 'placed_tree') {
+      const document = parseWithPlaces(page);
+      return [0, numbers(normalise(page)), Buffer.concat([document.image, document.places])];
+    }
     const told = normalise(...words);
     if (!name.startsWith('tree')) return [0, numbers(told), Buffer.from(told.text)];
     const document = parse(...words);
@@ -49,6 +57,7 @@ for (const row of rowsOf(process.argv[2])) {
 }
 
 check(core.parse === parse && core.errors === errors && !('clean' in core), 'the part that does not clean');
+check(parse('<p>').line === null && parseWithPlaces('<p>\n<i>').selectOne('i').line === 2, 'places, and none');
 check(parse('<p>'.repeat(1000)).elements('p').length === 1000, 'many elements');
 check([...parse('<div>'.repeat(20000)).walk()].length === 20003, 'deep elements');
 const odd = parse('<!DOCTYPE a PUBLIC "b"><p id=c>d<svg xlink:href=e></svg></p><template><i>f</i></template>g<?h>');
@@ -101,7 +110,7 @@ check(parse("<a href='//['>").links('http://[')[0].url === '//[', 'links that ca
 // the examples of the types: a call and what it answers
 const types = readFileSync(fileURLToPath(import.meta.resolve('figpliers')).replace('index.mjs', 'index.d.ts'), 'utf8');
 const examples = [...types.matchAll(/@example (.*?) \/\/ (.*?)(?: \*\/)?$/gm)];
-const made = (code) => new Function('figpliers', `const { clean, errors, parse } = figpliers; return ${code};`)(figpliers);
+const made = (code) => new Function('figpliers', `const { clean, errors, fragment, parse, parseWithPlaces } = figpliers; return ${code};`)(figpliers);
 for (const [, code, want] of examples) check(JSON.stringify(made(code)) === JSON.stringify(made(want)), code);
-check(examples.length === 8, 'the number of examples');
+check(examples.length === 10, 'the number of examples');
 end();

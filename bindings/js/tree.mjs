@@ -16,15 +16,29 @@ const NAMESPACES = [
 ];
 const QUIRKS = ['no', 'limited', 'yes'];
 
+// How many bytes an image has that other bytes follow.
+export function imageLength(bytes) {
+  const view = new DataView(bytes.buffer, bytes.byteOffset, bytes.byteLength);
+  return HEADER + view.getUint32(8, true) + view.getUint32(12, true) + view.getUint32(16, true);
+}
+
 class Image {
-  constructor(bytes) {
+  constructor(bytes, places) {
     this.bytes = bytes;
+    this.places = places;
     this.view = new DataView(bytes.buffer, bytes.byteOffset, bytes.byteLength);
     if (bytes.length < HEADER || this.word(0) !== 0x54474946 || this.word(4) !== 1) {
       throw new TypeError('this is no image of a tree, or one of a later version');
     }
     this.attributes = HEADER + this.word(8);
     this.texts = this.attributes + this.word(12);
+    if (places && (places.length / 8) * NODE !== this.word(8)) throw new TypeError('these are not the places of the nodes of this image');
+  }
+
+  // The line of a node, or its column; null without places.
+  place(number, word) {
+    if (!this.places) return null;
+    return new DataView(this.places.buffer, this.places.byteOffset).getUint32(8 * number + 4 * word, true);
   }
 
   word(at) {
@@ -91,6 +105,14 @@ export class Node {
 
   get systemId() {
     return (this.#word(0) & 255) === 10 ? this.#text(10) : '';
+  }
+
+  get line() {
+    return this.#image.place(this.#number, 0);
+  }
+
+  get column() {
+    return this.#image.place(this.#number, 1);
   }
 
   get parent() {
@@ -220,8 +242,8 @@ function joined(base, url) {
 export class Document extends Node {
   #image;
 
-  constructor(bytes) {
-    const image = new Image(bytes);
+  constructor(bytes, places = null) {
+    const image = new Image(bytes, places);
     super(image, 0);
     this.#image = image;
   }
@@ -243,6 +265,10 @@ export class Document extends Node {
 
   get image() {
     return this.#image.bytes;
+  }
+
+  get places() {
+    return this.#image.places;
   }
 
   get errors() {

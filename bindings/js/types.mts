@@ -1,6 +1,6 @@
 // What the types allow: compiled by tsc, never run.
 import { Attribute, Cleaned, Document, Fault, Link, Node, Normal, ParseError, Quirks } from 'figpliers';
-import { clean, cleanDocument, errors, normalise, parse, policy } from 'figpliers';
+import { clean, cleanDocument, errors, fragment, normalise, parse, parseWithPlaces, policy } from 'figpliers';
 import { parse as parseByCore } from 'figpliers/core';
 
 const page: Document = parse('<a href=/b>c</a>', 'x; 41');
@@ -18,6 +18,7 @@ const html: string[] = [page.html(), page.innerHtml(), page.selectOne('p')?.html
 const found: ParseError[] = errors('<p>');
 const at = (fault: unknown): number => (fault instanceof Fault ? fault.at : -1);
 console.log(hrefs, normal.text, normal.plain, quirks, kept, items.length, page.number, at(null), html, found[0].line);
-console.log(parseByCore('<p>').number);
+const lines: (number | null)[] = [parseWithPlaces('<p>').line, fragment('<td>', 'tr').column, parseByCore('').line];
+console.log(lines);
 // @ts-expect-error a page is no number
 parse(1);

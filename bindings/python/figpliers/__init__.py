@@ -17,9 +17,9 @@ from typing import IO, Callable, List, NamedTuple, Optional, Tuple, Union
 from xml.etree.ElementTree import Element, TreeBuilder
 
 from .library import ENCODINGS, Fault, FigCleaned, FigDecoded, FigReport, Page, bytes_of, with_room, words_of
-from .library import fig_clean, fig_clean_by, fig_clean_document, fig_clean_document_by, fig_decode, fig_errors, fig_normalise
-from .library import fig_normalise_with, fig_policy, fig_tree, fig_tree_with
-from .tree import NAMESPACES, Attributes, Document, Node
+from .library import fig_clean, fig_clean_by, fig_clean_document, fig_clean_document_by, fig_decode, fig_errors, fig_fragment_tree
+from .library import fig_normalise, fig_normalise_with, fig_placed_tree, fig_policy, fig_tree, fig_tree_with
+from .tree import NAMESPACES, Attributes, Document, Node, image_length
 
 __all__ = [
     "Attributes",
@@ -35,6 +35,7 @@ __all__ = [
     "decode",
     "element",
     "errors",
+    "fragment",
     "normalise",
     "parse",
     "policy",
@@ -120,9 +121,39 @@ def decode(page: Union[bytes, bytearray, memoryview, IO[bytes]], label: Optional
     return Decoded(text.decode(), ENCODINGS[report.encoding], why, report.errors)
 
 
-def parse(page: Page, table: Optional[Page] = None) -> Document:
-    """The document of a page. `table` is as in `normalise`. Raises Fault or MemoryError."""
-    image, _ = _by(fig_tree, fig_tree_with, page, table, 16, 1024)
+def parse(page: Page, table: Optional[Page] = None, *, places: bool = False) -> Document:
+    """The document of a page. `table` is as in `normalise`. With `places` its nodes have their `line` and `column`, which takes about
+    1.4 of the time; there is no table then. Raises Fault or MemoryError.
+
+    >>> [item.line for item in parse("<ul>\\n<li>a\\n<li>b", places=True).elements("li")]
+    [2, 3]
+    """
+    if not places:
+        image, _ = _by(fig_tree, fig_tree_with, page, table, 16, 1024)
+        return Document(image)
+    if table is not None:
+        raise TypeError("places go with the Standard's table")
+    text = bytes_of(page)
+    placed, _ = with_room(fig_placed_tree, words_of(text), len(text) * 5 + 1024, FigReport())
+    length = image_length(placed)
+    return Document(placed[:length], placed[length:])
+
+
+def fragment(page: Page, context: str = "body") -> Document:
+    """The tree that a page makes as a fragment, as where `innerHTML` of a new element of HTML of that name is set: its nodes are the
+    children of the document's `root`. Raises Fault or MemoryError.
+
+    >>> [child.name for child in fragment("<td>a<td>b", "tr").root]
+    ['td', 'td']
+    >>> fragment("<td>a<td>b").root.inner_html()
+    'ab'
+    """
+    text = bytes_of(page)
+    try:
+        name = context.encode()
+    except UnicodeEncodeError as error:
+        raise Fault(80, len(context[: error.start].encode())) from None
+    image, _ = with_room(fig_fragment_tree, words_of(name, text), len(text) * 4 + 1024, FigReport())
     return Document(image)
 
 

@@ -27,6 +27,7 @@ class Fault(ValueError):
         65: "line {} of the policy is no rule",
         66: "the policy names what is never kept",
         67: "there is no ready policy of that name",
+        80: "the name of the context is not UTF-8 at byte {}",
     }
 
     def __init__(self, answer: int, at: int) -> None:
@@ -94,6 +95,8 @@ fig_normalise = _declared("fig_normalise", _TEXT, FigReport)
 fig_normalise_with = _declared("fig_normalise_with", _TEXT * 2, FigReport)
 fig_tree = _declared("fig_tree", _TEXT, FigReport)
 fig_tree_with = _declared("fig_tree_with", _TEXT * 2, FigReport)
+fig_placed_tree = _declared("fig_placed_tree", _TEXT, FigReport)
+fig_fragment_tree = _declared("fig_fragment_tree", _TEXT * 2, FigReport)
 fig_select = _declared("fig_select", [*_TEXT * 2, ctypes.c_uint32], FigReport)
 fig_errors = _declared("fig_errors", _TEXT, FigReport)
 fig_decode = _declared("fig_decode", _TEXT * 2, FigDecoded)

@@ -45,16 +45,24 @@ NAMESPACES = (
 _SHARE = 8
 
 
+def image_length(data: bytes) -> int:
+    """How many bytes an image has that other bytes follow."""
+    return _HEADER + int(sum(struct.unpack_from("<3I", data, 8)))
+
+
 class _Image:
-    """An image, and where its parts begin."""
+    """An image, where its parts begin, and the places of its nodes, or nothing."""
 
-    __slots__ = ("data", "attributes", "texts", "_records")
+    __slots__ = ("data", "places", "attributes", "texts", "_records")
 
-    def __init__(self, data: bytes) -> None:
+    def __init__(self, data: bytes, places: bytes) -> None:
         if data[:4] != b"FIGT" or struct.unpack_from("<I", data, 4)[0] != 1:
             raise ValueError("this is no image of a tree, or one of a later version")
         nodes, attributes = struct.unpack_from("<2I", data, 8)
+        if places and len(places) * 6 != nodes:
+            raise ValueError("these are not the places of the nodes of this image")
         self.data = data
+        self.places = places
         self.attributes = _HEADER + nodes
         self.texts = self.attributes + attributes
         self._records: Optional[List[Tuple[int, ...]]] = None
@@ -81,6 +89,10 @@ class _Image:
     def node(self, number: int) -> Tuple[int, ...]:
         """The record of a node."""
         return self._records[number] if self._records is not None else _NODE.unpack_from(self.data, _HEADER + 48 * number)
+
+    def place(self, number: int, word: int) -> Optional[int]:
+        """The line of a node, or its column; None without places."""
+        return int(struct.unpack_from("<I", self.places, 8 * number + 4 * word)[0]) if self.places else None
 
     def text(self, at: int, length: int) -> str:
         at += self.texts
@@ -248,6 +260,17 @@ class Node:
         return Attributes(self._image, self._words)
 
     @property
+    def line(self) -> Optional[int]:
+        """The line of the page on which this node begins, counted from 1: an element at its tag, or at what made the parser put it there.
+        None without `places` of `parse`."""
+        return self._image.place(self._number, 0)
+
+    @property
+    def column(self) -> Optional[int]:
+        """Its column on this line, counted from 1 in characters, or None."""
+        return self._image.place(self._number, 1)
+
+    @property
     def parent(self) -> "Optional[Node]":
         return self._other(self._words[1])
 
@@ -400,16 +423,16 @@ def _is_absolute(url: str) -> bool:
 class Document(Node):
     """The document of a page: node 0 of its image. It can be pickled, and so sent to another process.
 
-    ``parse`` makes one of a page, ``Document(image)`` one of an image.
+    ``parse`` makes one of a page, ``Document(image)`` one of an image, ``Document(image, places)`` one with the places of its nodes.
     """
 
     __slots__ = ()
 
-    def __init__(self, data: bytes) -> None:
-        super().__init__(_Image(data), 0)
+    def __init__(self, data: bytes, places: bytes = b"") -> None:
+        super().__init__(_Image(data, places), 0)
 
-    def __reduce__(self) -> Tuple[Type["Document"], Tuple[bytes]]:
-        return Document, (self._image.data,)
+    def __reduce__(self) -> Tuple[Type["Document"], Tuple[bytes, bytes]]:
+        return Document, (self._image.data, self._image.places)
 
     def links(self, base: Optional[str] = None) -> List[Tuple[Node, str]]:
         """Each `a` and `area` with an `href`, in tree order, with its URL, without the white space around it and the line breaks in it.
@@ -432,6 +455,11 @@ class Document(Node):
     def image(self) -> bytes:
         """The image, from which ``Document(image)`` makes the document again, here or in another process."""
         return self._image.data
+
+    @property
+    def places(self) -> bytes:
+        """The line and the column of each node, in four bytes each, or nothing."""
+        return self._image.places
 
     @property
     def errors(self) -> int:

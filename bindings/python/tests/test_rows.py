@@ -38,6 +38,12 @@ def called(name, table, page):
             # the table of a row is its selectors
             nodes = figpliers.parse(page).select(table)
             return 0, told(figpliers.normalise(page)[1]), b"".join(node._number.to_bytes(4, "little") for node in nodes)
+        if name == "placed_tree":
+            document = figpliers.parse(page, places=True)
+            return 0, told(figpliers.normalise(page)[1]), document.image + document.places
+        if name == "fragment_tree":
+            document = figpliers.fragment(page, table.decode(errors="surrogateescape"))
+            return 0, told(figpliers.Report(document.errors, document.quirks, False)), document.image
         if name.startswith("tree"):
             document = figpliers.parse(*words)
             text, report = document.image, figpliers.normalise(*words)[1]
@@ -113,9 +119,19 @@ for call, answer in ((lambda: figpliers.Document(bytes(broken)).html(), 48), (la
         check((fault.answer, fault.at) == (answer, 0) and str(pickle.loads(pickle.dumps(fault))) == str(fault), f"{fault}")
 sent = pickle.loads(pickle.dumps(figpliers.parse("<p>a<p>b")))
 check(sent.select_one("p + p").html() == "<p>b</p>", "a document that was sent to another process")
+placed = figpliers.parse("<p>a\n<p>b", places=True)
+sent = pickle.loads(pickle.dumps(placed))
+check([(it.line, it.column) for it in sent.select("p")] == [(1, 1), (2, 1)] and sent.image == placed.image, "places that were sent")
+check(odd.line is None and odd.column is None and figpliers.Document(placed.image).line is None, "no places")
+for wrong in (lambda: figpliers.parse("<p>", "x; 41", places=True), lambda: figpliers.Document(placed.image, b"1234")):
+    try:
+        wrong()
+        check(False, "wrong places")
+    except (TypeError, ValueError):
+        check(True, "")
 check(odd.links() == [] and figpliers.parse("<a href='//['>").links("http://[")[0][1] == "//[", "links that cannot be read")
 for wrong in (1, None, ["<p>"]):
-    for call in (figpliers.normalise, figpliers.parse, figpliers.errors, figpliers.clean, figpliers.decode):
+    for call in (figpliers.normalise, figpliers.parse, figpliers.fragment, figpliers.errors, figpliers.clean, figpliers.decode):
         try:
             call(wrong)
             check(False, "a wrong argument")
@@ -129,7 +145,7 @@ for call in (figpliers.normalise, figpliers.parse, figpliers.clean):
         check((fault.answer, fault.at) == (1, 3), f"{fault}")
 for page in (b"<p>a", bytearray(b"<p>a"), memoryview(b"<p>a"), io.BytesIO(b"<p>a"), io.StringIO("<p>a")):
     check(figpliers.parse(page).select_one("p").text() == "a", "what a page is given as")
-for module, examples in ((figpliers, 9), (figpliers.tree, 19)):
+for module, examples in ((figpliers, 12), (figpliers.tree, 19)):
     outcome = doctest.testmod(module)
     check(outcome.failed == 0 and outcome.attempted == examples, f"the examples of {module.__name__}")
 if "FIGPLIERS_LAYOUT" in os.environ:

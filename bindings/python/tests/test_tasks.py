@@ -16,6 +16,7 @@ ON_NODE = {
     "parent": lambda node: name_of(node.parent),
     "html": lambda node: node.html(),
     "inner_html": lambda node: node.inner_html(),
+    "place": lambda node: f"{node.line}:{node.column}",
 }
 
 
@@ -24,7 +25,9 @@ def answer(task, argument, page):
         return figpliers.clean(page, argument or None)[0]
     if task == "errors":
         return "".join(f"{it.line}: {it.message}\n" for it in figpliers.errors(page))
-    document = figpliers.parse(page)
+    if task == "fragment":
+        return figpliers.fragment(page, *filter(None, [argument])).root.inner_html()
+    document = figpliers.parse(page, places=task == "place")
     if task in ("links", "links_at"):
         return "".join(url + "\n" for _, url in document.links(argument or None))
     nodes = document.select(argument) if argument else [document, *document.walk()]

@@ -18,7 +18,7 @@ mod part;
 mod sys;
 mod tree;
 
-pub use tree::{Attribute, Document, Kind, Namespace, Node};
+pub use tree::{Attribute, Document, Kind, Namespace, Node, Place};
 
 use std::fmt;
 use sys::{FigCleaned, FigDecoded, FigReport};
@@ -147,6 +147,8 @@ pub enum Fault {
     NeverKept,
     /// There is no ready policy of that name.
     NoSuchPolicy,
+    /// The name of a fragment's context is not UTF-8; its longest front that is has `at` bytes.
+    ContextNotUtf8 { at: u64 },
     /// An answer of a later library.
     Other { answer: u32, at: u64 },
 }
@@ -170,6 +172,7 @@ impl Fault {
             65 => Fault::PolicyLine { line: at },
             66 => Fault::NeverKept,
             67 => Fault::NoSuchPolicy,
+            80 => Fault::ContextNotUtf8 { at },
             _ => Fault::Other { answer, at },
         }
     }
@@ -194,6 +197,7 @@ impl fmt::Display for Fault {
             Fault::PolicyLine { line } => write!(f, "line {line} of the policy is no rule"),
             Fault::NeverKept => write!(f, "the policy names what is never kept"),
             Fault::NoSuchPolicy => write!(f, "there is no ready policy of that name"),
+            Fault::ContextNotUtf8 { at } => write!(f, "the name of the context is not UTF-8 at byte {at}"),
             Fault::Other { answer, at } => write!(f, "answer {answer} at {at}"),
         }
     }
@@ -272,6 +276,7 @@ fn by_table<R: Told>(call: sys::CallWith<R>, table: &[u8], page: &[u8], guess: u
 
 /// What a call writes of a node of an image.
 fn of_node(call: sys::CallOfNode, image: &[u8], node: u32) -> Result<String, Fault> {
+    let image = tree::image_alone(image);
     // SAFETY: as above.
     let (text, _) = with_room(image.len() / 2 + 64, |output, room, report| unsafe {
         call(image.as_ptr(), image.len(), node, output, room, report)
@@ -399,8 +404,41 @@ pub fn parse_with(table: impl AsRef<[u8]>, page: impl AsRef<[u8]>) -> Result<Doc
     Ok(Document::new(image))
 }
 
+/// The document of a page, with its tree and the places of its nodes: [`Node::place`]. It takes about 1.4 of [`parse`]'s time.
+///
+/// ```
+/// let page = figpliers::parse_with_places("<ul>\n<li>a\n  <li>b")?;
+/// let place = page.select("li")?[1].place().unwrap();
+/// assert_eq!((place.line, place.column), (3, 3));
+/// # Ok::<(), figpliers::Fault>(())
+/// ```
+///
+/// Errors: as of [`parse`].
+pub fn parse_with_places(page: impl AsRef<[u8]>) -> Result<Document, Fault> {
+    let page = page.as_ref();
+    let (image, _) = by_standard(sys::fig_placed_tree, page, 5 * page.len() + 1024)?;
+    Ok(Document::new(image))
+}
+
+/// The tree that a page makes as a fragment, as where `innerHTML` of a new element of HTML of the name `context` is set: its nodes are the
+/// children of [`Document::root_element`].
+///
+/// ```
+/// let row = figpliers::parse_fragment("tr", "<td>a<td>b")?;
+/// assert_eq!(row.root_element().unwrap().inner_html()?, "<td>a</td><td>b</td>");
+/// # Ok::<(), figpliers::Fault>(())
+/// ```
+///
+/// Errors: as of [`parse`]; [`Fault::ContextNotUtf8`].
+pub fn parse_fragment(context: impl AsRef<[u8]>, page: impl AsRef<[u8]>) -> Result<Document, Fault> {
+    let page = page.as_ref();
+    let (image, _) = by_table(sys::fig_fragment_tree, context.as_ref(), page, tree_guess(page))?;
+    Ok(Document::new(image))
+}
+
 /// The numbers of the nodes below a node of an image that selectors select.
 fn selected(selectors: &[u8], image: &[u8], node: u32) -> Result<Vec<u32>, Fault> {
+    let image = tree::image_alone(image);
     // SAFETY: slices and room are valid for the call, which keeps nothing; output and report overlap nothing.
     let (bytes, _): (_, FigReport) = with_room(256, |output, room, report| unsafe {
         sys::fig_select(selectors.as_ptr(), selectors.len(), image.as_ptr(), image.len(), node, output, room, report)

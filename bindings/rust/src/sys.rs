@@ -44,6 +44,11 @@ extern "C" {
     pub fn fig_tree_with(
         table: *const u8, table_length: usize, page: *const u8, page_length: usize, output: *mut u8, room: usize, report: *mut FigReport,
     ) -> u32;
+    pub fn fig_placed_tree(page: *const u8, page_length: usize, output: *mut u8, room: usize, report: *mut FigReport) -> u32;
+    pub fn fig_fragment_tree(
+        context: *const u8, context_length: usize, page: *const u8, page_length: usize, output: *mut u8, room: usize,
+        report: *mut FigReport,
+    ) -> u32;
     pub fn fig_select(
         selector: *const u8, selector_length: usize, image: *const u8, image_length: usize, node: u32, output: *mut u8, room: usize,
         report: *mut FigReport,

@@ -20,6 +20,7 @@ const SHARE: usize = 8;
 /// ```
 #[derive(Clone, PartialEq, Eq)]
 pub struct Document {
+    /// The image, and behind it the places of its nodes, or nothing.
     image: Vec<u8>,
 }
 
@@ -56,6 +57,13 @@ pub enum Namespace {
     Other,
 }
 
+/// Where a node begins in the text of its page: the line, and the column on it in characters, both counted from 1.
+#[derive(Clone, Copy, Debug, PartialEq, Eq, Hash)]
+pub struct Place {
+    pub line: u32,
+    pub column: u32,
+}
+
 /// An attribute.
 #[derive(Clone, Copy, Debug, PartialEq, Eq)]
 pub struct Attribute<'a> {
@@ -67,6 +75,15 @@ pub struct Attribute<'a> {
 
 pub(crate) fn word(image: &[u8], at: usize) -> u32 {
     u32::from_le_bytes(image[at..at + 4].try_into().expect("four bytes"))
+}
+
+/// An image without what stands behind it.
+pub(crate) fn image_alone(image: &[u8]) -> &[u8] {
+    if image.len() < HEADER {
+        return image;
+    }
+    let length = [8, 12, 16].iter().fold(HEADER, |length, &at| length.saturating_add(word(image, at) as usize));
+    &image[..length.min(image.len())]
 }
 
 fn namespace_of(number: u32) -> Namespace {
@@ -96,6 +113,11 @@ impl Document {
     /// The node of the document.
     pub fn root(&self) -> Node<'_> {
         Node { image: &self.image, number: 0 }
+    }
+
+    /// The document element.
+    pub fn root_element(&self) -> Option<Node<'_>> {
+        self.root().children().find(|it| it.kind() == Kind::Element)
     }
 
     /// The elements that CSS selectors select (Selectors Level 4), in tree order.
@@ -142,7 +164,7 @@ impl Document {
 
     /// The bytes of the image.
     pub fn as_bytes(&self) -> &[u8] {
-        &self.image
+        image_alone(&self.image)
     }
 }
 
@@ -210,6 +232,15 @@ impl<'a> Node<'a> {
             Kind::Doctype => Some((text_at(self.image, self.word(8), self.word(9)), text_at(self.image, self.word(10), self.word(11)))),
             _ => None,
         }
+    }
+
+    /// Where it begins: an element at its tag, or at what made the parser put it there. None unless [`parse_with_places`] made the document.
+    ///
+    /// [`parse_with_places`]: crate::parse_with_places
+    pub fn place(self) -> Option<Place> {
+        let places = &self.image[image_alone(self.image).len()..];
+        let place = places.get(8 * self.number as usize..)?.get(..8)?;
+        Some(Place { line: word(place, 0), column: word(place, 4) })
     }
 
     pub fn parent(self) -> Option<Node<'a>> {

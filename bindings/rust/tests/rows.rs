@@ -3,7 +3,7 @@
 mod common;
 
 use common::{rows_of, unescaped};
-use figpliers::{Cleaned, Decoded, Document, Fault, Kind, Namespace, Quirks, Report};
+use figpliers::{Cleaned, Decoded, Document, Fault, Kind, Namespace, Node, Quirks, Report};
 
 fn told(report: Report) -> String {
     let quirks = match report.quirks {
@@ -18,6 +18,23 @@ fn told(report: Report) -> String {
 fn image_of(document: Document, report: Report) -> (Vec<u8>, String) {
     assert_eq!((document.errors(), document.quirks()), (report.errors, report.quirks));
     (document.as_bytes().to_vec(), told(report))
+}
+
+/// The image of a document, and the places of its nodes by their numbers.
+fn placed(document: Document, report: Report) -> (Vec<u8>, String) {
+    let (mut bytes, numbers) = image_of(document.clone(), report);
+    let mut places: Vec<_> = nodes_in(document.root()).into_iter().map(|it| (it.number(), it.place().unwrap())).collect();
+    places.sort_by_key(|it| it.0);
+    for (_, place) in places {
+        bytes.extend([place.line, place.column].iter().flat_map(|it| it.to_le_bytes()));
+    }
+    (bytes, numbers)
+}
+
+/// A node and all nodes in it, the contents of templates too.
+fn nodes_in(node: Node<'_>) -> Vec<Node<'_>> {
+    let inner = node.contents().into_iter().chain(node.children()).flat_map(nodes_in);
+    std::iter::once(node).chain(inner).collect()
 }
 
 fn counted(counts: Cleaned) -> String {
@@ -44,6 +61,7 @@ fn answer(fault: Fault) -> (u32, u64) {
         Fault::PolicyLine { line } => (65, line),
         Fault::NeverKept => (66, 0),
         Fault::NoSuchPolicy => (67, 0),
+        Fault::ContextNotUtf8 { at } => (80, at),
         other => panic!("{other}"),
     }
 }
@@ -53,6 +71,12 @@ fn call(name: &str, table: &[u8], page: &[u8]) -> Result<(Vec<u8>, String), Faul
         "normalise" => figpliers::normalise(page).map(|(text, report)| (text.into_bytes(), told(report)))?,
         "normalise_with" => figpliers::normalise_with(table, page).map(|(text, report)| (text.into_bytes(), told(report)))?,
         "tree" => image_of(figpliers::parse(page)?, figpliers::normalise(page)?.1),
+        "placed_tree" => placed(figpliers::parse_with_places(page)?, figpliers::normalise(page)?.1),
+        "fragment_tree" => {
+            let document = figpliers::parse_fragment(table, page)?;
+            let (errors, quirks) = (document.errors(), document.quirks());
+            image_of(document, Report { errors, quirks, plain: false })
+        }
         "tree_with" => image_of(figpliers::parse_with(table, page)?, figpliers::normalise_with(table, page)?.1),
         "select" => {
             let document = figpliers::parse(page)?;
@@ -134,4 +158,8 @@ fn trees() {
     assert_eq!((template.children().count(), template.text().as_str()), (0, ""));
     assert_eq!(template.contents().unwrap().text(), "f");
     assert_eq!(template.previous_sibling().and_then(|it| it.parent()), p.parent());
+    assert_eq!((p.place(), document.root_element().unwrap().name()), (None, "html"));
+    let placed = figpliers::parse_with_places(page).unwrap();
+    assert_eq!(placed.as_bytes(), document.as_bytes());
+    assert_eq!((placed.select("svg").unwrap()[0].html(), placed.root().html()), (svg.html(), document.root().html()));
 }

@@ -25,6 +25,7 @@ fn on_node(task: &str, node: Node<'_>) -> Result<String, Fault> {
         "html" => node.html()?,
         "inner_html" => node.inner_html()?,
         "urls" => node.urls()?.join("\n"),
+        "place" => node.place().map(|it| format!("{}:{}", it.line, it.column)).expect("a place"),
         other => panic!("{other}"),
     })
 }
@@ -44,8 +45,13 @@ fn answer(task: &str, argument: &str, page: &[u8]) -> Result<String, Fault> {
         "clean" if argument.is_empty() => figpliers::clean(page)?.0,
         "clean" => figpliers::clean_by(argument, page)?.0,
         "errors" => figpliers::errors(page)?.into_iter().map(|it| format!("{}: {}\n", it.line, it.message)).collect(),
+        "fragment" => {
+            let made = figpliers::parse_fragment(if argument.is_empty() { "body" } else { argument }, page)?;
+            let inner = made.root_element().expect("a root").inner_html()?;
+            inner
+        }
         _ => {
-            let page = figpliers::parse(page)?;
+            let page = if task == "place" { figpliers::parse_with_places(page)? } else { figpliers::parse(page)? };
             let answers: Result<Vec<_>, _> = nodes(&page, argument)?.into_iter().map(|node| on_node(task, node)).collect();
             answers?.into_iter().filter(|it| task != "urls" || !it.is_empty()).map(|it| it + "\n").collect()
         }

@@ -1,18 +1,19 @@
 -- What an answer says, by what came of a text or of a failure.
-use Rattle.std.proofs.Common.{◌≡◌, ◌∙◌, ℕ, List, ap, subst, sym}
-use Rattle.std.specs.Prelude.{length}
+use Rattle.std.proofs.Common.{◌≡◌, ◌∙◌, ℕ, List, Result, Ok, Err, ap, refl, subst, sym}
+use Rattle.std.specs.Prelude.{IfErr, IfOk, length}
 use Rattle.html_clean.specs.declared.counts.Cleaned.{Cleaned}
 use Rattle.html_normal.specs.declared.report.Report.{Report}
-use Rattle.html_ffi.specs.Answers.{Fails, IsPut, Means}
-use Rattle.html_ffi.specs.Calls.{IsReported, IsReportedClean, MeansCleaned}
+use Rattle.html_ffi.specs.Answers.{IsPut, Means}
+use Rattle.html_ffi.specs.Calls.{IsReported, IsReportedClean}
 use Rattle.html_ffi.specs.Reports.{cleaned_of, nothing_at, nothing_cleaned_at, report_of}
+use Rattle.html_ffi.specs.declared.answer.Failure.{Failure}
 use Rattle.html_ffi.specs.declared.report.FigCleaned.{FigCleaned}
 use Rattle.html_ffi.specs.declared.report.FigReport.{FigReport}
 use Rattle.html_ffi.specs.declared.answer.Answer.{Answer}
 use Rattle.html_ffi.specs.declared.answer.Answer.TheVariants.{Done, NotUtf8, TooShort, Memory, TooLarge, TableNotUtf8}
 use Rattle.html_ffi.specs.declared.answer.Answer.TheVariants.{TableLine, TableName, TableDuplicate, TableValue}
 use Rattle.html_ffi.specs.declared.answer.Answer.TheVariants.{SelectorNotUtf8, Selector, NotAnImage, NoNode}
-use Rattle.html_ffi.specs.declared.answer.Answer.TheVariants.{PolicyNotUtf8, PolicyLine, NeverKept, NoPolicy}
+use Rattle.html_ffi.specs.declared.answer.Answer.TheVariants.{PolicyNotUtf8, PolicyLine, NeverKept, NoPolicy, ContextNotUtf8}
 
 module _ (Makes : List ℕ → Type 0) (None : Type 0) (Why : Answer → Type 0) (old new : List ℕ) where
   -- a text that was made was put in front of the room, or is too long for it
@@ -35,6 +36,7 @@ module _ (Makes : List ℕ → Type 0) (None : Type 0) (Why : Answer → Type 0)
   put-means text PolicyLine made is = absurd is
   put-means text NeverKept made is = absurd is
   put-means text NoPolicy made is = absurd is
+  put-means text ContextNotUtf8 made is = absurd is
 
   -- there is no text
   pub none-means : (Why Done → ⊥) → (Why TooShort → ⊥) → (answer : Answer) → Why answer → None → new ≡ old
@@ -57,6 +59,7 @@ module _ (Makes : List ℕ → Type 0) (None : Type 0) (Why : Answer → Type 0)
   none-means done short PolicyLine why none same = record { why = why; none = none; same = same }
   none-means done short NeverKept why none same = record { why = why; none = none; same = same }
   none-means done short NoPolicy why none same = record { why = why; none = none; same = same }
+  none-means done short ContextNotUtf8 why none same = record { why = why; none = none; same = same }
 
 -- of a page's text
 module _ (Is : (file page text : List ℕ) → Report → Type 0) (Why : ℕ → Answer → Type 0) (file page old new : List ℕ)
@@ -75,6 +78,21 @@ module _ (Is : (file page text : List ℕ) → Report → Type 0) (Why : ℕ →
       let there : report.at ≡ at = ap (λ (r : FigReport). r.at) none in
       none-means (IsReported Is file page report) (report ≡ nothing_at report.at) (Why report.at) old new (done report.at)
       (short report.at) answer (subst (λ (n : ℕ). Why n answer) (sym there) fails) (none ∙ ap nothing_at (sym there)) same
+
+-- of a page's text, by what came of a result
+module _ (Is : (file page text : List ℕ) → Report → Type 0) (Why : ℕ → Answer → Type 0) (file page old new : List ℕ)
+    (report : FigReport) (answer : Answer) (done : (n : ℕ) → Why n Done → ⊥) (short : (n : ℕ) → Why n TooShort → ⊥) where
+  pub text-answered : {A : Type 0} (made : Result A Failure) (bytes : A → List ℕ) (of_page : A → Report)
+      → IfOk made (λ it. Is file page (bytes it) (of_page it)) → IfErr made (λ failure. Why failure.at failure.answer)
+      → IfOk made (λ it. report ≡ report_of (length (bytes it)) (of_page it)) → IfOk made (λ it. IsPut (bytes it) old new answer)
+      → IfErr made (λ failure. report ≡ nothing_at failure.at) → IfErr made (λ failure. answer ≡ failure.answer)
+      → IfErr made (λ _. new ≡ old)
+      → Means (IsReported Is file page report) (report ≡ nothing_at report.at) (Why report.at) old new answer
+  text-answered (Ok it) bytes of_page is why report_is put none answer_is same =
+      text-put Is Why file page old new report answer (bytes it) (bytes it) (length (bytes it)) (of_page it) is refl refl report_is put
+  text-answered (Err failure) bytes of_page is why report_is put none answer_is same =
+      text-none Is Why file page old new report answer done short failure.at
+      (subst (λ (a : Answer). Why failure.at a) (sym answer_is) why) none same
 
 -- of what was kept of a page
 module _ (Is : (file page text : List ℕ) → Cleaned → Type 0) (Why : ℕ → Answer → Type 0) (file page old new : List ℕ)
@@ -95,12 +113,17 @@ module _ (Is : (file page text : List ℕ) → Cleaned → Type 0) (Why : ℕ �
       none-means (IsReportedClean Is file page report) (report ≡ nothing_cleaned_at report.at) (Why report.at) old new (done report.at)
       (short report.at) answer (subst (λ (n : ℕ). Why n answer) (sym there) fails) (none ∙ ap nothing_cleaned_at (sym there)) same
 
--- the same where nothing but the table and the page can be at fault
-module _ (Is : (file page text : List ℕ) → Cleaned → Type 0) (file page old new : List ℕ) (report : FigCleaned) (answer : Answer) where
-  pub cleaned-put : (text lent : List ℕ) (count : ℕ) (counts : Cleaned) → Is file page text counts → lent ≡ text
-      → count ≡ length lent → report ≡ cleaned_of count counts → IsPut lent old new answer → MeansCleaned Is file page old new report answer
-  cleaned-put = kept-put Is (λ at a. Fails file page a at) file page old new report answer
-
-  pub cleaned-none : (at : ℕ) → Fails file page answer at → report ≡ nothing_cleaned_at at → new ≡ old
-      → MeansCleaned Is file page old new report answer
-  cleaned-none = kept-none Is (λ at a. Fails file page a at) file page old new report answer (λ n (w : ⊥). w) (λ n (w : ⊥). w)
+-- of what was kept of a page, by what came of a result
+module _ (Is : (file page text : List ℕ) → Cleaned → Type 0) (Why : ℕ → Answer → Type 0) (file page old new : List ℕ)
+    (report : FigCleaned) (answer : Answer) (done : (n : ℕ) → Why n Done → ⊥) (short : (n : ℕ) → Why n TooShort → ⊥) where
+  pub kept-answered : {A : Type 0} (made : Result A Failure) (bytes : A → List ℕ) (counts : A → Cleaned)
+      → IfOk made (λ it. Is file page (bytes it) (counts it)) → IfErr made (λ failure. Why failure.at failure.answer)
+      → IfOk made (λ it. report ≡ cleaned_of (length (bytes it)) (counts it)) → IfOk made (λ it. IsPut (bytes it) old new answer)
+      → IfErr made (λ failure. report ≡ nothing_cleaned_at failure.at) → IfErr made (λ failure. answer ≡ failure.answer)
+      → IfErr made (λ _. new ≡ old)
+      → Means (IsReportedClean Is file page report) (report ≡ nothing_cleaned_at report.at) (Why report.at) old new answer
+  kept-answered (Ok it) bytes counts is why report_is put none answer_is same =
+      kept-put Is Why file page old new report answer (bytes it) (bytes it) (length (bytes it)) (counts it) is refl refl report_is put
+  kept-answered (Err failure) bytes counts is why report_is put none answer_is same =
+      kept-none Is Why file page old new report answer done short failure.at
+      (subst (λ (a : Answer). Why failure.at a) (sym answer_is) why) none same

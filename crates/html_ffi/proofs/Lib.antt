@@ -3,3 +3,4 @@ mod Lines
 mod Making
 mod Policies
 mod Selecting
+mod Trees

@@ -2,8 +2,6 @@
 use Rattle.std.proofs.Common.{◌∙◌, ◌≡◌, ℕ, true, false, List, [], Option, Some, ap, refl, subst, sym, encode_utf8_all}
 use Rattle.std.specs.Io.KnownBytes.{append_known}
 use Rattle.std.specs.Str.{IsValidUpTo, chars}
-use Rattle.markup.specs.Forest.{Forest}
-use Rattle.markup.specs.TreeLaws.{with_errors}
 use Rattle.markup.specs.Trees.{Trees}
 use Rattle.html_clean.specs.Pieces.{written_pieces}
 use Rattle.html_clean.specs.declared.counts.Cleaned.{Cleaned}
@@ -14,17 +12,13 @@ use Rattle.html_input.specs.declared.table.TableFileFault.{TableFileFault}
 use Rattle.html_input.specs.declared.table.TableFileFault.TheVariants as file
 use Rattle.html_tokens.specs.declared.table.TableFault.TheVariants as table
 use Rattle.html_tokens.specs.Table.{Row}
-use Rattle.html_normal.specs.Document.{CountsErrors, document_bytes}
-use Rattle.html_normal.specs.Normal.{IsNormalised, IsRead}
+use Rattle.html_normal.specs.Document.{document_bytes}
+use Rattle.html_normal.specs.Normal.{IsNormalised}
 use Rattle.html_normal.specs.declared.fault.NormalFault.{NormalFault}
 use Rattle.html_normal.specs.declared.fault.NormalFault.TheVariants as normal
 use Rattle.html_normal.specs.declared.report.Report.{Report}
-use Rattle.html_tree_image.proofs.Same.{too-large-same}
-use Rattle.html_tree_image.specs.Image.{is_too_large}
-use Rattle.html_tree_image.specs.declared.image.ImageFault.{ImageFault}
-use Rattle.html_tree_image.specs.declared.image.ImageFault.TheVariants as image
-use Rattle.html_ffi.specs.Answers.{Fails, FailsOver, IsTooLarge, failure_of, image_failure_of, table_failure_of}
-use Rattle.html_ffi.specs.Calls.{IsMadeOf, IsNormalText, IsReportOf}
+use Rattle.html_ffi.specs.Answers.{Fails, failure_of, table_failure_of}
+use Rattle.html_ffi.specs.Calls.{IsNormalText}
 use Rattle.html_ffi.specs.declared.answer.Failure.{Failure}
 
 table-fails : (bytes page left : List ℕ) (fault : TableFileFault) → IsTableFault (Some bytes) (Some left) fault
@@ -73,45 +67,6 @@ normal-made file page rows left old written report table none n = record {
     errors = n.errors;
     again = n.again;
   };
-}
-
--- why a forest has no image
-pub image-failed : (f : Forest) (fault : ImageFault) (made : Failure) → made ≡ image_failure_of fault
-    → (fault ≡ image.TooLarge → is_too_large f ≡ true) → FailsOver f made.answer made.at
-image-failed f image.Memory made is large file page = λ over. subst (λ (m : Failure). Fails file page m.answer m.at) (sym is) refl
-image-failed f image.TooLarge made is large file page = λ over.
-    subst (λ (m : Failure). Fails file page m.answer m.at) (sym is) (refl, over (large refl))
-
--- what was read to its end
-pub read-made : (rows : List Row) (page : List ℕ) (left : Option (List ℕ)) (document : Forest) (errors : ℕ)
-    → IsRead rows false page left document errors → IsRead rows false page (Some []) document errors
-read-made rows page left document errors read = record { input = read.input; taken = refl; counts = read.counts }
-
--- what was made of a page that was read to its end
-pub page-made : (Is : Forest → List ℕ → Type 0) (file page : List ℕ) (rows : List Row) (f : Forest) (bytes : List ℕ) (report : Report)
-    → IsTableFile file (Some []) rows → IsRead rows false page (Some []) (with_errors 0 f) f.errors → Is f bytes → IsReportOf f report
-    → IsMadeOf Is file page bytes report
-page-made Is file page rows f bytes report table read made is =
-    let same : with_errors report.errors (with_errors 0 f) ≡ f = ap (λ n. with_errors n f) is.errors in
-    record {
-      rows = rows;
-      table = table;
-      document = with_errors 0 f;
-      input = read.input;
-      bytes_are = subst (λ (g : Forest). Is g bytes) (sym same) made;
-      report_is = subst (λ (g : Forest). IsReportOf g report) (sym same) is;
-      errors = subst (λ (n : ℕ). CountsErrors rows false (chars page) n) (sym is.errors) read.counts;
-    }
-
--- the image of a page that was read to its end is too large
-pub large-made : (file page : List ℕ) (rows : List Row) (f : Forest) → IsTableFile file (Some []) rows
-    → IsRead rows false page (Some []) (with_errors 0 f) f.errors → is_too_large f ≡ true → IsTooLarge file page
-large-made file page rows f table read large = record {
-  rows = rows;
-  table = table;
-  document = with_errors 0 f;
-  input = read.input;
-  large = too-large-same 0 f ∙ large;
 }
 
 -- what a policy keeps of a page, written to a writer with nothing in it

@@ -13,12 +13,13 @@ use Rattle.html_ffi.specs.declared.answer.Answer.{Answer}
 use Rattle.html_ffi.specs.declared.answer.Answer.TheVariants.{Done, NotUtf8, TooShort, Memory, TooLarge, TableNotUtf8}
 use Rattle.html_ffi.specs.declared.answer.Answer.TheVariants.{TableLine, TableName, TableDuplicate, TableValue}
 use Rattle.html_ffi.specs.declared.answer.Answer.TheVariants.{SelectorNotUtf8, Selector, NotAnImage, NoNode}
-use Rattle.html_ffi.specs.declared.answer.Answer.TheVariants.{PolicyNotUtf8, PolicyLine, NeverKept, NoPolicy}
+use Rattle.html_ffi.specs.declared.answer.Answer.TheVariants.{PolicyNotUtf8, PolicyLine, NeverKept, NoPolicy, ContextNotUtf8}
 use Rattle.html_ffi.specs.declared.answer.Failure.{Failure}
 
 module _ (first : Policy → Option (List ℕ)) (file text page : List ℕ) where
   -- a policy's text is not UTF-8
-  pub text-fails : (answer : Answer) (at : ℕ) → answer ≡ PolicyNotUtf8 → IsValidUpTo text at → FailsToClean first file text page answer at
+  pub text-fails : (answer : Answer) (at : ℕ) → answer ≡ PolicyNotUtf8 → IsValidUpTo text at
+      → FailsToClean first file text page answer at
   text-fails answer at is valid = subst (λ (a : Answer). FailsToClean first file text page a at) (sym is) valid
 
   -- it has a line that is no rule
@@ -34,7 +35,7 @@ module _ (first : Policy → Option (List ℕ)) (file text page : List ℕ) wher
   fails-to-clean NotUtf8 at why = why
   fails-to-clean TooShort at why = absurd why
   fails-to-clean Memory at why = why
-  fails-to-clean TooLarge at why = why
+  fails-to-clean TooLarge at why = absurd why
   fails-to-clean TableNotUtf8 at why = why
   fails-to-clean TableLine at why = why
   fails-to-clean TableName at why = why
@@ -48,6 +49,7 @@ module _ (first : Policy → Option (List ℕ)) (file text page : List ℕ) wher
   fails-to-clean PolicyLine at why = absurd why
   fails-to-clean NeverKept at why = absurd why
   fails-to-clean NoPolicy at why = absurd why
+  fails-to-clean ContextNotUtf8 at why = absurd why
 
 -- the name of a ready policy is not UTF-8
 pub name-fails : (name : List ℕ) (answer : Answer) (at : ℕ) → answer ≡ PolicyNotUtf8 → IsValidUpTo name at → FailsToName name answer at

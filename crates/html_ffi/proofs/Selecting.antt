@@ -8,7 +8,7 @@ use Rattle.html_ffi.specs.declared.answer.Answer.{Answer}
 use Rattle.html_ffi.specs.declared.answer.Answer.TheVariants.{Done, NotUtf8, TooShort, Memory, TooLarge, TableNotUtf8}
 use Rattle.html_ffi.specs.declared.answer.Answer.TheVariants.{TableLine, TableName, TableDuplicate, TableValue}
 use Rattle.html_ffi.specs.declared.answer.Answer.TheVariants.{SelectorNotUtf8, Selector, NotAnImage, NoNode}
-use Rattle.html_ffi.specs.declared.answer.Answer.TheVariants.{PolicyNotUtf8, PolicyLine, NeverKept, NoPolicy}
+use Rattle.html_ffi.specs.declared.answer.Answer.TheVariants.{PolicyNotUtf8, PolicyLine, NeverKept, NoPolicy, ContextNotUtf8}
 
 -- what is wrong with the image or the node is so for a call that takes selectors too
 pub fails-too : (selector image : List ℕ) (node : ℕ) (answer : Answer) (at : ℕ) → FailsOnNode image node answer at
@@ -31,6 +31,7 @@ fails-too selector image node PolicyNotUtf8 at why = absurd why
 fails-too selector image node PolicyLine at why = absurd why
 fails-too selector image node NeverKept at why = absurd why
 fails-too selector image node NoPolicy at why = absurd why
+fails-too selector image node ContextNotUtf8 at why = absurd why
 
 -- what selectors select below a node that was found
 pub selection-made : (selector image text : List ℕ) (node : ℕ) (f : Forest) (id : ℕ) (bytes : List ℕ) (report : Report)

@@ -8,7 +8,6 @@ use Rattle.html_input.specs.declared.table.TableFileFault.TheVariants as file
 use Rattle.html_tokens.specs.Table.{Row}
 use Rattle.html_tokens.specs.declared.table.TableFault.{TableFault}
 use Rattle.html_tokens.specs.declared.table.TableFault.TheVariants as table
-use Rattle.html_normal.specs.Document.{IsDocument}
 use Rattle.html_normal.specs.declared.fault.NormalFault.{NormalFault}
 use Rattle.html_normal.specs.declared.fault.NormalFault.TheVariants as normal
 use Rattle.html_policy_text.specs.declared.reading.PolicyFault.{PolicyFault}
@@ -24,7 +23,7 @@ use Rattle.html_ffi.specs.declared.answer.Answer.{Answer}
 use Rattle.html_ffi.specs.declared.answer.Answer.TheVariants.{Done, NotUtf8, TooShort, Memory, TooLarge, TableNotUtf8}
 use Rattle.html_ffi.specs.declared.answer.Answer.TheVariants.{TableLine, TableName, TableDuplicate, TableValue}
 use Rattle.html_ffi.specs.declared.answer.Answer.TheVariants.{SelectorNotUtf8, Selector, NotAnImage, NoNode}
-use Rattle.html_ffi.specs.declared.answer.Answer.TheVariants.{PolicyNotUtf8, PolicyLine, NeverKept, NoPolicy}
+use Rattle.html_ffi.specs.declared.answer.Answer.TheVariants.{PolicyNotUtf8, PolicyLine, NeverKept, NoPolicy, ContextNotUtf8}
 use Rattle.html_ffi.specs.declared.answer.Failure.{Failure}
 
 -- ANSWERS
@@ -49,6 +48,7 @@ number_of PolicyNotUtf8 = 64
 number_of PolicyLine = 65
 number_of NeverKept = 66
 number_of NoPolicy = 67
+number_of ContextNotUtf8 = 80
 
 abbrev pub failure : Answer → ℕ → Failure
 failure answer at = record { answer = answer; at = at }
@@ -96,21 +96,13 @@ table_failure_of (file.BadLine at) = failure TableLine at
 table_failure_of (file.Table fault) = row_failure_of fault
 table_failure_of file.Memory = failure Memory 0
 
--- The image of a page's document has a part that is longer than 32 bits can say.
-pub record IsTooLarge (file page : List ℕ) : Type 0 where
-  pub rows : List Row
-  pub table : IsTableFile file (Some []) rows
-  pub document : Forest
-  pub input : IsDocument rows page document
-  pub large : is_too_large document ≡ true
-
 -- What the answer of a call that has no text says of the table's bytes and the page, with the place that it tells.
 abbrev pub Fails : (file page : List ℕ) → Answer → ℕ → Type 0
 Fails file page Done at = ⊥
 Fails file page NotUtf8 at = IsValidUpTo page at
 Fails file page TooShort at = ⊥
 Fails file page Memory at = at ≡ 0
-Fails file page TooLarge at = (at ≡ 0) × IsTooLarge file page
+Fails file page TooLarge at = ⊥
 Fails file page TableNotUtf8 at = IsValidUpTo file at
 Fails file page TableLine at = HasBadLine file at
 Fails file page TableName at = HasBadRow file (table.BadName at)
@@ -124,10 +116,28 @@ Fails file page PolicyNotUtf8 at = ⊥
 Fails file page PolicyLine at = ⊥
 Fails file page NeverKept at = ⊥
 Fails file page NoPolicy at = ⊥
+Fails file page ContextNotUtf8 at = ⊥
 
--- why there is no image of a forest, whatever page has it as its document
+-- The image of a forest that a page has by a table's rows, as `Of` says.
+module _ (Of : List Row → List ℕ → Forest → Type 0) (file page : List ℕ) where
+  -- It has a part that is longer than 32 bits can say.
+  pub record IsTooLarge : Type 0 where
+    pub rows : List Row
+    pub table : IsTableFile file (Some []) rows
+    pub forest : Forest
+    pub is : Of rows page forest
+    pub large : is_too_large forest ≡ true
+
+  -- What the answer of a call that has no image says of the table's bytes and the page, with the place in the report.
+  abbrev pub FailsAsTree : Answer → ℕ → Type 0
+  FailsAsTree TooLarge at = (at ≡ 0) × IsTooLarge
+  FailsAsTree answer at = Fails file page answer at
+
+-- why there is no image of a forest, with the place in the report
 abbrev pub FailsOver : Forest → Answer → ℕ → Type 0
-FailsOver f answer at = (file page : List ℕ) → (is_too_large f ≡ true → IsTooLarge file page) → Fails file page answer at
+FailsOver f Memory at = at ≡ 0
+FailsOver f TooLarge at = (at ≡ 0) × (is_too_large f ≡ true)
+FailsOver f answer at = ⊥
 
 -- THE ROOM
 
@@ -151,6 +161,7 @@ IsPut text old new PolicyNotUtf8 = ⊥
 IsPut text old new PolicyLine = ⊥
 IsPut text old new NeverKept = ⊥
 IsPut text old new NoPolicy = ⊥
+IsPut text old new ContextNotUtf8 = ⊥
 
 -- What an answer says: of a text that `Makes` says is the one that is asked for, or of why there is none, and then `None`.
 module _ (Makes : List ℕ → Type 0) (None : Type 0) (Why : Answer → Type 0) (old new : List ℕ) where
@@ -192,6 +203,7 @@ module _ (Makes : List ℕ → Type 0) (None : Type 0) (Why : Answer → Type 0)
   Means PolicyLine = HasNone PolicyLine
   Means NeverKept = HasNone NeverKept
   Means NoPolicy = HasNone NoPolicy
+  Means ContextNotUtf8 = HasNone ContextNotUtf8
 
 -- The number that C gets is that of an answer, which says this.
 pub record IsAnswer (Says : Answer → Type 0) (number : ℕ) : Type 0 where

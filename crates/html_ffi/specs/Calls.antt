@@ -1,19 +1,15 @@
 -- The texts that calls make of a page, by the table of references that a file's bytes hold.
 use Rattle.std.specs.Prelude.{◌≡◌, ℕ, false, List, [], length, Some}
-use Rattle.std.specs.Str.{chars}
 use Rattle.markup.specs.Forest.{Forest}
-use Rattle.markup.specs.TreeLaws.{with_errors}
 use Rattle.html_clean.specs.Ready.{IsTextAndLinks}
 use Rattle.html_clean.specs.declared.counts.Cleaned.{Cleaned}
 use Rattle.html_clean.specs.declared.policy.Policy.{Policy}
 use Rattle.html_clean_document.specs.Clean.{IsCleaned, IsDocumentOf, IsFragmentOf, div_name}
 use Rattle.html_input.specs.TableFault.{IsTableFile}
-use Rattle.html_normal.specs.Document.{CountsErrors, IsDocument}
 use Rattle.html_normal.specs.Normal.{IsNormalised}
 use Rattle.html_normal.specs.declared.report.Report.{Report}
 use Rattle.html_plain.specs.Grammar.{is_plain_forest}
 use Rattle.html_tokens.specs.Table.{Row}
-use Rattle.html_tree_image.specs.Image.{image_of}
 use Rattle.html_ffi.specs.Answers.{Fails, Means}
 use Rattle.html_ffi.specs.Reports.{cleaned_of, nothing_at, nothing_cleaned_at, report_of}
 use Rattle.html_ffi.specs.declared.answer.Answer.{Answer}
@@ -31,24 +27,6 @@ pub record IsReportOf (f : Forest) (report : Report) : Type 0 where
   pub plain : report.plain ≡ is_plain_forest f
   pub quirks : report.quirks ≡ f.quirks
   pub errors : report.errors ≡ f.errors
-
--- Bytes are as `Is` says of a page's document, and the report is that of the page.
-pub record IsMadeOf (Is : Forest → List ℕ → Type 0) (file page bytes : List ℕ) (report : Report) : Type 0 where
-  pub rows : List Row
-  pub table : IsTableFile file (Some []) rows
-  pub document : Forest
-  pub input : IsDocument rows page document
-  pub bytes_are : Is (with_errors report.errors document) bytes
-  pub report_is : IsReportOf (with_errors report.errors document) report
-  pub errors : CountsErrors rows false (chars page) report.errors
-
--- Bytes are the image of a forest.
-abbrev pub IsImageOf : Forest → List ℕ → Type 0
-IsImageOf f bytes = bytes ≡ image_of f
-
--- Bytes are the image of a page's document, with the report of the page.
-abbrev pub IsTreeImage : (file page bytes : List ℕ) → Report → Type 0
-IsTreeImage file page bytes report = IsMadeOf IsImageOf file page bytes report
 
 -- A text is what the ready policy keeps of a page as a document, and so much was taken away.
 pub record IsCleanDocument (file page text : List ℕ) (counts : Cleaned) : Type 0 where

@@ -24,7 +24,7 @@ use Rattle.html_ffi.specs.declared.answer.Answer.{Answer}
 use Rattle.html_ffi.specs.declared.answer.Answer.TheVariants.{Done, NotUtf8, TooShort, Memory, TooLarge, TableNotUtf8}
 use Rattle.html_ffi.specs.declared.answer.Answer.TheVariants.{TableLine, TableName, TableDuplicate, TableValue}
 use Rattle.html_ffi.specs.declared.answer.Answer.TheVariants.{SelectorNotUtf8, Selector, NotAnImage, NoNode}
-use Rattle.html_ffi.specs.declared.answer.Answer.TheVariants.{PolicyNotUtf8, PolicyLine, NeverKept, NoPolicy}
+use Rattle.html_ffi.specs.declared.answer.Answer.TheVariants.{PolicyNotUtf8, PolicyLine, NeverKept, NoPolicy, ContextNotUtf8}
 use Rattle.html_ffi.specs.declared.report.FigReport.{FigReport}
 
 -- a node with what is in it as HTML (HTML Standard, section 13.3)
@@ -93,6 +93,7 @@ FailsOnNode image node PolicyNotUtf8 at = ⊥
 FailsOnNode image node PolicyLine at = ⊥
 FailsOnNode image node NeverKept at = ⊥
 FailsOnNode image node NoPolicy at = ⊥
+FailsOnNode image node ContextNotUtf8 at = ⊥
 
 -- what an answer says of the image and the node, the room before and after the call, and the report
 abbrev pub MeansNode : (Is : Forest → ℕ → List ℕ → Type 0) → ℕ → (image old new : List ℕ) → FigReport → Answer → Type 0

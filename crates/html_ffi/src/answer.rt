@@ -50,6 +50,8 @@ pub enum Answer {
     NeverKept,
     /// There is no ready policy of that name.
     NoPolicy,
+    /// The name of a fragment's context is not UTF-8.
+    ContextNotUtf8,
 }
 
 impl Answer {
@@ -76,6 +78,7 @@ impl Answer {
             Answer::PolicyLine => 65,
             Answer::NeverKept => 66,
             Answer::NoPolicy => 67,
+            Answer::ContextNotUtf8 => 80,
         }
     }
 }
@@ -89,7 +92,7 @@ pub struct Failure {
     pub at: u64,
 }
 
-/// Want of memory.
+/// Out of memory.
 pub(crate) fn no_memory() -> Failure
     ensures is { result ≡ record { answer = Memory; at = 0 } }
     ensures fails { (file page : List ℕ) → Fails file page result.answer result.at }

@@ -11,7 +11,7 @@ use crate::answer::{Answer, Failure, no_memory};
 use crate::page::{COUNTED, Page};
 use crate::policy::{policy_for_documents, policy_for_fragments};
 use crate::report::FigCleaned;
-use crate::room::put_front;
+use crate::room::put_kept;
 use crate::table::table_of;
 use devices::VecWriter;
 use html_clean::{Cleaned, Policy};
@@ -105,17 +105,7 @@ pub(crate) fn clean_document_by(
     ensures answer { MeansCleaned IsCleanDocument file.now page.now output.old output.new report.new result }
     ensures same_room { length output.new ≡ length output.old }
 {
-    match clean_document_text(alloc, file, page) {
-        Ok(made) => {
-            let text = made.0.written();
-            *report = FigCleaned::new(text.len(), made.1);
-            put_front(output, text)
-        }
-        Err(failure) => {
-            *report = FigCleaned::nothing(failure.at);
-            failure.answer
-        }
-    }
+    put_kept(clean_document_text(alloc, file, page), output, report)
 }
 
 /// Writes what the ready policy keeps of a page as a fragment in a `div` to the front of room.
@@ -129,17 +119,7 @@ pub(crate) fn clean_fragment_by(
     ensures answer { MeansCleaned IsCleanFragment file.now page.now output.old output.new report.new result }
     ensures same_room { length output.new ≡ length output.old }
 {
-    match clean_fragment_text(alloc, file, page) {
-        Ok(made) => {
-            let text = made.0.written();
-            *report = FigCleaned::new(text.len(), made.1);
-            put_front(output, text)
-        }
-        Err(failure) => {
-            *report = FigCleaned::nothing(failure.at);
-            failure.answer
-        }
-    }
+    put_kept(clean_fragment_text(alloc, file, page), output, report)
 }
 
 /// What a policy's text keeps of a page as a document.
@@ -176,17 +156,7 @@ pub(crate) fn clean_document_with(
     ensures answer { MeansDocumentBy file.now policy.now page.now output.old output.new report.new result }
     ensures same_room { length output.new ≡ length output.old }
 {
-    match document_kept_by(alloc, file, policy, page) {
-        Ok(made) => {
-            let text = made.0.written();
-            *report = FigCleaned::new(text.len(), made.1);
-            put_front(output, text)
-        }
-        Err(failure) => {
-            *report = FigCleaned::nothing(failure.at);
-            failure.answer
-        }
-    }
+    put_kept(document_kept_by(alloc, file, policy, page), output, report)
 }
 
 /// Writes what a policy's text keeps of a page as a fragment in a `div` to the front of room.
@@ -201,15 +171,5 @@ pub(crate) fn clean_fragment_with(
     ensures answer { MeansFragmentBy file.now policy.now page.now output.old output.new report.new result }
     ensures same_room { length output.new ≡ length output.old }
 {
-    match fragment_kept_by(alloc, file, policy, page) {
-        Ok(made) => {
-            let text = made.0.written();
-            *report = FigCleaned::new(text.len(), made.1);
-            put_front(output, text)
-        }
-        Err(failure) => {
-            *report = FigCleaned::nothing(failure.at);
-            failure.answer
-        }
-    }
+    put_kept(fragment_kept_by(alloc, file, policy, page), output, report)
 }

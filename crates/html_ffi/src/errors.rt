@@ -1,7 +1,9 @@
 //! The parse errors of a page, a line for each.
 ghost use Rattle.std.specs.Prelude.{◌≡◌, ◌++◌, ℕ, true, List, IfErr, IfOk, length};
+ghost use Rattle.std.specs.Str.{chars};
 ghost use Rattle.std.specs.String.{string_bytes};
 ghost use Rattle.html_pages.specs.Pages.{IsPage};
+ghost use Rattle.html_places.specs.Noted.{IsPlaced};
 ghost use Rattle.html_ffi.specs.Answers.{Fails};
 ghost use Rattle.html_ffi.specs.Calls.{IsReportOf, MeansText};
 ghost use Rattle.html_ffi.specs.Errors.{IsErrorList, error_line, error_lines};
@@ -9,7 +11,7 @@ ghost use Rattle.html_ffi.specs.declared.answer.Answer.TheVariants.{Memory};
 
 use crate::answer::{Answer, Failure, no_memory};
 use crate::report::FigReport;
-use crate::room::put_front;
+use crate::room::put_made;
 use crate::table::table_of;
 use crate::tree::report_of;
 use html_normal::{References, Report};
@@ -52,9 +54,14 @@ fn text_of(alloc: Global, page: &[u8]) -> Result<String, Failure>
     }
 }
 
-/// The document of a page, with its errors.
-fn noted_of(alloc: Global, table: References, page: &[u8]) -> Result<NotedForest, Failure>
+/// The document of a page, with its errors and the places of its nodes.
+pub(crate) fn noted_of(
+    alloc: Global,
+    table: References,
+    page: &[u8],
+) -> Result<NotedForest, Failure>
     ensures ok { IfOk result (λ noted. IsPage table true page.now noted.forest) }
+    ensures places { IfOk result (IsPlaced (chars page.now)) }
     ensures all { IfOk result (λ noted. length noted.errors.items ≡ noted.forest.errors) }
     ensures err { IfErr result (λ failure. (file : List ℕ) → Fails file page.now failure.answer failure.at) }
 {
@@ -66,8 +73,8 @@ fn noted_of(alloc: Global, table: References, page: &[u8]) -> Result<NotedForest
 }
 
 /// The lines of a document's errors, with the report of the document.
-fn lines_and_report(alloc: Global, noted: &NotedForest) -> Result<(String, Report), Failure>
-    ensures lines { IfOk result (λ made. string_bytes made.0 ≡ error_lines noted.now.errors.items) }
+fn lines_and_report(alloc: Global, noted: &NotedForest) -> Result<(Vec<u8>, Report), Failure>
+    ensures lines { IfOk result (λ made. made.0.items ≡ error_lines noted.now.errors.items) }
     ensures report { IfOk result (λ made. IsReportOf noted.now.forest made.1) }
     ensures err { IfErr result (λ failure. failure ≡ record { answer = Memory; at = 0 }) }
 {
@@ -75,12 +82,12 @@ fn lines_and_report(alloc: Global, noted: &NotedForest) -> Result<(String, Repor
     let Ok(report) = report_of(&noted.forest) else {
         return Err(no_memory());
     };
-    Ok((lines, report))
+    Ok((lines.into_bytes(), report))
 }
 
 /// The lines of a page's errors, with the report of the page.
-fn page_errors(alloc: Global, file: &[u8], page: &[u8]) -> Result<(String, Report), Failure>
-    ensures ok { IfOk result (λ made. IsErrorList file.now page.now (string_bytes made.0) made.1) }
+fn page_errors(alloc: Global, file: &[u8], page: &[u8]) -> Result<(Vec<u8>, Report), Failure>
+    ensures ok { IfOk result (λ made. IsErrorList file.now page.now made.0.items made.1) }
     ensures err { IfErr result (λ failure. Fails file.now page.now failure.answer failure.at) }
 {
     let table = table_of(alloc, file)?;
@@ -100,15 +107,5 @@ pub(crate) fn errors_by(
     ensures answer { MeansText IsErrorList file.now page.now output.old output.new report.new result }
     ensures same_room { length output.new ≡ length output.old }
 {
-    match page_errors(alloc, file, page) {
-        Ok(made) => {
-            let text = made.0.as_str().as_bytes();
-            *report = FigReport::new(text.len(), made.1);
-            put_front(output, text)
-        }
-        Err(failure) => {
-            *report = FigReport::nothing(failure.at);
-            failure.answer
-        }
-    }
+    put_made(page_errors(alloc, file, page), output, report)
 }

@@ -9,7 +9,7 @@ ghost use Rattle.html_ffi.specs.declared.answer.Answer.TheVariants.{Memory};
 
 use crate::answer::{Answer, Failure, no_memory};
 use crate::report::FigReport;
-use crate::room::put_front;
+use crate::room::put_made;
 use devices::VecWriter;
 use html_extracts::links_below;
 use html_forest::{Forest, ForestNode, NodeId};
@@ -70,8 +70,8 @@ pub(crate) fn find_node(alloc: Global, image: &[u8], node: u32) -> Result<Found,
 }
 
 /// A node as HTML.
-fn html_of(alloc: Global, forest: &Forest, id: NodeId) -> Result<VecWriter, Failure>
-    ensures ok { IfOk result (λ writer. writer.written ≡ html_of forest.now id) }
+fn html_of(alloc: Global, forest: &Forest, id: NodeId) -> Result<Vec<u8>, Failure>
+    ensures ok { IfOk result (λ bytes. bytes.items ≡ html_of forest.now id) }
     ensures err { IfErr result (λ failure. failure ≡ record { answer = Memory; at = 0 }) }
 {
     let mut writer = VecWriter::new(alloc);
@@ -81,35 +81,35 @@ fn html_of(alloc: Global, forest: &Forest, id: NodeId) -> Result<VecWriter, Fail
         create_missing_parent: false,
     };
     match serialize(alloc, &mut writer, &ForestNode { forest, id }, opts) {
-        Ok(()) => Ok(writer),
+        Ok(()) => Ok(writer.into_bytes()),
         Err(_) => Err(no_memory()),
     }
 }
 
 /// A node of an image as HTML, with the report of the image.
-fn node_html(alloc: Global, image: &[u8], node: u32) -> Result<(VecWriter, Report), Failure>
-    ensures ok { IfOk result (λ made. IsMadeOfNode IsHtml node image.now made.0.written made.1) }
+fn node_html(alloc: Global, image: &[u8], node: u32) -> Result<(Vec<u8>, Report), Failure>
+    ensures ok { IfOk result (λ made. IsMadeOfNode IsHtml node image.now made.0.items made.1) }
     ensures err { IfErr result (λ failure. FailsOnNode image.now node failure.answer failure.at) }
 {
     let found = find_node(alloc, image, node)?;
-    let writer = html_of(alloc, &found.forest, found.id)?;
-    Ok((writer, found.report))
+    let html = html_of(alloc, &found.forest, found.id)?;
+    Ok((html, found.report))
 }
 
 /// The text of a node.
-fn text_of(alloc: Global, forest: &Forest, id: NodeId) -> Result<String, Failure>
-    ensures ok { IfOk result (λ text. string_bytes text ≡ text_of forest.now id) }
+fn text_of(alloc: Global, forest: &Forest, id: NodeId) -> Result<Vec<u8>, Failure>
+    ensures ok { IfOk result (λ text. text.items ≡ text_of forest.now id) }
     ensures err { IfErr result (λ failure. failure ≡ record { answer = Memory; at = 0 }) }
 {
     match text_content(alloc, forest, id) {
-        Ok(text) => Ok(text),
+        Ok(text) => Ok(text.into_bytes()),
         Err(_) => Err(no_memory()),
     }
 }
 
 /// The text of a node of an image, with the report of the image.
-fn node_text(alloc: Global, image: &[u8], node: u32) -> Result<(String, Report), Failure>
-    ensures ok { IfOk result (λ made. IsMadeOfNode IsTextContent node image.now (string_bytes made.0) made.1) }
+fn node_text(alloc: Global, image: &[u8], node: u32) -> Result<(Vec<u8>, Report), Failure>
+    ensures ok { IfOk result (λ made. IsMadeOfNode IsTextContent node image.now made.0.items made.1) }
     ensures err { IfErr result (λ failure. FailsOnNode image.now node failure.answer failure.at) }
 {
     let found = find_node(alloc, image, node)?;
@@ -138,19 +138,20 @@ fn lines_of(alloc: Global, links: &[Text]) -> Result<String, Failure>
 }
 
 /// The links of the elements in a node, each with a line feed behind it.
-fn links_of(alloc: Global, forest: &Forest, id: NodeId) -> Result<String, Failure>
-    ensures ok { IfOk result (λ text. string_bytes text ≡ link_lines forest.now id) }
+fn links_of(alloc: Global, forest: &Forest, id: NodeId) -> Result<Vec<u8>, Failure>
+    ensures ok { IfOk result (λ text. text.items ≡ link_lines forest.now id) }
     ensures err { IfErr result (λ failure. failure ≡ record { answer = Memory; at = 0 }) }
 {
     let Ok(links) = links_below(alloc, forest, id) else {
         return Err(no_memory());
     };
-    lines_of(alloc, links.as_slice())
+    let lines = lines_of(alloc, links.as_slice())?;
+    Ok(lines.into_bytes())
 }
 
 /// The links in a node of an image, with the report of the image.
-fn node_links(alloc: Global, image: &[u8], node: u32) -> Result<(String, Report), Failure>
-    ensures ok { IfOk result (λ made. IsMadeOfNode IsLinkList node image.now (string_bytes made.0) made.1) }
+fn node_links(alloc: Global, image: &[u8], node: u32) -> Result<(Vec<u8>, Report), Failure>
+    ensures ok { IfOk result (λ made. IsMadeOfNode IsLinkList node image.now made.0.items made.1) }
     ensures err { IfErr result (λ failure. FailsOnNode image.now node failure.answer failure.at) }
 {
     let found = find_node(alloc, image, node)?;
@@ -169,17 +170,7 @@ pub(crate) fn links_by(
     ensures answer { MeansNode IsLinkList node image.now output.old output.new report.new result }
     ensures same_room { length output.new ≡ length output.old }
 {
-    match node_links(alloc, image, node) {
-        Ok(made) => {
-            let text = made.0.as_str().as_bytes();
-            *report = FigReport::new(text.len(), made.1);
-            put_front(output, text)
-        }
-        Err(failure) => {
-            *report = FigReport::nothing(failure.at);
-            failure.answer
-        }
-    }
+    put_made(node_links(alloc, image, node), output, report)
 }
 
 /// Writes a node of an image as HTML to the front of room.
@@ -193,17 +184,7 @@ pub(crate) fn serialize_by(
     ensures answer { MeansNode IsHtml node image.now output.old output.new report.new result }
     ensures same_room { length output.new ≡ length output.old }
 {
-    match node_html(alloc, image, node) {
-        Ok(made) => {
-            let text = made.0.written();
-            *report = FigReport::new(text.len(), made.1);
-            put_front(output, text)
-        }
-        Err(failure) => {
-            *report = FigReport::nothing(failure.at);
-            failure.answer
-        }
-    }
+    put_made(node_html(alloc, image, node), output, report)
 }
 
 /// Writes the text of a node of an image to the front of room.
@@ -217,15 +198,5 @@ pub(crate) fn text_by(
     ensures answer { MeansNode IsTextContent node image.now output.old output.new report.new result }
     ensures same_room { length output.new ≡ length output.old }
 {
-    match node_text(alloc, image, node) {
-        Ok(made) => {
-            let text = made.0.as_str().as_bytes();
-            *report = FigReport::new(text.len(), made.1);
-            put_front(output, text)
-        }
-        Err(failure) => {
-            *report = FigReport::nothing(failure.at);
-            failure.answer
-        }
-    }
+    put_made(node_text(alloc, image, node), output, report)
 }

@@ -3,12 +3,13 @@
 
 ghost use Rattle.std.specs.Prelude.{◌≡◌, length};
 ghost use Rattle.html_ffi.specs.Answers.{IsAnswer};
-ghost use Rattle.html_ffi.specs.Calls.{IsCleanDocument, IsCleanFragment, IsNormalText, IsTreeImage};
+ghost use Rattle.html_ffi.specs.Calls.{IsCleanDocument, IsCleanFragment, IsNormalText};
 ghost use Rattle.html_ffi.specs.Calls.{MeansCleaned, MeansText};
 ghost use Rattle.html_ffi.specs.Decoding.{MeansDecoded};
 ghost use Rattle.html_ffi.specs.Errors.{IsErrorList};
 ghost use Rattle.html_ffi.specs.Images.{IsHtml, IsLinkList, IsTextContent, MeansNode, MeansSelection};
 ghost use Rattle.html_ffi.specs.Policies.{MeansDocumentBy, MeansFragmentBy, MeansReady};
+ghost use Rattle.html_ffi.specs.Trees.{MeansFragmentTree, MeansPlacedTree, MeansTree};
 
 mod answer;
 mod clean;
@@ -17,6 +18,7 @@ mod errors;
 mod image;
 mod normal;
 mod page;
+mod placed;
 mod policy;
 mod report;
 mod room;
@@ -32,11 +34,12 @@ use errors::errors_by;
 use html_standard_references::STANDARD_ROWS;
 use image::{links_by, serialize_by, text_by};
 use normal::normalise_by;
+use placed::placed_tree_by;
 use policy::ready_by;
 use report::{FigCleaned, FigDecoded, FigReport};
 use select::select_by;
 use std::alloc::Global;
-use tree::tree_by;
+use tree::{fragment_tree_by, tree_by};
 
 /// Writes the normal text of `page` to `output`, by the Standard's table of references.
 #[unsafe(no_mangle)]
@@ -75,7 +78,7 @@ pub extern "C" fn fig_tree(
     output: &mut [u8],
     report: &mut FigReport,
 ) -> u32
-    ensures answer { IsAnswer (MeansText IsTreeImage STANDARD_ROWS.now page.now output.old output.new report.new) result }
+    ensures answer { IsAnswer (MeansTree STANDARD_ROWS.now page.now output.old output.new report.new) result }
     ensures same_room { length output.new ≡ length output.old }
 {
     tree_by(alloc, STANDARD_ROWS.as_bytes(), page, output, report).number()
@@ -90,10 +93,51 @@ pub extern "C" fn fig_tree_with(
     output: &mut [u8],
     report: &mut FigReport,
 ) -> u32
-    ensures answer { IsAnswer (MeansText IsTreeImage table.now page.now output.old output.new report.new) result }
+    ensures answer { IsAnswer (MeansTree table.now page.now output.old output.new report.new) result }
     ensures same_room { length output.new ≡ length output.old }
 {
     tree_by(alloc, table, page, output, report).number()
+}
+
+/// Writes the image of the tree that `page` makes in a new element of HTML of the name `context`, as where `innerHTML` is set and scripts
+/// run (HTML Standard, section 13.4), to `output`. It stands in the document's only child, an `html`. By the Standard's table of
+/// references.
+#[unsafe(no_mangle)]
+pub extern "C" fn fig_fragment_tree(
+    alloc: Global,
+    context: &[u8],
+    page: &[u8],
+    output: &mut [u8],
+    report: &mut FigReport,
+) -> u32
+    ensures answer { IsAnswer (MeansFragmentTree STANDARD_ROWS.now context.now page.now output.old output.new report.new) result }
+    ensures same_room { length output.new ≡ length output.old }
+{
+    fragment_tree_by(
+        alloc,
+        STANDARD_ROWS.as_bytes(),
+        context,
+        page,
+        output,
+        report,
+    )
+    .number()
+}
+
+/// Writes the image of `page`'s tree to `output`, and behind it where its nodes begin in the text of the page: in the order of their
+/// numbers the line and the column of each, counted from 1, in four bytes each, the lowest first. Control characters are counted as
+/// parse errors too. By the Standard's table of references.
+#[unsafe(no_mangle)]
+pub extern "C" fn fig_placed_tree(
+    alloc: Global,
+    page: &[u8],
+    output: &mut [u8],
+    report: &mut FigReport,
+) -> u32
+    ensures answer { IsAnswer (MeansPlacedTree STANDARD_ROWS.now page.now output.old output.new report.new) result }
+    ensures same_room { length output.new ≡ length output.old }
+{
+    placed_tree_by(alloc, STANDARD_ROWS.as_bytes(), page, output, report).number()
 }
 
 /// Writes the numbers of the nodes below a node of a tree that the selectors of `selector` select to `output`, by the node's number in the

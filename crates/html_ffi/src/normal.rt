@@ -6,21 +6,21 @@ ghost use Rattle.html_ffi.specs.Calls.{IsNormalText, MeansText};
 use crate::answer::{Answer, Failure};
 use crate::page::{COUNTED, Page};
 use crate::report::FigReport;
-use crate::room::put_front;
+use crate::room::put_made;
 use crate::table::table_of;
 use devices::VecWriter;
 use html_normal::{Report, normalise};
 use std::alloc::Global;
 
 /// A page's normal text, with the report of the page.
-fn normal_text(alloc: Global, file: &[u8], page: &[u8]) -> Result<(VecWriter, Report), Failure>
-    ensures ok { IfOk result (λ made. IsNormalText file.now page.now made.0.written made.1) }
+fn normal_text(alloc: Global, file: &[u8], page: &[u8]) -> Result<(Vec<u8>, Report), Failure>
+    ensures ok { IfOk result (λ made. IsNormalText file.now page.now made.0.items made.1) }
     ensures err { IfErr result (λ failure. Fails file.now page.now failure.answer failure.at) }
 {
     let table = table_of(alloc, file)?;
     let mut writer = VecWriter::new(alloc);
     match normalise(alloc, &mut Page::new(page), &mut writer, table, COUNTED) {
-        Ok(report) => Ok((writer, report)),
+        Ok(report) => Ok((writer.into_bytes(), report)),
         Err(fault) => Err(Failure::from(fault)),
     }
 }
@@ -36,15 +36,5 @@ pub(crate) fn normalise_by(
     ensures answer { MeansText IsNormalText file.now page.now output.old output.new report.new result }
     ensures same_room { length output.new ≡ length output.old }
 {
-    match normal_text(alloc, file, page) {
-        Ok(made) => {
-            let text = made.0.written();
-            *report = FigReport::new(text.len(), made.1);
-            put_front(output, text)
-        }
-        Err(failure) => {
-            *report = FigReport::nothing(failure.at);
-            failure.answer
-        }
-    }
+    put_made(normal_text(alloc, file, page), output, report)
 }

@@ -6,7 +6,7 @@ ghost use Rattle.html_ffi.specs.Images.{FailsToSelect, IsSelected, IsSelection, 
 use crate::answer::{Answer, Failure};
 use crate::image::find_node;
 use crate::report::FigReport;
-use crate::room::put_front;
+use crate::room::put_made;
 use html_forest::{Forest, NodeId};
 use html_normal::Report;
 use html_select::select;
@@ -69,15 +69,5 @@ pub(crate) fn select_by(
     ensures answer { MeansSelection selector.now image.now node output.old output.new report.new result }
     ensures same_room { length output.new ≡ length output.old }
 {
-    match node_selection(alloc, selector, image, node) {
-        Ok(made) => {
-            let bytes = made.0.as_slice();
-            *report = FigReport::new(bytes.len(), made.1);
-            put_front(output, bytes)
-        }
-        Err(failure) => {
-            *report = FigReport::nothing(failure.at);
-            failure.answer
-        }
-    }
+    put_made(node_selection(alloc, selector, image, node), output, report)
 }

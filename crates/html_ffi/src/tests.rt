@@ -3,21 +3,23 @@
 use crate::report::{FigCleaned, FigDecoded, FigReport};
 use crate::{
     fig_clean, fig_clean_by, fig_clean_document, fig_clean_document_by, fig_decode, fig_errors,
-    fig_links, fig_normalise, fig_normalise_with, fig_policy, fig_select, fig_serialize,
-    fig_text_content, fig_tree, fig_tree_with,
+    fig_fragment_tree, fig_links, fig_normalise, fig_normalise_with, fig_placed_tree, fig_policy,
+    fig_select, fig_serialize, fig_text_content, fig_tree, fig_tree_with,
 };
 use std::alloc::Global;
 
 /// The room that each call is given.
 const ROOM: usize = 400;
 
-/// A call whose report is on a page: its table, if it takes one, and the page; or an image and a node, after selectors if it takes some; or
-/// the name of a ready policy.
+/// A call whose report is on a page: its table or its context, if it takes one, and the page; or an image and a node, after selectors if it
+/// takes some; or the name of a ready policy.
 enum Page {
     Normal(&'static [u8]),
     NormalWith(&'static [u8], &'static [u8]),
     Tree(&'static [u8]),
     TreeWith(&'static [u8], &'static [u8]),
+    PlacedTree(&'static [u8]),
+    FragmentTree(&'static [u8], &'static [u8]),
     Select(&'static [u8], &'static [u8], u32),
     Serialize(&'static [u8], u32),
     Text(&'static [u8], u32),
@@ -37,6 +39,24 @@ const IMAGE: &[u8] = b"FIGT\x01\0\0\0\xF0\0\0\0\0\0\0\0\x10\0\0\0\0\0\0\0\0\0\0\
 \x01\x01\0\0\x02\0\0\0\xFF\xFF\xFF\xFF\xFF\xFF\xFF\xFF\xFF\xFF\xFF\xFF\x04\0\0\0\x08\0\0\0\x04\0\0\0\0\0\0\0\0\0\0\0\xFF\xFF\xFF\xFF\0\0\0\0\
 \x01\x01\0\0\x02\0\0\0\xFF\xFF\xFF\xFF\xFF\xFF\xFF\xFF\x03\0\0\0\xFF\xFF\xFF\xFF\x0C\0\0\0\x04\0\0\0\0\0\0\0\0\0\0\0\xFF\xFF\xFF\xFF\0\0\0\0\
 htmlhtmlheadbody";
+
+/// The same and behind it the places of the nodes of `<!DOCTYPE html>` and a line end: in the second line those that its end makes.
+const PLACED: &[u8] = b"FIGT\x01\0\0\0\xF0\0\0\0\0\0\0\0\x10\0\0\0\0\0\0\0\0\0\0\0\0\0\0\0\
+\x09\0\0\0\xFF\xFF\xFF\xFF\x01\0\0\0\x02\0\0\0\xFF\xFF\xFF\xFF\xFF\xFF\xFF\xFF\0\0\0\0\0\0\0\0\0\0\0\0\0\0\0\0\0\0\0\0\0\0\0\0\
+\x0A\0\0\0\0\0\0\0\xFF\xFF\xFF\xFF\xFF\xFF\xFF\xFF\xFF\xFF\xFF\xFF\x02\0\0\0\0\0\0\0\x04\0\0\0\x04\0\0\0\0\0\0\0\x04\0\0\0\0\0\0\0\
+\x01\x01\0\0\0\0\0\0\x03\0\0\0\x04\0\0\0\x01\0\0\0\xFF\xFF\xFF\xFF\x04\0\0\0\x04\0\0\0\0\0\0\0\0\0\0\0\xFF\xFF\xFF\xFF\0\0\0\0\
+\x01\x01\0\0\x02\0\0\0\xFF\xFF\xFF\xFF\xFF\xFF\xFF\xFF\xFF\xFF\xFF\xFF\x04\0\0\0\x08\0\0\0\x04\0\0\0\0\0\0\0\0\0\0\0\xFF\xFF\xFF\xFF\0\0\0\0\
+\x01\x01\0\0\x02\0\0\0\xFF\xFF\xFF\xFF\xFF\xFF\xFF\xFF\x03\0\0\0\xFF\xFF\xFF\xFF\x0C\0\0\0\x04\0\0\0\0\0\0\0\0\0\0\0\xFF\xFF\xFF\xFF\0\0\0\0\
+htmlhtmlheadbody\
+\x01\0\0\0\x01\0\0\0\x01\0\0\0\x01\0\0\0\x02\0\0\0\x01\0\0\0\x02\0\0\0\x01\0\0\0\x02\0\0\0\x01\0\0\0";
+
+/// The image of `a` as a fragment in a `td`: the document; the `td`, in which it is no child; `html`, and the text in it.
+const FRAGMENT: &[u8] = b"FIGT\x01\0\0\0\xC0\0\0\0\0\0\0\0\x07\0\0\0\0\0\0\0\0\0\0\0\0\0\0\0\
+\x09\0\0\0\xFF\xFF\xFF\xFF\x02\0\0\0\x02\0\0\0\xFF\xFF\xFF\xFF\xFF\xFF\xFF\xFF\0\0\0\0\0\0\0\0\0\0\0\0\0\0\0\0\0\0\0\0\0\0\0\0\
+\x01\x01\0\0\xFF\xFF\xFF\xFF\xFF\xFF\xFF\xFF\xFF\xFF\xFF\xFF\xFF\xFF\xFF\xFF\xFF\xFF\xFF\xFF\0\0\0\0\x02\0\0\0\0\0\0\0\0\0\0\0\xFF\xFF\xFF\xFF\0\0\0\0\
+\x01\x01\0\0\0\0\0\0\x03\0\0\0\x03\0\0\0\xFF\xFF\xFF\xFF\xFF\xFF\xFF\xFF\x02\0\0\0\x04\0\0\0\0\0\0\0\0\0\0\0\xFF\xFF\xFF\xFF\0\0\0\0\
+\x03\0\0\0\x02\0\0\0\xFF\xFF\xFF\xFF\xFF\xFF\xFF\xFF\xFF\xFF\xFF\xFF\xFF\xFF\xFF\xFF\x06\0\0\0\x01\0\0\0\0\0\0\0\0\0\0\0\0\0\0\0\0\0\0\0\
+tdhtmla";
 
 const PAGES: &[(Page, Seen)] = &[
     (
@@ -73,6 +93,11 @@ const PAGES: &[(Page, Seen)] = &[
     (Page::Tree(b"<!DOCTYPE html>"), (0, 0, 0, 1, IMAGE)),
     (Page::TreeWith(b"x", b"a"), (17, 1, 0, 0, b"")),
     (Page::Tree(b"a\xC0"), (1, 1, 0, 0, b"")),
+    (Page::FragmentTree(b"td", b"a"), (0, 0, 0, 0, FRAGMENT)),
+    (Page::FragmentTree(b"t\xFF", b"a"), (80, 1, 0, 0, b"")),
+    (Page::FragmentTree(b"td", b"a\xC0"), (1, 1, 0, 0, b"")),
+    (Page::PlacedTree(b"<!DOCTYPE html>\n"), (0, 0, 0, 1, PLACED)),
+    (Page::PlacedTree(b"a\xC0"), (1, 1, 0, 0, b"")),
     (
         Page::Select(b"head + body, :root", IMAGE, 0),
         (0, 0, 0, 1, b"\x02\0\0\0\x04\0\0\0"),
@@ -236,6 +261,10 @@ fn call(alloc: Global, page: &Page, output: &mut [u8], report: &mut FigReport) -
         Page::NormalWith(table, page) => fig_normalise_with(alloc, table, page, output, report),
         Page::Tree(page) => fig_tree(alloc, page, output, report),
         Page::TreeWith(table, page) => fig_tree_with(alloc, table, page, output, report),
+        Page::PlacedTree(page) => fig_placed_tree(alloc, page, output, report),
+        Page::FragmentTree(context, page) => {
+            fig_fragment_tree(alloc, context, page, output, report)
+        }
         Page::Select(selector, image, node) => fig_select(
             alloc, selector, image, *node, output, report,
         ),

@@ -1,12 +1,13 @@
-use Rattle.std.proofs.Common.{refl}
-use Rattle.html_ffi.proofs.Answering.{cleaned-none, cleaned-put}
+use Rattle.std.proofs.Common.{ℕ}
+use Rattle.html_ffi.proofs.Answering.{kept-answered}
+use Rattle.html_ffi.specs.Answers.{Fails}
 use Rattle.html_ffi.specs.Calls.{IsCleanFragment}
 use Rattle.html_ffi.proofs.clean.clean_fragment_by.Goals as goal
 
-pub returns-in-Ok-clause-answer : goal.returns-in-Ok-clause-answer
-returns-in-Ok-clause-answer c = cleaned-put IsCleanFragment c.args.file.now c.args.page.now _ _ _ _ _
-    c.written-text.result.now _ _ c.in-Ok.ensures.ok c.written-text.ensures refl c.new.ensures c.put_front.ensures
-
-pub returns-in-Err-clause-answer : goal.returns-in-Err-clause-answer
-returns-in-Err-clause-answer c = cleaned-none IsCleanFragment c.args.file.now c.args.page.now _ _ _ _
-    c.in-Err.failure.at c.in-Err.ensures.err c.nothing.ensures refl
+pub returns-clause-answer : goal.returns-clause-answer
+returns-clause-answer c =
+    kept-answered IsCleanFragment
+    (λ at answer. Fails c.args.file.now c.args.page.now answer at) c.args.file.now c.args.page.now _ _ _ _
+    (λ (n : ℕ) (w : ⊥). w) (λ (n : ℕ) (w : ⊥). w)
+    c.clean_fragment_text.result (λ it. it.0.written) (λ it. it.1) c.clean_fragment_text.ensures.ok c.clean_fragment_text.ensures.err
+    c.put_kept.ensures.report c.put_kept.ensures.put c.put_kept.ensures.none c.put_kept.ensures.answer c.put_kept.ensures.untouched

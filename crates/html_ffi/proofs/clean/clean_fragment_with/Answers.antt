@@ -1,15 +1,14 @@
-use Rattle.std.proofs.Common.{ℕ, refl}
+use Rattle.std.proofs.Common.{ℕ}
+use Rattle.html_ffi.proofs.Answering.{kept-answered}
 use Rattle.html_clean.specs.Checks.{never_kept_in_fragment}
-use Rattle.html_ffi.proofs.Answering.{kept-none, kept-put}
 use Rattle.html_ffi.specs.Policies.{FailsToClean, IsFragmentKeptBy}
 use Rattle.html_ffi.proofs.clean.clean_fragment_with.Goals as goal
 
-pub returns-in-Ok-clause-answer : goal.returns-in-Ok-clause-answer
-returns-in-Ok-clause-answer c = kept-put (IsFragmentKeptBy c.args.policy.now)
-    (λ at answer. FailsToClean never_kept_in_fragment c.args.file.now c.args.policy.now c.args.page.now answer at) c.args.file.now c.args.page.now
-    _ _ _ _ _ c.written-text.result.now _ _ c.in-Ok.ensures.ok c.written-text.ensures refl c.new.ensures c.put_front.ensures
-
-pub returns-in-Err-clause-answer : goal.returns-in-Err-clause-answer
-returns-in-Err-clause-answer c = kept-none (IsFragmentKeptBy c.args.policy.now)
-    (λ at answer. FailsToClean never_kept_in_fragment c.args.file.now c.args.policy.now c.args.page.now answer at) c.args.file.now c.args.page.now
-    _ _ _ _ (λ (n : ℕ) (w : ⊥). w) (λ (n : ℕ) (w : ⊥). w) c.in-Err.failure.at c.in-Err.ensures.err c.nothing.ensures refl
+pub returns-clause-answer : goal.returns-clause-answer
+returns-clause-answer c =
+    kept-answered (IsFragmentKeptBy c.args.policy.now)
+    (λ at answer. FailsToClean never_kept_in_fragment c.args.file.now c.args.policy.now c.args.page.now answer at)
+    c.args.file.now c.args.page.now _ _ _ _
+    (λ (n : ℕ) (w : ⊥). w) (λ (n : ℕ) (w : ⊥). w)
+    c.fragment_kept_by.result (λ it. it.0.written) (λ it. it.1) c.fragment_kept_by.ensures.ok c.fragment_kept_by.ensures.err
+    c.put_kept.ensures.report c.put_kept.ensures.put c.put_kept.ensures.none c.put_kept.ensures.answer c.put_kept.ensures.untouched

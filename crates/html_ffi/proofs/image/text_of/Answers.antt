@@ -5,4 +5,5 @@ use Rattle.html_ffi.proofs.image.text_of.Goals as goal
 
 pub returns-in-Ok-clause-ok : goal.returns-in-Ok-clause-ok
 returns-in-Ok-clause-ok c =
-    sym (encodes-chars (string_bytes c.in-Ok.text) (IsUtf8-string_bytes c.in-Ok.text)) ∙ ap encode_utf8_all c.in-Ok.ensures.ok
+    c.into_bytes.ensures ∙ sym (encodes-chars (string_bytes c.in-Ok.text) (IsUtf8-string_bytes c.in-Ok.text))
+    ∙ ap encode_utf8_all c.in-Ok.ensures.ok

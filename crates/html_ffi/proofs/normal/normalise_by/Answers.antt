@@ -1,15 +1,13 @@
-use Rattle.std.proofs.Common.{ℕ, refl}
-use Rattle.html_ffi.proofs.Answering.{text-none, text-put}
+use Rattle.std.proofs.Common.{ℕ}
+use Rattle.html_ffi.proofs.Answering.{text-answered}
 use Rattle.html_ffi.specs.Answers.{Fails}
 use Rattle.html_ffi.specs.Calls.{IsNormalText}
 use Rattle.html_ffi.proofs.normal.normalise_by.Goals as goal
 
-pub returns-in-Ok-clause-answer : goal.returns-in-Ok-clause-answer
-returns-in-Ok-clause-answer c = text-put IsNormalText (λ at answer. Fails c.args.file.now c.args.page.now answer at)
-    c.args.file.now c.args.page.now _ _ _ _ _
-    c.written-text.result.now _ _ c.in-Ok.ensures.ok c.written-text.ensures refl c.new.ensures c.put_front.ensures
-
-pub returns-in-Err-clause-answer : goal.returns-in-Err-clause-answer
-returns-in-Err-clause-answer c = text-none IsNormalText (λ at answer. Fails c.args.file.now c.args.page.now answer at)
-    c.args.file.now c.args.page.now _ _ _ _ (λ (n : ℕ) (w : ⊥). w) (λ (n : ℕ) (w : ⊥). w) c.in-Err.failure.at
-    c.in-Err.ensures.err c.nothing.ensures refl
+pub returns-clause-answer : goal.returns-clause-answer
+returns-clause-answer c =
+    text-answered IsNormalText
+    (λ at answer. Fails c.args.file.now c.args.page.now answer at) c.args.file.now c.args.page.now _ _ _ _
+    (λ (n : ℕ) (w : ⊥). w) (λ (n : ℕ) (w : ⊥). w)
+    c.normal_text.result (λ it. it.0.items) (λ it. it.1) c.normal_text.ensures.ok c.normal_text.ensures.err
+    c.put_made.ensures.report c.put_made.ensures.put c.put_made.ensures.none c.put_made.ensures.answer c.put_made.ensures.untouched

@@ -1,4 +1,4 @@
-use Rattle.html_ffi.proofs.Making.{image-failed}
+use Rattle.html_ffi.proofs.Trees.{image-failed}
 use Rattle.html_ffi.proofs.tree.image_bytes.Goals as goal
 
 pub returns-in-Err-clause-err : goal.returns-in-Err-clause-err

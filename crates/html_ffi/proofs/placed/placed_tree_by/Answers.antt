@@ -1,0 +1,13 @@
+use Rattle.std.proofs.Common.{ℕ}
+use Rattle.html_ffi.proofs.Answering.{text-answered}
+use Rattle.html_ffi.specs.Answers.{FailsAsTree}
+use Rattle.html_ffi.specs.Trees.{IsNotedBy, IsPlacedImage}
+use Rattle.html_ffi.proofs.placed.placed_tree_by.Goals as goal
+
+pub returns-clause-answer : goal.returns-clause-answer
+returns-clause-answer c =
+    text-answered IsPlacedImage
+    (λ at answer. FailsAsTree IsNotedBy c.args.file.now c.args.page.now answer at) c.args.file.now c.args.page.now _ _ _ _
+    (λ (n : ℕ) (w : ⊥). w) (λ (n : ℕ) (w : ⊥). w)
+    c.placed_image.result (λ it. it.0.items) (λ it. it.1) c.placed_image.ensures.ok c.placed_image.ensures.err
+    c.put_made.ensures.report c.put_made.ensures.put c.put_made.ensures.none c.put_made.ensures.answer c.put_made.ensures.untouched

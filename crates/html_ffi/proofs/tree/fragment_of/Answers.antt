@@ -1,0 +1,16 @@
+use Rattle.std.proofs.Common.{Some, ap, refl}
+use Rattle.html_normal.specs.Normal.{IsInputFault}
+use Rattle.html_ffi.proofs.Making.{page-failed}
+use Rattle.html_ffi.proofs.Trees.{fragment-made}
+use Rattle.html_ffi.proofs.tree.fragment_of.Goals as goal
+
+pub returns-in-Ok-clause-ok : goal.returns-in-Ok-clause-ok
+returns-in-Ok-clause-ok c = fragment-made c.args.context.now c.args.table c.args.page.now _ _ c.in_ok-name.name c.in_ok-name.ensures.ok
+    (c.in-Ok.ensures.ok c.args.page.now (ap Some c.new.ensures))
+
+pub returns-in-Err-clause-err : goal.returns-in-Err-clause-err
+returns-in-Err-clause-err c file =
+    page-failed file c.args.page.now
+    (IsInputFault ⊥ (Some c.new.result.left.now) (Some c.read_fragment.new.reader.left.now)) c.in-Err.fault c.from.result
+    (λ at is. (is c.args.page.now c.read_fragment.new.reader.left.now (ap Some c.new.ensures) refl).front)
+    c.from.ensures c.in-Err.ensures.err

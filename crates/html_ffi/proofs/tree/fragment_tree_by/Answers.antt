@@ -1,0 +1,12 @@
+use Rattle.std.proofs.Common.{ℕ}
+use Rattle.html_ffi.proofs.Answering.{text-answered}
+use Rattle.html_ffi.specs.Trees.{FailsAsFragment, IsFragmentIn, IsTreeImage}
+use Rattle.html_ffi.proofs.tree.fragment_tree_by.Goals as goal
+
+pub returns-clause-answer : goal.returns-clause-answer
+returns-clause-answer c =
+    text-answered (IsTreeImage (IsFragmentIn c.args.context.now))
+    (λ at answer. FailsAsFragment c.args.context.now c.args.file.now c.args.page.now answer at) c.args.file.now c.args.page.now _ _ _ _
+    (λ (n : ℕ) (w : ⊥). w) (λ (n : ℕ) (w : ⊥). w)
+    c.fragment_image.result (λ it. it.0.items) (λ it. it.1) c.fragment_image.ensures.ok c.fragment_image.ensures.err
+    c.put_made.ensures.report c.put_made.ensures.put c.put_made.ensures.none c.put_made.ensures.answer c.put_made.ensures.untouched
