@@ -13,7 +13,7 @@ use Rattle.memchr.specs.Find.{IsFirstByte, Passes, is_byte}
 use Rattle.html_tokens.specs.Comments.{comment_end}
 use Rattle.html_tokens.specs.Characters.{begins, begins_by}
 use Rattle.html_faithful.specs.Forms.{has_no_end, is_comment_text, is_kept}
-use Rattle.html_faithful_judge.specs.Texts.{is_calm, lacks}
+use Rattle.html_faithful_judge.specs.Texts.{lacks}
 
 is-byte : (a c : ℕ) → nat_eq c a ≡ true → is_byte a c ≡ true
 is-byte a c h = grind (arith, nat_tests, h)
@@ -118,16 +118,3 @@ begins-so (c ∷ d ∷ cs) h =
 pub with-kept : (text : List ℕ) (kept : Bool) → kept ≡ is_kept text → kept ≡ true → lacks 62 text ≡ true → true ≡ is_comment_text text
 with-kept text kept is h lacking =
     sym (rw (sym is ∙ h, none-in text lacking, begins-so text lacking) refl)
-
--- RAW TEXT
-
--- raw text without `<` is calm
-pub lacking-calm : (cs : List ℕ) → lacks 60 cs ≡ true → is_calm false cs ≡ true
-lacking-calm [] h = refl
-lacking-calm (c ∷ cs) h =
-    let parts = and_parts (not (nat_eq c 60)) (lacks 60 cs) h in
-    by (nat_eq c 60) parts.0 (lacking-calm cs parts.1)
-  where
-    by : (b : Bool) → not b ≡ true → is_calm false cs ≡ true → is_calm b cs ≡ true
-    by false e rest = rest
-    by true e rest = absurd cc

@@ -6,7 +6,7 @@ mod Foreign
 mod MadeByRows
 mod Turns
 mod Words
-mod CalmTexts
+mod RawBytes
 mod Lacking
 mod Marks
 pub mod LoweredNames

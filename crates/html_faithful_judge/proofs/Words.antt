@@ -1,6 +1,6 @@
 -- Words at the front of characters.
 use Rattle.std.proofs.Common.{◌≡◌, ℕ, zero, suc, ◌<◌, ◌≤◌, false, List, [], ◌∷◌, length, refl, arith, drop}
-use Rattle.html_tokens.specs.Characters.{begins, begins_name}
+use Rattle.html_tokens.specs.Characters.{begins}
 
 begins-nil : (w : List ℕ) (i : ℕ) → i < length w → begins (drop i w) [] ≡ false
 begins-nil [] i l = absurd (omega arith)
@@ -14,16 +14,3 @@ begins-short (x ∷ w) [] zero l h = refl
 begins-short (x ∷ w) (c ∷ t) zero l h = absurd (omega arith)
 begins-short (x ∷ w) [] (suc i) l h = begins-nil w i (omega arith)
 begins-short (x ∷ w) (c ∷ t) (suc i) l h = begins-short w t i (omega arith) (omega arith)
-
-begins_name-nil : (w : List ℕ) (i : ℕ) → i < length w → begins_name (drop i w) [] ≡ false
-begins_name-nil [] i l = absurd (omega arith)
-begins_name-nil (x ∷ w) zero l = refl
-begins_name-nil (x ∷ w) (suc i) l = begins_name-nil w i (omega arith)
-
--- nor does a name
-pub begins_name-short : (w t : List ℕ) (i : ℕ) → i < length w → length t ≤ i → begins_name (drop i w) (drop i t) ≡ false
-begins_name-short [] t i l h = absurd (omega arith)
-begins_name-short (x ∷ w) [] zero l h = refl
-begins_name-short (x ∷ w) (c ∷ t) zero l h = absurd (omega arith)
-begins_name-short (x ∷ w) [] (suc i) l h = begins_name-nil w i (omega arith)
-begins_name-short (x ∷ w) (c ∷ t) (suc i) l h = begins_name-short w t i (omega arith) (omega arith)

@@ -5,3 +5,4 @@ pub mod Rows
 pub mod Spots
 pub mod Texts
 pub mod Tokens
+pub mod Raw

@@ -1,10 +1,8 @@
--- Names and attributes as they are emitted, and raw text that nothing ends.
+-- Names and attributes as they are emitted, and texts.
 use Rattle.std.specs.Prelude.{ℕ, Bool, true, false, ◌&&◌, ◌||◌, not, nat_eq, List, [], ◌∷◌, map, Option, Some, None}
 use Rattle.std.specs.Char.{is_ascii_lowercase}
 use Rattle.std.specs.List.{list_all}
 use Rattle.markup.specs.declared.attributes.Attribute.{Attribute}
-use Rattle.html_tokens.specs.declared.states.RawKind.{RawKind}
-use Rattle.html_tokens.specs.declared.states.RawKind.TheVariants.{Rawtext, ScriptData}
 use Rattle.html_rules.specs.Choice.{choose}
 use Rattle.html_faithful.specs.Forms.{are_told, is_attribute_name, is_kept, told_attribute}
 
@@ -24,14 +22,3 @@ emitted_attributes attributes = choose (are_told (map told_attribute attributes)
 -- a text without a character
 abbrev pub lacks : ℕ → List ℕ → Bool
 lacks a text = list_all (λ c. not (nat_eq c a)) text
-
--- a text in which neither `/` nor `!` follows a `<`, so that no end tag and no escape begins in it; `after` a `<`
-abbrev pub is_calm : Bool → List ℕ → Bool
-is_calm after [] = true
-is_calm after (c ∷ cs) = not (after && (nat_eq c 47 || nat_eq 33 c)) && is_calm (nat_eq c 60) cs
-
--- raw text that is not escaped
-abbrev pub is_outer : RawKind → Bool
-is_outer Rawtext = true
-is_outer ScriptData = true
-is_outer kind = false

@@ -11,6 +11,7 @@ pub mod made;
 mod making;
 mod names;
 pub mod open;
+mod raw;
 mod rows;
 pub mod spot;
 mod texts;

@@ -1,6 +1,0 @@
-use Rattle.std.specs.Str.{chars}
-use Rattle.html_faithful_judge.proofs.Turns.{script-letters}
-use Rattle.html_faithful_judge.proofs.texts.is_raw_text.Goals as goal
-
-pub is_kept_raw-requires-then-is_script : goal.is_kept_raw-requires-then-is_script
-is_kept_raw-requires-then-is_script c = script-letters (chars c.args.name.now) _ c.is_script.ensures c.if-is_script.true
