@@ -1,6 +1,6 @@
 -- Raw text is decided by its bytes: what ends it, and what changes how it goes on, is of ASCII, and no `<` is in such a word.
 use lib.Utf8.{encode, encodes}
-use Rattle.std.proofs.Common.{◌≡◌, ◌∙◌, ◌<◌, ◌≤◌, ◌+◌, ◌-◌, ℕ, zero, suc, Bool, true, false, List, [], ◌∷◌, ◌++◌, length, refl, sym, ap, arith}
+use Rattle.std.proofs.Common.{◌≡◌, ◌∙◌, ◌<◌, ◌≤◌, ◌-◌, ℕ, zero, suc, Bool, true, false, List, [], ◌∷◌, ◌++◌, length, refl, sym, ap, arith}
 use Rattle.std.proofs.Common.{append-nil, drop, get_or, inl, inr, map, take}
 use Rattle.std.specs.Prelude.{◌&&◌, ◌||◌, not, codes, nat_eq, nat_lt, Option, Some, None, slice_index}
 use Rattle.std.specs.Char.{is_ascii_alphabetic, to_ascii_lowercase}
