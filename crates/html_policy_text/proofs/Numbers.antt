@@ -19,7 +19,7 @@ use Rattle.html_policy_text.specs.Written.{is_solid, is_word}
 abbrev IsRead : ℕ → List ℕ → Type 0
 IsRead n ds = (list_all is_ascii_digit ds ≡ true) × (n ≤ greatest → fold with_digit 0 ds ≡ n)
 
-is-digit : (n : ℕ) → n < 10 → is_ascii_digit (48 + n) ≡ true
+pub is-digit : (n : ℕ) → n < 10 → is_ascii_digit (48 + n) ≡ true
 is-digit n h = grind arith
 
 next-digit : (n d k : ℕ) → n * 10 + d ≡ k → k ≤ greatest → with_digit n (48 + d) ≡ k
@@ -28,7 +28,7 @@ next-digit n d k e h = omega arith
 one-digit : (n : ℕ) → n < 10 → IsRead n ((48 + n) ∷ [])
 one-digit n h = (and_from (is_ascii_digit (48 + n)) true (is-digit n h) refl, λ k. next-digit 0 n n (omega arith) k)
 
-parts-of : (n : ℕ) → ((n / 10) * 10 + n % 10 ≡ n) × (n % 10 < 10)
+pub parts-of : (n : ℕ) → ((n / 10) * 10 + n % 10 ≡ n) × (n % 10 < 10)
 parts-of n = (omega arith, omega arith)
 
 one-more : (n : ℕ) (ds : List ℕ) → 10 ≤ n → IsRead (n / 10) ds → IsRead n (ds ++ (48 + n % 10) ∷ [])
@@ -51,16 +51,16 @@ number-back n h =
     let read = digits-read n h in
     ap (λ b. cond b (Some (fold with_digit 0 (decimal n))) None) read.0 ∙ ap Some (read.1 (grind arith))
 
-digit-solid : (c : ℕ) → is_ascii_digit c ≡ true → is_solid c ≡ true
+pub digit-solid : (c : ℕ) → is_ascii_digit c ≡ true → is_solid c ≡ true
 digit-solid c h = grind arith
 
-digits-solid : (cs : List ℕ) → list_all is_ascii_digit cs ≡ true → list_all is_solid cs ≡ true
+pub digits-solid : (cs : List ℕ) → list_all is_ascii_digit cs ≡ true → list_all is_solid cs ≡ true
 digits-solid [] h = refl
 digits-solid (c ∷ cs) h =
     let both = and_parts (is_ascii_digit c) (list_all is_ascii_digit cs) h in
     and_from (is_solid c) (list_all is_solid cs) (digit-solid c both.0) (digits-solid cs both.1)
 
-some-length : (cs : List ℕ) → 0 < length cs → not (length cs == 0) ≡ true
+pub some-length : (cs : List ℕ) → 0 < length cs → not (length cs == 0) ≡ true
 some-length cs h = grind arith
 
 -- the digits of a number are a word of a line

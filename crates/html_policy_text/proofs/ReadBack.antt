@@ -50,7 +50,7 @@ words-spaced (w ∷ ws) word h hs =
     ∙ ap (λ (l : List (List ℕ)). word ∷ l) (words-run [] w (spaced ws) (word-solid w both.0) ∙ words-spaced ws w both.0 both.1)
 
 -- a line has the words that were written
-line-words : (keyword : List ℕ) (words : List (List ℕ)) → is_word keyword ≡ true → list_all is_word words ≡ true
+pub line-words : (keyword : List ℕ) (words : List (List ℕ)) → is_word keyword ≡ true → list_all is_word words ≡ true
     → words_of (keyword ++ spaced words) ≡ keyword ∷ words
 line-words keyword words h hs = words-run [] keyword (spaced words) (word-solid keyword h) ∙ words-spaced words keyword h hs
 
@@ -76,7 +76,7 @@ words-are (c ∷ cs) word h = by (is_ascii_whitespace c) refl (λ w k. words-are
 
 -- LINES
 
-abbrev IsNoFeed : ℕ → Type 0
+abbrev pub IsNoFeed : ℕ → Type 0
 IsNoFeed c = is_feed c ≡ false
 
 no-feed : (c : ℕ) → is_solid c ≡ true → is_feed c ≡ false
@@ -88,13 +88,13 @@ no-feed c h = by (is_feed c) refl where
       let clash : true ≡ false = sym h ∙ ap is_solid is in
       absurd cc
 
-solid-feeds : (cs : List ℕ) → list_all is_solid cs ≡ true → All IsNoFeed cs
+pub solid-feeds : (cs : List ℕ) → list_all is_solid cs ≡ true → All IsNoFeed cs
 solid-feeds [] h = All-nil IsNoFeed
 solid-feeds (c ∷ cs) h =
     let both = and_parts (is_solid c) (list_all is_solid cs) h in
     All-cons IsNoFeed c cs (no-feed c both.0) (solid-feeds cs both.1)
 
-spaced-feeds : (words : List (List ℕ)) → list_all is_word words ≡ true → All IsNoFeed (spaced words)
+pub spaced-feeds : (words : List (List ℕ)) → list_all is_word words ≡ true → All IsNoFeed (spaced words)
 spaced-feeds [] h = All-nil IsNoFeed
 spaced-feeds (w ∷ ws) h =
     let both = and_parts (is_word w) (list_all is_word ws) h in

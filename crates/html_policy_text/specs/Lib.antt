@@ -4,3 +4,4 @@ pub mod Rows
 pub mod PolicyFile
 pub mod ReadyRules
 pub mod Written
+pub mod Bounded

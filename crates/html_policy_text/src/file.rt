@@ -49,7 +49,7 @@ impl From<TextFault> for PolicyFileFault {
 }
 
 /// Why a text is no policy, as a fault of the file that has it.
-fn line_fault(fault: PolicyFault) -> PolicyFileFault
+pub(crate) fn line_fault(fault: PolicyFault) -> PolicyFileFault
     ensures { result ≡ line_fault_of fault }
 {
     match fault {

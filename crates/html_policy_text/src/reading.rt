@@ -27,7 +27,7 @@ pub enum PolicyFault {
 }
 
 /// A policy that keeps nothing.
-fn nothing(alloc: Global) -> Policy
+pub(crate) fn nothing(alloc: Global) -> Policy
     ensures { rules_of result ≡ no_rules }
 {
     Policy {
@@ -45,7 +45,7 @@ fn nothing(alloc: Global) -> Policy
 }
 
 /// The lines of a text.
-fn lines_of(alloc: Global, text: &str) -> Result<Vec<&str>, AllocError>
+pub(crate) fn lines_of(alloc: Global, text: &str) -> Result<Vec<&str>, AllocError>
     ensures { IfOk result (λ lines. map (λ line. chars line.now) lines.items ≡ lines_of (chars text.now)) }
 {
     text.split('\n').collect(alloc)
@@ -62,7 +62,7 @@ fn apply_text(alloc: Global, policy: &mut Policy, line: &str) -> Result<(), Rule
 }
 
 /// What a line that isn't taken says of the text.
-fn fault_at(line: usize, fault: RuleFault) -> PolicyFault
+pub(crate) fn fault_at(line: usize, fault: RuleFault) -> PolicyFault
     ensures { result ≡ fault_at line fault }
 {
     match fault {

@@ -70,9 +70,13 @@ pub enum Problem {
 }
 
 /// Why a rule isn't taken.
-#[derive(Clone, Copy, Debug, PartialEq, Eq)]
-pub(crate) enum RuleFault {
+#[derive(Clone, Copy, Debug, PartialEq, Eq, Error)]
+pub enum RuleFault {
+    /// Out of memory.
+    #[error("out of memory")]
     Memory,
+    /// The rule is refused.
+    #[error("{0}")]
     Problem(Problem),
 }
 

@@ -30,7 +30,7 @@ pub enum WriteFault {
 }
 
 /// Writes a space, and a word.
-fn push_spaced(text: &mut Text, word: &str) -> Result<(), ParseFault>
+pub(crate) fn push_spaced(text: &mut Text, word: &str) -> Result<(), ParseFault>
     ensures ok { OnOk result (text.new ≡ text.old ++ 32 ∷ chars word.now) }
     ensures fault { IfErr result (λ fault. fault ≡ Memory) }
 {
