@@ -118,8 +118,8 @@ bound-said keyword bound n b is word h none = by (n == no_bound) refl where
   by true e =
       subst (λ (bounds : Bounds). Says [] b (record b { bounds = bounds }))
       (sym none ∙ ap (λ (m : ℕ). with_bound bound m b.bounds) (sym (eqb-true n no_bound e))) (nothing-said b)
-  by false e = line-said keyword (decimal n ∷ []) b (record b { bounds = with_bound bound n b.bounds }) word (and_from (is_word (decimal n)) true (decimal-is n h) refl)
-      (bound-taken keyword bound n b is h)
+  by false e = line-said keyword (decimal n ∷ []) b (record b { bounds = with_bound bound n b.bounds }) word
+      (and_from (is_word (decimal n)) true (decimal-is n h) refl) (bound-taken keyword bound n b is h)
 
 bounds-said : (bounds : Bounds) → AreInRange bounds → Says (bounds_text bounds) nothing_said (record nothing_said { bounds = bounds })
 bounds-said bounds are =
@@ -146,7 +146,8 @@ named-refused word name words r s same refused e =
 no-rule : (word : List ℕ) (words : List (List ℕ)) (r s : Rules) (bound : Bound) → bound_named word ≡ Some bound
     → with_line r (word ∷ words) ≡ Ok s → ⊥
 no-rule word words r s bound is e =
-    by (bytes_eq word (codes "max-depth")) (bytes_eq word (codes "max-elements")) (bytes_eq word (codes "max-bytes")) refl refl refl is where
+    by (bytes_eq word (codes "max-depth")) (bytes_eq word (codes "max-elements")) (bytes_eq word (codes "max-bytes")) refl refl refl
+    is where
       by : (b1 b2 b3 : Bool) → bytes_eq word (codes "max-depth") ≡ b1 → bytes_eq word (codes "max-elements") ≡ b2
           → bytes_eq word (codes "max-bytes") ≡ b3
           → cond b1 (Some Depth) (cond b2 (Some Elements) (cond b3 (Some Bytes) None)) ≡ Some bound → ⊥

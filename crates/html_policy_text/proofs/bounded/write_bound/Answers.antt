@@ -18,7 +18,8 @@ returns-clause-ok c =
     let keyword = chars c.args.keyword.now in
     let digits = decimal c.args.n in
     let other : (c.args.n == no_bound) ≡ false = grind (arith, c.if-n.false) in
-    let is = digits-chars c.args.n c.as_str.result.now (omega (arith, c.ranges.n.fits)) (c.as_str.ensures.value ∙ c.in_ok-digits.ensures.ok) in
+    let is = digits-chars c.args.n c.as_str.result.now (omega (arith, c.ranges.n.fits))
+    (c.as_str.ensures.value ∙ c.in_ok-digits.ensures.ok) in
     on-ok c.push.result _ _ c.push.ensures.ok (λ ok. ok
     ∙ (ap (λ (t : List ℕ). t ++ 10 ∷ []) (c.in_ok-push_spaced.ensures.ok
     ∙ (ap (λ (word : List ℕ). c.push_str.new.self ++ 32 ∷ word) is
