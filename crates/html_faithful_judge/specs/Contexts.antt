@@ -1,5 +1,5 @@
 -- What open elements are asked together.
-use Rattle.std.specs.Prelude.{ℕ, Bool, true, false, ◌||◌, ◌&&◌, not, List, [], ◌∷◌, ◌++◌, Some, None, codes}
+use Rattle.std.specs.Prelude.{ℕ, Bool, true, false, ◌||◌, ◌&&◌, not, List, [], ◌∷◌, ◌++◌, Some, None, codes, length}
 use Rattle.std.specs.Str.{bytes_eq}
 use Rattle.html_rules.specs.Choice.{choose}
 use Rattle.html_rules.specs.State.{Open, is_in}
@@ -7,6 +7,7 @@ use Rattle.html_rules.specs.declared.tag_set.TagSet.{TagSet}
 use Rattle.html_rules.specs.declared.tag_set.TagSet.TheVariants as set
 use Rattle.html_faithful.specs.Spots.{is_marked}
 use Rattle.html_faithful_judge.specs.declared.context.Context.{Context}
+use Rattle.html_faithful_judge.specs.declared.open.Kept.{Kept}
 
 -- elements of the stack are numbered as they were opened
 abbrev pub number_of : ℕ → ℕ
@@ -50,7 +51,20 @@ context_of [] = record {
 }
 context_of (x ∷ xs) = with_element x (context_of xs)
 
--- what the open elements up to each are asked together, the root first
-abbrev pub contexts_of : List Open → List Context
-contexts_of [] = []
-contexts_of (x ∷ xs) = contexts_of xs ++ context_of (x ∷ xs) ∷ []
+-- whether an element changes which form or link is open
+abbrev pub is_form_or_link : Open → Bool
+is_form_or_link x = is_in set.Form x || is_marked x || is_in set.A x
+
+-- whether an element changes which items would be closed
+abbrev pub is_item_or_bar : Open → Bool
+is_item_or_bar x = is_in set.Li x || is_in set.DdDt x || bars_items x
+
+-- whether an element changes nothing of it, once one is open that may not be open where the body ends
+abbrev pub is_usual : Open → Bool
+is_usual x = not (is_form_or_link x) && not (is_item_or_bar x)
+
+-- what is kept of it, the root first: what those up to an element are asked that changes it
+abbrev pub kept_of : List Open → List Kept
+kept_of [] = []
+kept_of (x ∷ xs) = choose (not (context_of xs).ends_with_body && is_usual x) (λ _. kept_of xs)
+    (λ _. kept_of xs ++ record { below = length xs; context = context_of (x ∷ xs) } ∷ [])

@@ -171,10 +171,7 @@ impl Made {
     pub(crate) fn reset_mode(&mut self)
         ensures { (t : Token) → does table.ResetMode t (made_as self.old) ≡ Some (made_as self.new) }
     {
-        self.spot.mode = self
-            .spot
-            .as_stack()
-            .reset_insertion_mode(self.spot.has_head, None);
+        self.spot.reset_mode();
     }
     /// The frameset-ok flag is cleared, unless the token's text is white space.
     pub(crate) fn frameset_not_ok_unless_white(&mut self, token: &NamedToken<'_>)

@@ -3,7 +3,7 @@ ghost use Rattle.std.specs.Prelude.{◌≡◌, ℕ, [], codes};
 ghost use Rattle.std.specs.Str.{bytes_eq, chars};
 ghost use Rattle.html_stack.specs.Stacks.{open_of};
 ghost use Rattle.html_faithful.specs.Spots.{is_marked};
-ghost use Rattle.html_faithful_judge.specs.Contexts.{bars_items, closes_with, context_of, is_listed_a, number_of, with_element};
+ghost use Rattle.html_faithful_judge.specs.Contexts.{bars_items, closes_with, context_of, is_form_or_link, is_item_or_bar, is_listed_a, is_usual, number_of, with_element};
 
 use html_forest::NodeId;
 use html_rules::TagSet;
@@ -57,6 +57,39 @@ pub(crate) fn bars_items(element: &OpenElement<NodeId>) -> bool
     ensures { (node : ℕ → ℕ) → result ≡ bars_items (open_of node element.now) }
 {
     element.name.is_in(TagSet::SpecialTag) && !element.name.is_in(TagSet::AddressDivP)
+}
+
+/// Whether an element changes which form or link is open.
+fn is_form_or_link(element: &OpenElement<NodeId>) -> bool
+    ensures { result ≡ is_form_or_link (open_of number_of element.now) }
+{
+    if element.name.is_in(TagSet::Form) {
+        true
+    } else if is_marked(element) {
+        true
+    } else {
+        element.name.is_in(TagSet::A)
+    }
+}
+
+/// Whether an element changes which items would be closed.
+fn is_item_or_bar(element: &OpenElement<NodeId>) -> bool
+    ensures { result ≡ is_item_or_bar (open_of number_of element.now) }
+{
+    if element.name.is_in(TagSet::Li) {
+        true
+    } else if element.name.is_in(TagSet::DdDt) {
+        true
+    } else {
+        bars_items(element)
+    }
+}
+
+/// Whether an element changes nothing of what open elements are asked, but for whether all may be open where the body ends.
+pub(crate) fn is_usual(element: &OpenElement<NodeId>) -> bool
+    ensures { result ≡ is_usual (open_of number_of element.now) }
+{
+    !is_form_or_link(element) && !is_item_or_bar(element)
 }
 
 /// Whether an item of a set would be closed with one more element open, where one would be before or not.

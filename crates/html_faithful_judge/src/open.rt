@@ -1,12 +1,12 @@
 //! The open elements of a spot.
-ghost use Rattle.std.specs.Prelude.{◌≡◌, ◌∷◌, ◌++◌, [], List, IfErr, MatchOption, OnErr, OnOk};
+ghost use Rattle.std.specs.Prelude.{◌≡◌, ◌≤◌, ◌∷◌, [], List, IfErr, MatchOption, OnErr, OnOk, length, take};
 ghost use Rattle.markup.specs.declared.fault.ParseFault.TheVariants.{Memory};
 ghost use Rattle.html_rules.specs.Stack.{without_current};
 ghost use Rattle.html_rules.specs.State.{Open};
 ghost use Rattle.html_stack.specs.Stacks.{open_of};
-ghost use Rattle.html_faithful_judge.specs.Contexts.{context_of, contexts_of, number_of};
+ghost use Rattle.html_faithful_judge.specs.Contexts.{context_of, kept_of, number_of};
 
-use crate::context::Context;
+use crate::context::{Context, is_usual};
 use html_forest::{Forest, NodeId};
 use html_rules::InsertionMode;
 use html_stack::{OpenElement, Stack};
@@ -14,51 +14,91 @@ use markup::ParseFault;
 use std::alloc::Global;
 use std::marker::Model;
 
-/// The open elements and the template insertion modes. What the open elements up to each are asked together is kept beside it, so that a
-/// token which asks for that does not walk over all of them. A contract sees the stack.
+/// What the open elements up to one are asked together.
+#[derive(Clone, Copy)]
+pub(crate) struct Kept {
+    /// How many are open below it.
+    pub below: usize,
+    /// What they are asked.
+    pub context: Context,
+}
+
+/// The open elements and the template insertion modes. What the open elements up to one are asked together is kept beside it where that
+/// differs from what those below it are, so that a token which asks for that does not walk over all of them. A contract sees the stack.
 #[derive(Drop)]
 pub struct OpenElements {
     stack: Stack<Forest>,
-    // As many as elements are open.
-    contexts: Vec<Context>,
+    contexts: Vec<Kept>,
 }
 
 impl Model for OpenElements {
     ghost use Rattle.std.specs.Prelude.{◌≡◌};
     ghost use Rattle.html_stack.specs.Stacks.{Stacked};
-    ghost use Rattle.html_faithful_judge.specs.Contexts.{contexts_of};
+    ghost use Rattle.html_faithful_judge.specs.Contexts.{kept_of};
 
     ghost Value = { Stacked };
 
     ghost view = { λ s. s.stack };
 
-    ghost invariant = { λ s. s.contexts.items ≡ contexts_of s.stack.open_elems };
+    ghost invariant = { λ s. s.contexts.items ≡ kept_of s.stack.open_elems };
 }
 
-/// What all open elements are asked together, by what those below the current node are.
-fn context_on(contexts: &[Context], stack: &Stack<Forest>) -> Context
-    ensures { (x : Open) (xs : List Open) → stack.now.open_elems ≡ x ∷ xs → contexts.now ≡ contexts_of xs → result ≡ context_of (x ∷ xs) }
+/// What open elements are asked together, by what is kept.
+fn context_in(contexts: &[Kept]) -> Context
+    ensures { (xs : List Open) → contexts.now ≡ kept_of xs → result ≡ context_of xs }
 {
-    let below = match contexts.last() {
-        Some(context) => *context,
+    match contexts.last() {
+        Some(kept) => kept.context,
         None => Context::new(),
-    };
-    match stack.open_elems().last() {
-        Some(element) => below.with(element),
-        None => below,
     }
 }
 
-/// What all open elements are asked together is kept beside what those below the current node are.
-fn keep(contexts: &mut Vec<Context>, stack: &Stack<Forest>) -> Result<(), ParseFault>
-    ensures ok { OnOk result ((x : Open) (xs : List Open) → stack.now.open_elems ≡ x ∷ xs → contexts.old.items ≡ contexts_of xs
-        → contexts.new.items ≡ contexts_of (x ∷ xs)) }
+/// Whether all open elements may be open where the body ends, by what is kept.
+fn ends_with_body(contexts: &[Kept]) -> bool
+    ensures { (xs : List Open) → contexts.now ≡ kept_of xs → result ≡ (context_of xs).ends_with_body }
+{
+    match contexts.last() {
+        Some(kept) => kept.context.ends_with_body,
+        None => true,
+    }
+}
+
+/// How much is kept of the elements below the current node, where so many are open below it.
+fn kept_below(contexts: &[Kept], below: usize) -> usize
+    ensures kept { (xs : List Open) → contexts.now ≡ kept_of xs → below ≡ length (without_current xs)
+        → take result contexts.now ≡ kept_of (without_current xs) }
+    ensures within { result ≤ length contexts.now }
+{
+    match contexts.last() {
+        Some(kept) => {
+            if kept.below == below {
+                contexts.len() - 1
+            } else {
+                contexts.len()
+            }
+        }
+        None => 0,
+    }
+}
+
+/// What the open elements are asked together is kept, with one more element open above so many, if that changes it.
+#[inline(always)]
+fn keep(
+    contexts: &mut Vec<Kept>,
+    element: &OpenElement<NodeId>,
+    below: usize,
+) -> Result<(), ParseFault>
+    ensures ok { OnOk result ((xs : List Open) → contexts.old.items ≡ kept_of xs → below ≡ length xs
+        → contexts.new.items ≡ kept_of (open_of number_of element.now ∷ xs)) }
+    ensures front { take (length contexts.old.items) contexts.new.items ≡ contexts.old.items }
     ensures err { OnErr result (contexts.new.items ≡ contexts.old.items) }
     ensures fault { IfErr result (λ fault. fault ≡ Memory) }
 {
-    contexts.reserve(1)?;
-    let context = context_on(contexts.as_slice(), stack);
-    contexts.push_reserved(context);
+    if !ends_with_body(contexts.as_slice()) && is_usual(element) {
+        return Ok(());
+    }
+    let context = context_in(contexts.as_slice()).with(element);
+    contexts.push(Kept { below, context })?;
     Ok(())
 }
 
@@ -84,34 +124,38 @@ impl OpenElements {
     pub(crate) fn context(&self) -> Context
         ensures { result ≡ context_of self.now.open_elems }
     {
-        match self.contexts.last() {
-            Some(context) => *context,
-            None => Context::new(),
-        }
+        context_in(self.contexts.as_slice())
+    }
+
+    /// How many elements are open below the current node.
+    fn below(&self) -> usize
+        ensures { result ≡ length (without_current self.now.open_elems) }
+    {
+        self.stack.open_elems().len().saturating_sub(1)
     }
 
     /// What the open elements but the current node are asked together.
     pub(crate) fn context_below(&self) -> Context
         ensures { result ≡ context_of (without_current self.now.open_elems) }
     {
-        let count = self.contexts.len();
-        if count < 2 {
-            return Context::new();
-        }
-        self.contexts[count - 2]
+        let contexts = self.contexts.as_slice();
+        let kept = kept_below(contexts, self.below());
+        context_in(&contexts[..kept])
     }
 
     /// Opens an element.
+    #[inline(always)]
     pub(crate) fn push(&mut self, element: OpenElement<NodeId>) -> Result<(), ParseFault>
         ensures ok { OnOk result (self.new ≡ record self.old { open_elems = open_of number_of element ∷ self.old.open_elems }) }
         ensures fault { IfErr result (λ fault. fault ≡ Memory) }
     {
-        self.stack.push(element)?;
-        match keep(&mut self.contexts, &self.stack) {
+        let kept = self.contexts.len();
+        let below = self.stack.open_elems().len();
+        keep(&mut self.contexts, &element, below)?;
+        match self.stack.push(element) {
             Ok(()) => Ok(()),
             Err(fault) => {
-                let left = self.contexts.len();
-                self.stack.truncate(left);
+                self.contexts.truncate(kept);
                 Err(fault)
             }
         }
@@ -121,9 +165,10 @@ impl OpenElements {
     pub(crate) fn pop(&mut self)
         ensures { self.new ≡ record self.old { open_elems = without_current self.old.open_elems } }
     {
-        let left = self.contexts.len().saturating_sub(1);
-        self.stack.truncate(left);
-        self.contexts.truncate(left);
+        let below = self.below();
+        let kept = kept_below(self.contexts.as_slice(), below);
+        self.contexts.truncate(kept);
+        self.stack.truncate(below);
     }
 
     /// Makes a template insertion mode the current one.

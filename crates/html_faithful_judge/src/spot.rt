@@ -7,6 +7,7 @@ ghost use Rattle.html_rules.specs.Conditions.{form_in_scope, form_is_current, ho
 ghost use Rattle.html_rules.specs.ForeignContent.{foreign_end, is_as_in_mode, is_foreign, is_foreign_end_error, is_named_any_case};
 ghost use Rattle.html_rules.specs.Formatting.{last_named};
 ghost use Rattle.html_rules.specs.Names.{Html, namespace_of};
+ghost use Rattle.html_rules.specs.Reset.{mode_of_open};
 ghost use Rattle.html_rules.specs.Stack.{has_open, in_scope, item_name, without_current};
 ghost use Rattle.html_rules.specs.State.{current_is, is_in, is_named};
 ghost use Rattle.html_rules.specs.declared.tag_set.TagSet.TheVariants.{BodyEnd, DdDt, DefaultScope, Li, Template};
@@ -249,6 +250,7 @@ impl Spot {
     }
 
     /// Opens an element, whose class is handed in.
+    #[inline(always)]
     pub fn open(
         &mut self,
         alloc: Global,
@@ -269,6 +271,7 @@ impl Spot {
     }
 
     /// Opens an HTML element.
+    #[inline(always)]
     pub fn open_html(&mut self, alloc: Global, name: &LocalName) -> Result<(), ParseFault>
         ensures ok { OnOk result (spot_of self.new ≡ opened_in Html name.now (spot_of self.old)) }
         ensures fault { IfErr result (λ fault. fault ≡ Memory) }
@@ -281,6 +284,20 @@ impl Spot {
         ensures { spot_of self.new ≡ closed_in (spot_of self.old) }
     {
         self.stack.pop();
+    }
+
+    /// The insertion mode is that for which the open elements ask (HTML Standard, section 13.2.4.1).
+    pub fn reset_mode(&mut self)
+        ensures { spot_of self.new ≡ record (spot_of self.old) { mode = mode_of_open (hollow (spot_of self.old)) self.old.stack.open_elems } }
+    {
+        self.mode = self.as_stack().reset_insertion_mode(self.has_head, None);
+    }
+
+    /// Whether all open elements may be open where the body ends.
+    pub fn ends_with_body(&self) -> bool
+        ensures { result ≡ list_all (is_in BodyEnd) self.now.stack.open_elems }
+    {
+        self.context().ends_with_body
     }
 
     /// Whether the current node is in a set.

@@ -1,21 +1,10 @@
-use Rattle.std.proofs.Common.{◌≡◌, ℕ, Bool, true, false, cond, ap, is_some, refl, sym}
-use Rattle.std.specs.Prelude.{Some, None}
+use Rattle.std.proofs.Common.{ap, sym}
+use Rattle.std.specs.Prelude.{Some}
 use Rattle.html_rules.specs.Reset.{reset_insertion_mode}
-use Rattle.html_stack.specs.Stacks.{Stacked}
-use Rattle.html_faithful.specs.Harmless.{at_mode}
-use Rattle.html_faithful.specs.Spots.{hollow}
+use Rattle.html_faithful.specs.Spots.{Spot}
 use Rattle.html_faithful_judge.specs.Mades.{made_as}
-use Rattle.html_faithful_judge.specs.Spots.{spot_of}
 use Rattle.html_faithful_judge.proofs.made.Made.reset_mode.Goals as goal
-
-head-is : (b : Bool) → is_some {T = ℕ} (cond b (Some 0) None) ≡ b
-head-is true = refl
-head-is false = refl
 
 pub returns : goal.returns
 unfolding reset_insertion_mode
-returns c t =
-    ap (λ mode. Some (at_mode mode (made_as c.args.self.now)))
-    (sym (c.reset_insertion_mode-self.ensures (hollow (spot_of c.args.self.now.spot))
-    (ap (λ (s : Stacked). s.open_elems) (sym c.as_stack.ensures))
-    (ap (λ (s : Stacked). s.template_modes) (sym c.as_stack.ensures)) (head-is c.args.self.now.spot.has_head) tt))
+returns c t = ap (λ (p : Spot). Some (record (made_as c.args.self.now) { spot = p })) (sym c.reset_mode.ensures)
