@@ -139,8 +139,8 @@ uint32_t fig_text_content(const uint8_t *image, size_t image_length, uint32_t no
 uint32_t fig_links(const uint8_t *image, size_t image_length, uint32_t node, uint8_t *output, size_t room, fig_report *report);
 
 /* Writes the numbers of the nodes below a node that CSS selectors select (Selectors Level 4), in tree order: four bytes for each,
- * the lowest first. Node 0 asks for the whole document. `:scope` is the node, or where it is no element the first element in it. The image and the
- * report are as of fig_serialize. */
+ * the lowest first. Node 0 asks for the whole document. `:scope` is the node, or where it is no element the first element in it.
+ * The image and the report are as of fig_serialize. */
 uint32_t fig_select(const uint8_t *selector, size_t selector_length, const uint8_t *image, size_t image_length, uint32_t node,
                     uint8_t *output, size_t room, fig_report *report);
 

@@ -110,7 +110,8 @@ check(parse("<a href='//['>").links('http://[')[0].url === '//[', 'links that ca
 // the examples of the types: a call and what it answers
 const types = readFileSync(fileURLToPath(import.meta.resolve('figpliers')).replace('index.mjs', 'index.d.ts'), 'utf8');
 const examples = [...types.matchAll(/@example (.*?) \/\/ (.*?)(?: \*\/)?$/gm)];
-const made = (code) => new Function('figpliers', `const { clean, errors, fragment, parse, parseWithPlaces } = figpliers; return ${code};`)(figpliers);
+const names = 'clean, errors, fragment, parse, parseWithPlaces';
+const made = (code) => new Function('figpliers', `const { ${names} } = figpliers; return ${code};`)(figpliers);
 for (const [, code, want] of examples) check(JSON.stringify(made(code)) === JSON.stringify(made(want)), code);
 check(examples.length === 10, 'the number of examples');
 end();

@@ -6,7 +6,8 @@ site=$(dirname "$(dirname "$here")")/out/site
 rm -rf "$site"
 mkdir -p "$site/figpliers"
 cp "$here/index.html" "$here/site.css" "$here/site.mjs" "$site/"
-for file in index.mjs core.mjs cleaning.mjs library.mjs tree.mjs part.mjs figpliers.wasm cleaning.wasm LICENSE LICENSE-memchr LICENSE-thiserror; do
+for file in index.mjs core.mjs cleaning.mjs library.mjs tree.mjs part.mjs figpliers.wasm cleaning.wasm \
+    LICENSE LICENSE-memchr LICENSE-thiserror; do
     cp "$here/../$file" "$site/figpliers/"
 done
 ls "$site" "$site/figpliers"

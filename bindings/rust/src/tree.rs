@@ -234,7 +234,8 @@ impl<'a> Node<'a> {
         }
     }
 
-    /// Where it begins: an element at its tag, or at what made the parser put it there. None unless [`parse_with_places`] made the document.
+    /// Where it begins: an element at its tag, or at what made the parser put it there. None unless [`parse_with_places`] made the
+    /// document.
     ///
     /// [`parse_with_places`]: crate::parse_with_places
     pub fn place(self) -> Option<Place> {
@@ -389,7 +390,8 @@ impl<'a> Node<'a> {
     }
 
     /// Where the elements below this node lead, in tree order: the `href` of each `a`, `area` and `link`, the `src` of each `img`,
-    /// `script`, frame, `embed`, `input` and of media, as it is written but for tabs and line breaks. The library reads the whole image for it.
+    /// `script`, frame, `embed`, `input` and of media, as it is written but for tabs and line breaks. The library reads the whole image
+    /// for it.
     ///
     /// ```
     /// let page = figpliers::parse("<link href=a><p><img src=b><a href=c>d</a>")?;
