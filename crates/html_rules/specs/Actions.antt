@@ -92,7 +92,7 @@ set_head_elem s = record s { head_elem = Some (current_number s.open_elems) }
 
 abbrev pub push_head : Option ℕ → State → State
 push_head None s = s
-push_head (Some n) s = record s { open_elems = record { number = n; namespace = Html; name = codes "head" } ∷ s.open_elems }
+push_head (Some n) s = record s { open_elems = record { number = n; namespace = Html; name = codes "head"; rules = s.opts.rules } ∷ s.open_elems }
 
 unfoldable pub push_head_elem : State → State
 push_head_elem s = push_head s.head_elem s

@@ -8,6 +8,7 @@ use Rattle.html_rules.specs.Names.{Html}
 use Rattle.html_rules.specs.Places.{place_for, with_element}
 use Rattle.html_rules.specs.Stack.{in_scope, is_open, parse_error, pop, process_end_tag_in_body, remove_from_stack, left_below}
 use Rattle.html_rules.specs.State.{Open, Entry, Element, Marker, State, is_in, is_named, current_is, current_node, current_number}
+use Rattle.html_rules.specs.declared.rules.Rules.{Rules}
 use Rattle.html_rules.specs.declared.tag_set.TagSet.TheVariants as set
 
 -- whether an element is that of this number
@@ -40,21 +41,23 @@ pub record Walk : Type 0 where
   pub copies : List Open
   -- the last copy, or the furthest block
   pub last_node : ℕ
+  pub rules : Rules
 
 -- a forest with a new element, made for a tag
 abbrev pub with_copy : Forest → Tag → Forest
 with_copy f tag = with_element f Html tag.name tag.attrs tag.had_duplicate_attributes
 
-abbrev pub opened_for : Forest → Tag → Open
-opened_for f tag = record { number = node_count f; namespace = Html; name = tag.name }
+abbrev pub opened_for : Rules → Forest → Tag → Open
+opened_for rules f tag = record { number = node_count f; namespace = Html; name = tag.name; rules = rules }
 
 -- an element is replaced by a copy that is made from its tag, and takes the last node as its child
 abbrev pub copy_node : Listed → Walk → Walk
 copy_node listed w = record {
   forest = put (remove (with_copy w.forest listed.tag) w.last_node) (Last (node_count w.forest)) w.last_node;
   active_formatting = with_in_place listed.number (Element (node_count w.forest) listed.tag) w.active_formatting;
-  copies = w.copies ++ opened_for w.forest listed.tag ∷ [];
+  copies = w.copies ++ opened_for w.rules w.forest listed.tag ∷ [];
   last_node = node_count w.forest;
+  rules = w.rules;
 }
 
 -- the entry of an element
@@ -97,12 +100,18 @@ adopt formatting_element block w s =
       forest = put moved (Last block.number) (node_count placed);
       active_formatting = relist formatting_element.number (Element (node_count placed) formatting_element.tag)
           w.copies w.active_formatting;
-      open_elems = opened_after block.number s.open_elems ++ opened_for placed formatting_element.tag ∷ block ∷
+      open_elems = opened_after block.number s.open_elems ++ opened_for s.opts.rules placed formatting_element.tag ∷ block ∷
           w.copies ++ opened_before formatting_element.number s.open_elems;
     }
 
 abbrev pub begin_walk : Open → State → Walk
-begin_walk block s = record { forest = s.forest; active_formatting = s.active_formatting; copies = []; last_node = block.number }
+begin_walk block s = record {
+  forest = s.forest;
+  active_formatting = s.active_formatting;
+  copies = [];
+  last_node = block.number;
+  rules = s.opts.rules;
+}
 
 -- the elements between, from the block back
 abbrev pub between : Listed → Open → State → List Open

@@ -6,9 +6,10 @@ use Rattle.html_tokens.specs.declared.token.Token.{Token}
 use Rattle.html_rules.specs.Adoption.{is_number}
 use Rattle.html_rules.specs.ForeignContent.{foreign_end, is_as_in_mode, is_foreign_end_error}
 use Rattle.html_rules.specs.Formatting.{last_named}
+use Rattle.html_rules.specs.Sets.{by_rules}
 use Rattle.html_rules.specs.Stack.{body_elem, has_open, in_scope}
 use Rattle.html_rules.specs.State.{Open, State, current_is, is_fragment, is_in, is_named}
-use Rattle.html_rules.specs.Table.{Condition, Always, Not, Both, ScriptingEnabled, IframeSrcdoc, InFragment, ContextIs}
+use Rattle.html_rules.specs.Table.{Condition, Always, Not, Both, ScriptingEnabled, IframeSrcdoc, ByStandard, InFragment, ContextIs}
 use Rattle.html_rules.specs.Table.{InQuirksMode, FramesetOk, CurrentIs, CurrentIsToken, RootAlone, SecondIsBody, TemplateOpen}
 use Rattle.html_rules.specs.Table.{HasTemplateModes, InScope, TokenInScope, HasFormElem, FormElemInScope, FormElemIsCurrent}
 use Rattle.html_rules.specs.Table.{AListed, TypeHidden, FontAttributes, EndsInHtml, ForeignEndError}
@@ -48,6 +49,7 @@ holds (Not c) t s = not (holds c t s)
 holds (Both a b) t s = holds a t s && holds b t s
 holds ScriptingEnabled t s = s.opts.scripting_enabled
 holds IframeSrcdoc t s = s.opts.iframe_srcdoc
+holds ByStandard t s = by_rules s.opts.rules false true
 holds InFragment t s = is_fragment s
 holds (ContextIs set) t s = context_is set s.context_elem
 holds InQuirksMode t s = is_quirks s.quirks_mode

@@ -8,6 +8,8 @@ use Rattle.markup.specs.declared.quirks.QuirksMode.TheVariants.{Quirks, LimitedQ
 use Rattle.html_tokens.specs.Characters.{begins}
 use Rattle.html_tokens.specs.declared.token.Doctype.{Doctype}
 use Rattle.html_rules.specs.Choice.{choose}
+use Rattle.html_rules.specs.declared.rules.Rules.{Rules}
+use Rattle.html_rules.specs.declared.rules.Rules.TheVariants.{Html5ever, Standard}
 
 -- whether a part of a doctype is there and is that text
 abbrev pub is_given : Option (List ℕ) → List ℕ → Bool
@@ -112,17 +114,22 @@ xhtml_prefixes = codes "-//w3c//dtd xhtml 1.0 frameset//" ∷ codes "-//w3c//dtd
 abbrev pub html401_prefixes : List (List ℕ)
 html401_prefixes = codes "-//w3c//dtd html 4.01 frameset//" ∷ codes "-//w3c//dtd html 4.01 transitional//" ∷ []
 
+-- a doctype that only the Standard lists
+abbrev pub is_quirky_by : Rules → Option (List ℕ) → Bool
+is_quirky_by Html5ever public_id = false
+is_quirky_by Standard public_id = begins_with_one public_id (codes "+//silmaril//dtd html pro v0r11 19970101//" ∷ [])
+
 -- the mode by the identifiers, which are lowered
-abbrev pub quirks_of_identifiers : Option (List ℕ) → Option (List ℕ) → QuirksMode
-quirks_of_identifiers public_id system_id =
-    choose (is_quirky public_id system_id) (λ _. Quirks)
+abbrev pub quirks_of_identifiers : Rules → Option (List ℕ) → Option (List ℕ) → QuirksMode
+quirks_of_identifiers rules public_id system_id =
+    choose (is_quirky public_id system_id || is_quirky_by rules public_id) (λ _. Quirks)
     (λ _. choose (begins_with_one public_id xhtml_prefixes) (λ _. LimitedQuirks)
     (λ _. choose (begins_with_one public_id html401_prefixes) (λ _. choose (is_none system_id) (λ _. Quirks) (λ _. LimitedQuirks))
     (λ _. NoQuirks)))
 
 -- the mode that a doctype sets, in the document of an `iframe` with `srcdoc` or in another
-unfoldable pub quirks_of : Bool → Doctype → QuirksMode
-quirks_of iframe_srcdoc d =
+unfoldable pub quirks_of : Rules → Bool → Doctype → QuirksMode
+quirks_of rules iframe_srcdoc d =
     choose (d.force_quirks || not (is_given d.name (codes "html"))) (λ _. Quirks)
     (λ _. choose iframe_srcdoc (λ _. NoQuirks)
-    (λ _. quirks_of_identifiers (lowered d.public_id) (lowered d.system_id)))
+    (λ _. quirks_of_identifiers rules (lowered d.public_id) (lowered d.system_id)))

@@ -20,6 +20,8 @@ use Rattle.html_rules.specs.State.{Open, Options, Answers, State, hushed, is_in}
 use Rattle.html_rules.specs.Step.{ended, is_quiet, step}
 use Rattle.html_rules.specs.declared.insertion_mode.InsertionMode.{InsertionMode}
 use Rattle.html_rules.specs.declared.insertion_mode.InsertionMode.TheVariants.{Initial, InTemplate}
+use Rattle.html_rules.specs.declared.rules.Rules.{Rules}
+use Rattle.html_rules.specs.declared.rules.Rules.TheVariants.{Html5ever, Standard}
 use Rattle.html_rules.specs.declared.tag_set.TagSet.TheVariants as set
 
 -- how a parser is set up: scripting and the other options, and the quirks mode to begin with
@@ -53,12 +55,17 @@ before_document setting f = record {
 abbrev pub modes_of_context : Open → List InsertionMode
 modes_of_context context = choose (is_in set.Template context) (λ _. InTemplate ∷ []) (λ _. [])
 
+-- the form element pointer of a fragment: by the Standard, a context that is a form is meant itself
+abbrev pub form_of_context : Rules → Open → Option ℕ → Option ℕ
+form_of_context Html5ever context form = form
+form_of_context Standard context form = choose (is_in set.Form context) (λ _. Some context.number) (λ _. form)
+
 -- the state before the first token of a fragment: with its context, and with the form that the context stands in, if it stands in one
 abbrev pub before_fragment : Setting → Open → Option ℕ → Forest → State
 before_fragment setting context form f =
     reset_insertion_mode (create_root [] (record (before_document setting f) {
       context_elem = Some context;
-      form_elem = form;
+      form_elem = form_of_context setting.opts.rules context form;
       template_modes = modes_of_context context;
     }))
 

@@ -13,7 +13,7 @@ use Rattle.html_rules.specs.Choice.{choose}
 use Rattle.html_rules.specs.Names.{Namespace, is_html}
 use Rattle.html_rules.specs.Places.{insert_element, put_element}
 use Rattle.html_rules.specs.Renames.{adjust_attributes, adjust_tag_name}
-use Rattle.html_rules.specs.Sets.{is_among, names_of}
+use Rattle.html_rules.specs.Sets.{by_rules, is_among, names_of}
 use Rattle.html_rules.specs.Stack.{pop_until_current}
 use Rattle.html_rules.specs.State.{Open, State, adjusted_current_node, is_in}
 use Rattle.html_rules.specs.declared.tag_set.TagSet.TheVariants as set
@@ -86,8 +86,13 @@ foreign_start tag s = foreign_start_at (adjusted_current_node s) tag s
 abbrev pub ends_foreign : Open → Bool
 ends_foreign x = is_html_element x || is_in set.MathmlTextIntegrationPoint x || is_in set.SvgHtmlIntegrationPoint x
 
+-- the same by the rules of a state: for the Standard, HTML may stand in some of MathML's `annotation-xml`
+abbrev pub ends_foreign_in : State → Open → Bool
+ends_foreign_in s x = ends_foreign x || (by_rules s.opts.rules false (is_in set.AnnotationXml x)
+    && s.answers.integration_point (with_errors 0 s.forest) x.number)
+
 unfoldable pub pop_foreign : State → State
-pop_foreign s = pop_until_current ends_foreign s
+pop_foreign s = pop_until_current (ends_foreign_in s) s
 
 -- an attribute of `font` that ends foreign content
 abbrev pub is_font_attribute : Attribute → Bool

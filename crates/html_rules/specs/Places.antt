@@ -44,7 +44,8 @@ put_appropriately s f n = put f (appropriate_place s f) n
 
 -- the element that is created next
 abbrev pub next_open : State → Namespace → List ℕ → Open
-next_open s namespace name = record { number = node_count s.forest; namespace = namespace; name = name }
+next_open s namespace name =
+    record { number = node_count s.forest; namespace = namespace; name = name; rules = s.opts.rules }
 
 -- an element is created and put at the appropriate place
 unfoldable pub put_element : Namespace → List ℕ → List Attribute → Bool → State → State

@@ -2,6 +2,8 @@
 use Rattle.std.specs.Prelude.{ℕ, Bool, false, ◌||◌, List, [], ◌∷◌, codes}
 use Rattle.std.specs.Str.{bytes_eq}
 use Rattle.html_rules.specs.Names.{Namespace, Html, MathMl, Svg, Other}
+use Rattle.html_rules.specs.declared.rules.Rules.{Rules}
+use Rattle.html_rules.specs.declared.rules.Rules.TheVariants.{Html5ever, Standard}
 use Rattle.html_rules.specs.declared.tag_set.TagSet.{TagSet}
 use Rattle.html_rules.specs.declared.tag_set.TagSet.TheVariants as set
 
@@ -151,6 +153,29 @@ names_of set.Textarea = codes "textarea" ∷ []
 names_of set.Title = codes "title" ∷ []
 names_of set.Tr = codes "tr" ∷ []
 names_of set.Xmp = codes "xmp" ∷ []
+-- the Standard's sets, where they are not html5ever's
+names_of set.StandardDefaultScope = codes "applet" ∷ codes "caption" ∷ codes "html" ∷ codes "table" ∷ codes "td" ∷
+    codes "th" ∷ codes "marquee" ∷ codes "object" ∷ codes "select" ∷ codes "template" ∷ []
+names_of set.StandardListItemScope = codes "applet" ∷ codes "caption" ∷ codes "html" ∷ codes "table" ∷ codes "td" ∷
+    codes "th" ∷ codes "marquee" ∷ codes "object" ∷ codes "select" ∷ codes "template" ∷ codes "ol" ∷ codes "ul" ∷ []
+names_of set.StandardButtonScope = codes "applet" ∷ codes "caption" ∷ codes "html" ∷ codes "table" ∷ codes "td" ∷
+    codes "th" ∷ codes "marquee" ∷ codes "object" ∷ codes "select" ∷ codes "template" ∷ codes "button" ∷ []
+names_of set.StandardSpecialTag = codes "address" ∷ codes "applet" ∷ codes "area" ∷ codes "article" ∷ codes "aside" ∷
+    codes "base" ∷ codes "basefont" ∷ codes "bgsound" ∷ codes "blockquote" ∷ codes "body" ∷ codes "br" ∷
+    codes "button" ∷ codes "caption" ∷ codes "center" ∷ codes "col" ∷ codes "colgroup" ∷ codes "dd" ∷
+    codes "details" ∷ codes "dir" ∷ codes "div" ∷ codes "dl" ∷ codes "dt" ∷ codes "embed" ∷ codes "fieldset" ∷
+    codes "figcaption" ∷ codes "figure" ∷ codes "footer" ∷ codes "form" ∷ codes "frame" ∷ codes "frameset" ∷
+    codes "h1" ∷ codes "h2" ∷ codes "h3" ∷ codes "h4" ∷ codes "h5" ∷ codes "h6" ∷ codes "head" ∷ codes "header" ∷
+    codes "hgroup" ∷ codes "hr" ∷ codes "html" ∷ codes "iframe" ∷ codes "img" ∷ codes "input" ∷ codes "keygen" ∷
+    codes "li" ∷ codes "link" ∷ codes "listing" ∷ codes "main" ∷ codes "marquee" ∷ codes "menu" ∷ codes "meta" ∷
+    codes "nav" ∷ codes "noembed" ∷ codes "noframes" ∷ codes "noscript" ∷ codes "object" ∷ codes "ol" ∷ codes "p" ∷
+    codes "param" ∷ codes "plaintext" ∷ codes "pre" ∷ codes "script" ∷ codes "search" ∷ codes "section" ∷ codes "select" ∷
+    codes "source" ∷ codes "style" ∷ codes "summary" ∷ codes "table" ∷ codes "tbody" ∷ codes "td" ∷
+    codes "template" ∷ codes "textarea" ∷ codes "tfoot" ∷ codes "th" ∷ codes "thead" ∷ codes "title" ∷ codes "tr" ∷
+    codes "track" ∷ codes "ul" ∷ codes "wbr" ∷ codes "xmp" ∷ []
+names_of set.StandardBodyEnd = codes "dd" ∷ codes "dt" ∷ codes "li" ∷ codes "optgroup" ∷ codes "option" ∷ codes "p" ∷
+    codes "rb" ∷ codes "rp" ∷ codes "rt" ∷ codes "rtc" ∷ codes "tbody" ∷ codes "td" ∷ codes "tfoot" ∷ codes "th" ∷ codes "thead" ∷ codes "tr" ∷
+    codes "body" ∷ codes "html" ∷ []
 
 -- the names of MathML elements in a set
 unfoldable pub mathml_names_of : TagSet → List (List ℕ)
@@ -159,6 +184,10 @@ mathml_names_of set.ListItemScope = codes "mi" ∷ codes "mo" ∷ codes "mn" ∷
 mathml_names_of set.ButtonScope = codes "mi" ∷ codes "mo" ∷ codes "mn" ∷ codes "ms" ∷ codes "mtext" ∷ []
 mathml_names_of set.MathmlTextIntegrationPoint = codes "mi" ∷ codes "mo" ∷ codes "mn" ∷ codes "ms" ∷ codes "mtext" ∷ []
 mathml_names_of set.AnnotationXml = codes "annotation-xml" ∷ []
+mathml_names_of set.StandardDefaultScope = codes "mi" ∷ codes "mo" ∷ codes "mn" ∷ codes "ms" ∷ codes "mtext" ∷ codes "annotation-xml" ∷ []
+mathml_names_of set.StandardListItemScope = codes "mi" ∷ codes "mo" ∷ codes "mn" ∷ codes "ms" ∷ codes "mtext" ∷ codes "annotation-xml" ∷ []
+mathml_names_of set.StandardButtonScope = codes "mi" ∷ codes "mo" ∷ codes "mn" ∷ codes "ms" ∷ codes "mtext" ∷ codes "annotation-xml" ∷ []
+mathml_names_of set.StandardSpecialTag = codes "mi" ∷ codes "mo" ∷ codes "mn" ∷ codes "ms" ∷ codes "mtext" ∷ codes "annotation-xml" ∷ []
 mathml_names_of _ = []
 
 -- the names of SVG elements in a set
@@ -167,6 +196,10 @@ svg_names_of set.DefaultScope = codes "foreignObject" ∷ codes "desc" ∷ codes
 svg_names_of set.ListItemScope = codes "foreignObject" ∷ codes "desc" ∷ codes "title" ∷ []
 svg_names_of set.ButtonScope = codes "foreignObject" ∷ codes "desc" ∷ codes "title" ∷ []
 svg_names_of set.SvgHtmlIntegrationPoint = codes "foreignObject" ∷ codes "desc" ∷ codes "title" ∷ []
+svg_names_of set.StandardDefaultScope = codes "foreignObject" ∷ codes "desc" ∷ codes "title" ∷ []
+svg_names_of set.StandardListItemScope = codes "foreignObject" ∷ codes "desc" ∷ codes "title" ∷ []
+svg_names_of set.StandardButtonScope = codes "foreignObject" ∷ codes "desc" ∷ codes "title" ∷ []
+svg_names_of set.StandardSpecialTag = codes "foreignObject" ∷ codes "desc" ∷ codes "title" ∷ []
 svg_names_of _ = []
 
 -- the names in a set, by their namespace
@@ -175,3 +208,18 @@ names_in Html set = names_of set
 names_in MathMl set = mathml_names_of set
 names_in Svg set = svg_names_of set
 names_in (Other uri) set = []
+
+-- one thing by html5ever's rules, another by the Standard's
+abbrev pub by_rules : {A : Type 0} → Rules → A → A → A
+by_rules Html5ever ours theirs = ours
+by_rules Standard ours theirs = theirs
+
+-- the set that is asked for one
+abbrev pub set_by : Rules → TagSet → TagSet
+set_by rules set.DefaultScope = by_rules rules set.DefaultScope set.StandardDefaultScope
+set_by rules set.ListItemScope = by_rules rules set.ListItemScope set.StandardListItemScope
+set_by rules set.ButtonScope = by_rules rules set.ButtonScope set.StandardButtonScope
+set_by rules set.SpecialTag = by_rules rules set.SpecialTag set.StandardSpecialTag
+set_by rules set.BodyEnd = by_rules rules set.BodyEnd set.StandardBodyEnd
+set_by rules set.TableTbodyTfoot = by_rules rules set.TableTbodyTfoot set.TbodyTfootThead
+set_by rules set = set

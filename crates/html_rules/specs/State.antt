@@ -7,15 +7,17 @@ use Rattle.markup.specs.declared.attributes.Attribute.{Attribute}
 use Rattle.markup.specs.declared.quirks.QuirksMode.{QuirksMode}
 use Rattle.html_tokens.specs.declared.tags.Tag.{Tag}
 use Rattle.html_rules.specs.Names.{Namespace}
-use Rattle.html_rules.specs.Sets.{is_among, names_in}
+use Rattle.html_rules.specs.Sets.{is_among, names_in, set_by}
 use Rattle.html_rules.specs.declared.insertion_mode.InsertionMode.{InsertionMode}
+use Rattle.html_rules.specs.declared.rules.Rules.{Rules}
 use Rattle.html_rules.specs.declared.tag_set.TagSet.{TagSet}
 
--- an open element: the number of its node, and its name
+-- an open element: the number of its node, its name, and the rules by whose sets it is asked
 pub record Open : Type 0 where
   pub number : ℕ
   pub namespace : Namespace
   pub name : List ℕ
+  pub rules : Rules
 
 -- an entry of the list of active formatting elements: an HTML element, with the tag that it was made for, or a marker
 pub data Entry : Type 0 where
@@ -29,6 +31,8 @@ pub record Options : Type 0 where
   pub iframe_srcdoc : Bool
   -- whether no doctype is put into the tree
   pub drop_doctype : Bool
+  -- whose rules hold
+  pub rules : Rules
 
 -- what the sink answers: where HTML may stand in MathML's `annotation-xml`, in whose document a template may become a
 -- shadow root, and whether one became that of a host
@@ -70,7 +74,7 @@ pub record State : Type 0 where
 
 -- whether an element is in a set
 abbrev pub is_in : TagSet → Open → Bool
-is_in set x = is_among x.name (names_in x.namespace set)
+is_in set x = is_among x.name (names_in x.namespace (set_by x.rules set))
 
 abbrev pub named_in : Namespace → List ℕ → List ℕ → Bool
 named_in Namespace.Html name local = bytes_eq name local

@@ -16,7 +16,9 @@ use Rattle.html_rules.specs.Shape.{is_fit}
 use Rattle.html_rules.specs.Stack.{parse_error}
 use Rattle.html_rules.specs.State.{State, hushed}
 use Rattle.html_rules.specs.declared.insertion_mode.InsertionMode.{InsertionMode}
-use Rattle.html_rules.specs.declared.insertion_mode.InsertionMode.TheVariants.{Initial, BeforeHtml, Text}
+use Rattle.html_rules.specs.declared.insertion_mode.InsertionMode.TheVariants.{Initial, BeforeHtml, InTableText, Text}
+use Rattle.html_rules.specs.declared.rules.Rules.{Rules}
+use Rattle.html_rules.specs.declared.rules.Rules.TheVariants.{Standard}
 
 -- a state that no token changed yet
 abbrev pub untouched : State → Settled
@@ -44,17 +46,26 @@ if_kept drop_doctype d s = choose drop_doctype (λ _. s) (λ _. append_doctype_t
 abbrev pub first_doctype_taken : Doctype → State → State
 first_doctype_taken d s =
     let told = choose (doctype_error d) (λ _. parse_error s) (λ _. s) in
-    set_mode BeforeHtml (set_quirks_mode (quirks_of s.opts.iframe_srcdoc d) (if_kept s.opts.drop_doctype d told))
+    set_mode BeforeHtml (set_quirks_mode (quirks_of s.opts.rules s.opts.iframe_srcdoc d) (if_kept s.opts.drop_doctype d told))
 
 -- any other doctype is an error
 abbrev pub doctype_taken : InsertionMode → Doctype → State → State
 doctype_taken Initial d s = first_doctype_taken d s
 doctype_taken mode d s = parse_error s
 
+-- by the Standard, a doctype puts the pending table character tokens into the tree, as any other token does (section 13.2.6.4.10)
+abbrev pub ends_table_text : Rules → InsertionMode → Bool
+ends_table_text Standard InTableText = true
+ends_table_text rules mode = false
+
+abbrev pub doctype_settled : Bool → Doctype → State → Settled
+doctype_settled false d s = untouched (doctype_taken s.mode d s)
+doctype_settled true d s = settle (DoctypeToken d) s
+
 -- what a token makes of a state in which nothing stands against it
 abbrev pub taken_by : Bool → Token → State → Settled
 taken_by ignore_lf (CharacterTokens text) s = text_taken (after_line_feed ignore_lf text) (untouched s)
-taken_by ignore_lf (DoctypeToken d) s = untouched (doctype_taken s.mode d s)
+taken_by ignore_lf (DoctypeToken d) s = doctype_settled (ends_table_text s.opts.rules s.mode) d s
 taken_by ignore_lf t s = settle t s
 
 unfoldable pub taken : Token → State → Settled

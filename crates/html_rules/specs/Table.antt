@@ -28,6 +28,8 @@ pub data Condition : Type 0 where
   Both : Condition → Condition → Condition
   ScriptingEnabled : Condition
   IframeSrcdoc : Condition
+  -- the Standard's rules hold, not html5ever's
+  ByStandard : Condition
   -- a fragment is parsed
   InFragment : Condition
   -- a fragment is parsed whose context is such an element

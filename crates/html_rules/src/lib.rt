@@ -5,7 +5,9 @@
 #![tactic(auto)]
 
 pub mod insertion_mode;
+pub mod rules;
 pub mod tag_set;
 
 pub use insertion_mode::InsertionMode;
+pub use rules::Rules;
 pub use tag_set::TagSet;

@@ -202,4 +202,15 @@ pub enum TagSet {
     Tr,
     /// `xmp`.
     Xmp,
+    // What the HTML Standard has for some of these sets (section 13.2.4.2).
+    /// For [`TagSet::DefaultScope`].
+    StandardDefaultScope,
+    /// For [`TagSet::ListItemScope`].
+    StandardListItemScope,
+    /// For [`TagSet::ButtonScope`].
+    StandardButtonScope,
+    /// For [`TagSet::SpecialTag`].
+    StandardSpecialTag,
+    /// For [`TagSet::BodyEnd`].
+    StandardBodyEnd,
 }

@@ -3,7 +3,7 @@ use Rattle.std.specs.Prelude.{List, [], ◌∷◌, codes}
 use Rattle.html_tokens.specs.declared.states.RawKind.TheVariants.{Rcdata, Rawtext}
 use Rattle.html_rules.specs.Names.{MathMl, Svg}
 use Rattle.html_rules.specs.Table.{Row, StartTags, EndTags, AnyStartTag, AnyEndTag, Character, Null, Comment, EndOfFile}
-use Rattle.html_rules.specs.Table.{AnythingElse, Not, Both, ScriptingEnabled, ContextIs, InQuirksMode, FramesetOk, CurrentIs}
+use Rattle.html_rules.specs.Table.{AnythingElse, Not, Both, ByStandard, ScriptingEnabled, ContextIs, InQuirksMode, FramesetOk, CurrentIs}
 use Rattle.html_rules.specs.Table.{CurrentIsToken, SecondIsBody, TemplateOpen, HasTemplateModes, InScope, TokenInScope}
 use Rattle.html_rules.specs.Table.{HasFormElem, FormElemInScope, FormElemIsCurrent, AListed, TypeHidden, Nothing, When}
 use Rattle.html_rules.specs.Table.{ParseError, InsertElement, InsertVoid, InsertVoidAs, InsertNew, InsertNewVoid, AppendText}
@@ -76,6 +76,7 @@ in_body =
     -- as the start tag `br`, without attributes
     ∷ row (EndTags set.Br) (ParseError ▸ Reconstruct ▸ InsertNewVoid (codes "br") ▸ FramesetNotOk) Done
     ∷ row (StartTags set.VoidTag) (Reconstruct ▸ InsertVoid ▸ FramesetNotOk) Acknowledged
+    ∷ row_if (StartTags set.Input) (Both ByStandard (ContextIs set.Select)) ParseError Done
     ∷ row (StartTags set.Input)
     (When (ContextIs set.Select) ParseError ▸ When (InScope set.DefaultScope set.Select)
     (ParseError ▸ PopUntil set.Select) ▸ Reconstruct ▸ InsertVoid ▸ When (Not TypeHidden) FramesetNotOk) Acknowledged
