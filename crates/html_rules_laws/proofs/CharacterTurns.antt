@@ -118,8 +118,8 @@ Leaves n c s r = Ready (turn_by_row (using_rules_for n) r (character c) s).state
 plain-Flows : (m : InsertionMode)
     → ((original : Option InsertionMode) (xs : List Open) (head : Option ℕ) (modes : List InsertionMode)
     → fits_mode m original xs head modes ≡ has_root xs) → ((xs : List Open) → fits_head m xs ≡ true) → Flows m
-plain-Flows m e k n tag h original xs head modes f g =
-    (e original _ head modes ∙ root-reopened n tag xs h ∙ sym (e original xs head modes) ∙ f, k _)
+plain-Flows m e k rules n tag h original xs head modes f g =
+    (e original _ head modes ∙ root-reopened rules n tag xs h ∙ sym (e original xs head modes) ∙ f, k _)
 
 body-Flows : Flows InBody
 body-Flows = plain-Flows InBody (λ o xs h ms. refl) (λ xs. refl)
@@ -146,10 +146,10 @@ after_after_frameset-Flows : Flows AfterAfterFrameset
 after_after_frameset-Flows = plain-Flows AfterAfterFrameset (λ o xs h ms. refl) (λ xs. refl)
 
 template-Flows : Flows InTemplate
-template-Flows n tag h original xs head modes f g = (ap (λ b. b && is_nonempty modes) (root-reopened n tag xs h) ∙ f, refl)
+template-Flows rules n tag h original xs head modes f g = (ap (λ b. b && is_nonempty modes) (root-reopened rules n tag xs h) ∙ f, refl)
 
 cell-Flows : Flows InCell
-cell-Flows n tag h original xs head modes f g = (rw (root-reopened n tag xs h, cell-reopened n tag xs h) f, refl)
+cell-Flows rules n tag h original xs head modes f g = (rw (root-reopened rules n tag xs h, cell-reopened rules n tag xs h) f, refl)
 
 -- by the rules for a body, in a mode that flows
 body-keeps : (n : ℕ) (m : InsertionMode) → Flows m → (c : ℕ) (s : State) → ReadyIn m s

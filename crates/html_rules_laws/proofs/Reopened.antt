@@ -12,49 +12,50 @@ use Rattle.html_rules.specs.Shape.{fits_mode, has_root}
 use Rattle.html_rules.specs.Stack.{in_scope, is_open, open_templates}
 use Rattle.html_rules.specs.State.{Open, Entry, Element, Marker, State, is_in}
 use Rattle.html_rules.specs.declared.insertion_mode.InsertionMode.{InsertionMode}
+use Rattle.html_rules.specs.declared.rules.Rules.{Rules}
 use Rattle.html_rules.specs.declared.tag_set.TagSet.TheVariants as set
 use Rattle.html_rules_laws.proofs.Names.{disjoint}
 use Rattle.html_rules_laws.specs.Ready.{IsReady, are_formatting, fits_head}
 
 -- an element that is opened again
-abbrev reopened : ℕ → Tag → Open
-reopened n tag = record { number = n; namespace = Html; name = tag.name }
+abbrev reopened : Rules → ℕ → Tag → Open
+reopened rules n tag = record { number = n; namespace = Html; name = tag.name; rules = rules }
 
 abbrev IsFormatting : Tag → Type 0
 IsFormatting tag = is_among tag.name (names_of set.FormattingEnd) ≡ true
 
-not_html : (n : ℕ) (tag : Tag) → IsFormatting tag → is_in set.Html (reopened n tag) ≡ false
+not_html : (rules : Rules) (n : ℕ) (tag : Tag) → IsFormatting tag → is_in set.Html (reopened rules n tag) ≡ false
 unfolding names_of
-not_html n tag h = disjoint tag.name (names_of set.FormattingEnd) (names_of set.Html) refl h
+not_html rules n tag h = disjoint tag.name (names_of set.FormattingEnd) (names_of set.Html) refl h
 
-not_template : (n : ℕ) (tag : Tag) → IsFormatting tag → is_in set.Template (reopened n tag) ≡ false
+not_template : (rules : Rules) (n : ℕ) (tag : Tag) → IsFormatting tag → is_in set.Template (reopened rules n tag) ≡ false
 unfolding names_of
-not_template n tag h = disjoint tag.name (names_of set.FormattingEnd) (names_of set.Template) refl h
+not_template rules n tag h = disjoint tag.name (names_of set.FormattingEnd) (names_of set.Template) refl h
 
-not_cell : (n : ℕ) (tag : Tag) → IsFormatting tag → is_in set.TdTh (reopened n tag) ≡ false
+not_cell : (rules : Rules) (n : ℕ) (tag : Tag) → IsFormatting tag → is_in set.TdTh (reopened rules n tag) ≡ false
 unfolding names_of
-not_cell n tag h = disjoint tag.name (names_of set.FormattingEnd) (names_of set.TdTh) refl h
+not_cell rules n tag h = disjoint tag.name (names_of set.FormattingEnd) (names_of set.TdTh) refl h
 
-not_bound : (n : ℕ) (tag : Tag) → IsFormatting tag → is_in set.TableScope (reopened n tag) ≡ false
+not_bound : (rules : Rules) (n : ℕ) (tag : Tag) → IsFormatting tag → is_in set.TableScope (reopened rules n tag) ≡ false
 unfolding names_of
-not_bound n tag h = disjoint tag.name (names_of set.FormattingEnd) (names_of set.TableScope) refl h
+not_bound rules n tag h = disjoint tag.name (names_of set.FormattingEnd) (names_of set.TableScope) refl h
 
-pub root-reopened : (n : ℕ) (tag : Tag) (xs : List Open) → IsFormatting tag → has_root (reopened n tag ∷ xs) ≡ has_root xs
-root-reopened n tag xs h = rw (not_html n tag h) refl
+pub root-reopened : (rules : Rules) (n : ℕ) (tag : Tag) (xs : List Open) → IsFormatting tag → has_root (reopened rules n tag ∷ xs) ≡ has_root xs
+root-reopened rules n tag xs h = rw (not_html rules n tag h) refl
 
-pub templates-reopened : (n : ℕ) (tag : Tag) (xs : List Open) → IsFormatting tag → open_templates (reopened n tag ∷ xs) ≡ open_templates xs
-templates-reopened n tag xs h = rw (not_template n tag h) refl
+pub templates-reopened : (rules : Rules) (n : ℕ) (tag : Tag) (xs : List Open) → IsFormatting tag → open_templates (reopened rules n tag ∷ xs) ≡ open_templates xs
+templates-reopened rules n tag xs h = rw (not_template rules n tag h) refl
 
-pub cell-reopened : (n : ℕ) (tag : Tag) (xs : List Open) → IsFormatting tag → in_scope set.TableScope
-    (is_in set.TdTh) (reopened n tag ∷ xs) ≡ in_scope set.TableScope (is_in set.TdTh) xs
-cell-reopened n tag xs h = rw (not_cell n tag h, not_bound n tag h) refl
+pub cell-reopened : (rules : Rules) (n : ℕ) (tag : Tag) (xs : List Open) → IsFormatting tag → in_scope set.TableScope
+    (is_in set.TdTh) (reopened rules n tag ∷ xs) ≡ in_scope set.TableScope (is_in set.TdTh) xs
+cell-reopened rules n tag xs h = rw (not_cell rules n tag h, not_bound rules n tag h) refl
 
 -- a mode that fits all the same once a formatting element is opened
 abbrev pub Flows : InsertionMode → Type 0
-Flows m = (n : ℕ) (tag : Tag) → IsFormatting tag → (original : Option InsertionMode) (xs : List Open)
+Flows m = (rules : Rules) (n : ℕ) (tag : Tag) → IsFormatting tag → (original : Option InsertionMode) (xs : List Open)
     (head : Option ℕ) (modes : List InsertionMode)
     → fits_mode m original xs head modes ≡ true → fits_head m xs ≡ true
-    → (fits_mode m original (reopened n tag ∷ xs) head modes ≡ true) × (fits_head m (reopened n tag ∷ xs) ≡ true)
+    → (fits_mode m original (reopened rules n tag ∷ xs) head modes ≡ true) × (fits_head m (reopened rules n tag ∷ xs) ≡ true)
 
 -- a state is ready in a mode, which it has
 pub record ReadyIn (m : InsertionMode) (s : State) : Type 0 where
@@ -65,12 +66,12 @@ one-Ready : (m : InsertionMode) → Flows m → (tag : Tag) → IsFormatting tag
     → ReadyIn m (list_current tag (insert_element_for tag s))
 unfolding insert_element
 one-Ready m flows tag h s is =
-    let both = flows (node_count s.forest) tag h s.orig_mode s.open_elems s.head_elem s.template_modes is.ready.fit is.ready.in_head in
+    let both = flows s.opts.rules (node_count s.forest) tag h s.orig_mode s.open_elems s.head_elem s.template_modes is.ready.fit is.ready.in_head in
     record {
       mode = is.mode;
       ready = record {
         fit = both.0;
-        templates = rw (templates-reopened (node_count s.forest) tag s.open_elems h) is.ready.templates;
+        templates = rw (templates-reopened s.opts.rules (node_count s.forest) tag s.open_elems h) is.ready.templates;
         in_head = both.1;
         listed = rw h is.ready.listed;
         kept_lf = is.ready.kept_lf;

@@ -4,6 +4,7 @@ use Rattle.std.specs.Prelude.{◌&&◌}
 use Rattle.std.proofs.lemmas.Bool.{and_parts}
 use Rattle.html_tokens.specs.Sink.{IsReplyTo, IsTagReply, Reply}
 use Rattle.html_tokens.specs.TextState.{is_text_state}
+use Rattle.html_tokens.specs.declared.token.Doctype.{Doctype}
 use Rattle.html_tokens.specs.declared.states.State.TheVariants.{RawData as RawState}
 use Rattle.html_tokens.specs.declared.replies.TokenSinkResult.TheVariants as reply
 use Rattle.html_tokens.specs.declared.token.Token.{Token}
@@ -19,7 +20,7 @@ use Rattle.html_rules.specs.Rules.{Ending, Finished, Again, Replied, Settled, Tu
 use Rattle.html_rules.specs.Rules.{four_for_each, most_modes, rows, settle, settled_by, turn, turn_by_row, using_rules_for}
 use Rattle.html_rules.specs.Rules.{within}
 use Rattle.html_rules.specs.State.{Open, State, current_number}
-use Rattle.html_rules.specs.Step.{followed_by, after_line_feed, taken, taken_by, text_taken, untouched}
+use Rattle.html_rules.specs.Step.{followed_by, after_line_feed, taken, taken_by, text_taken, untouched, doctype_settled, ends_table_text}
 use Rattle.html_rules.specs.Table.{Row, Class, StartTags, EndTags, AnyStartTag, AnyEndTag, Conclusion, Done, Acknowledged}
 use Rattle.html_rules.specs.Table.{Reprocess, ReprocessInOriginal, ReprocessInMode, Using, UsingThen, UsingCurrentMode, RawText}
 use Rattle.html_rules.specs.Table.{PlainText, RunScript, ReportEncoding}
@@ -143,9 +144,13 @@ text-continues [] before h = h
 text-continues (c ∷ cs) before h = text-continues cs
     (followed_by before (settle (CharacterTokens (c ∷ [])) before.state)) (settle-well (CharacterTokens (c ∷ [])) before.state)
 
+doctype-well : (e : Bool) (d : Doctype) (s : State) → IsReplyTo (DoctypeToken d) (doctype_settled e d s).reply
+doctype-well true d s = settle-well (DoctypeToken d) s
+doctype-well false d s = refl
+
 taken_by-well : (b : Bool) (t : Token) (s : State) → IsReplyTo t (taken_by b t s).reply
 taken_by-well b (CharacterTokens text) s = text-continues (after_line_feed b text) (untouched s) refl
-taken_by-well b (DoctypeToken d) s = refl
+taken_by-well b (DoctypeToken d) s = doctype-well (ends_table_text s.opts.rules s.mode) d s
 taken_by-well b (TagToken tag) s = settle-well (TagToken tag) s
 taken_by-well b (CommentToken text) s = settle-well (CommentToken text) s
 taken_by-well b NullCharacterToken s = settle-well NullCharacterToken s

@@ -5,8 +5,10 @@ use Rattle.std.specs.Str.{bytes_eq}
 use Rattle.std.proofs.lemmas.Bool.{and_parts}
 use Rattle.std.proofs.lemmas.Slice.Eq.{bytes_eq-Decides}
 use Rattle.html_rules.specs.Names.{Namespace, Html, MathMl, Svg, Other}
-use Rattle.html_rules.specs.Sets.{is_among, mathml_names_of, names_in, names_of, svg_names_of}
+use Rattle.html_rules.specs.Sets.{is_among, mathml_names_of, names_in, names_of, set_by, svg_names_of}
 use Rattle.html_rules.specs.State.{Open, is_in}
+use Rattle.html_rules.specs.declared.rules.Rules.{Rules}
+use Rattle.html_rules.specs.declared.rules.Rules.TheVariants.{Html5ever, Standard}
 use Rattle.html_rules.specs.declared.tag_set.TagSet.{TagSet}
 use Rattle.html_rules_laws.proofs.Names.{disjoint, shares_name}
 use Rattle.html_rules_laws.proofs.Bools.{not_true}
@@ -28,17 +30,25 @@ among-all name (x ∷ xs) names h k =
     by true e k first rest = subst (λ y. is_among y names ≡ true) (sym ((bytes_eq-Decides name x).0 e)) first
     by false e k first rest = rest k
 
--- whether a set has all that another has
-abbrev pub within : TagSet → TagSet → Bool
-within a b = all_among (names_of a) (names_of b)
+-- whether the names of a set are all in another
+abbrev pub within_names : TagSet → TagSet → Bool
+within_names a b = all_among (names_of a) (names_of b)
     && (all_among (mathml_names_of a) (mathml_names_of b) && all_among (svg_names_of a) (svg_names_of b))
 
--- whether two sets have nothing in common
-abbrev pub apart : TagSet → TagSet → Bool
-apart a b = not (shares_name (names_of a) (names_of b))
+-- whether an element in a set is in another, whatever the rules
+abbrev pub within : TagSet → TagSet → Bool
+within a b = within_names (set_by Html5ever a) (set_by Html5ever b) && within_names (set_by Standard a) (set_by Standard b)
+
+-- whether two sets have no name in common
+abbrev pub apart_names : TagSet → TagSet → Bool
+apart_names a b = not (shares_name (names_of a) (names_of b))
     && (not (shares_name (mathml_names_of a) (mathml_names_of b)) && not (shares_name (svg_names_of a) (svg_names_of b)))
 
-in_by : (a b : TagSet) → within a b ≡ true → (namespace : Namespace) (name : List ℕ)
+-- whether no element is in both sets, whatever the rules
+abbrev pub apart : TagSet → TagSet → Bool
+apart a b = apart_names (set_by Html5ever a) (set_by Html5ever b) && apart_names (set_by Standard a) (set_by Standard b)
+
+in_by : (a b : TagSet) → within_names a b ≡ true → (namespace : Namespace) (name : List ℕ)
     → is_among name (names_in namespace a) ≡ true → is_among name (names_in namespace b) ≡ true
 in_by a b w namespace name = by namespace where
   html : (all_among (names_of a) (names_of b) ≡ true)
@@ -55,7 +65,14 @@ in_by a b w namespace name = by namespace where
   by (Other uri) h = h
 
 pub in-within : (a b : TagSet) → within a b ≡ true → (x : Open) → is_in a x ≡ true → is_in b x ≡ true
-in-within a b w x h = in_by a b w x.namespace x.name h
+in-within a b w x h = by x.rules h where
+  parts : (within_names (set_by Html5ever a) (set_by Html5ever b) ≡ true) × (within_names (set_by Standard a) (set_by Standard b) ≡ true)
+  parts = and_parts (within_names (set_by Html5ever a) (set_by Html5ever b)) _ w
+
+  by : (rules : Rules) → is_among x.name (names_in x.namespace (set_by rules a)) ≡ true
+      → is_among x.name (names_in x.namespace (set_by rules b)) ≡ true
+  by Html5ever h = in_by (set_by Html5ever a) (set_by Html5ever b) parts.0 x.namespace x.name h
+  by Standard h = in_by (set_by Standard a) (set_by Standard b) parts.1 x.namespace x.name h
 
 pub out-within : (a b : TagSet) → within a b ≡ true → (x : Open) → is_in b x ≡ false → is_in a x ≡ false
 out-within a b w x h = by (is_in a x) refl where
@@ -63,7 +80,7 @@ out-within a b w x h = by (is_in a x) refl where
   by true e = absurd (true≢false (sym (in-within a b w x e) ∙ h))
   by false e = e
 
-out_by : (a b : TagSet) → apart a b ≡ true → (namespace : Namespace) (name : List ℕ)
+out_by : (a b : TagSet) → apart_names a b ≡ true → (namespace : Namespace) (name : List ℕ)
     → is_among name (names_in namespace a) ≡ true → is_among name (names_in namespace b) ≡ false
 out_by a b w namespace name = by namespace where
   html : (not (shares_name (names_of a) (names_of b)) ≡ true)
@@ -80,4 +97,11 @@ out_by a b w namespace name = by namespace where
   by (Other uri) h = absurd (true≢false (sym h))
 
 pub in-apart : (a b : TagSet) → apart a b ≡ true → (x : Open) → is_in a x ≡ true → is_in b x ≡ false
-in-apart a b w x h = out_by a b w x.namespace x.name h
+in-apart a b w x h = by x.rules h where
+  parts : (apart_names (set_by Html5ever a) (set_by Html5ever b) ≡ true) × (apart_names (set_by Standard a) (set_by Standard b) ≡ true)
+  parts = and_parts (apart_names (set_by Html5ever a) (set_by Html5ever b)) _ w
+
+  by : (rules : Rules) → is_among x.name (names_in x.namespace (set_by rules a)) ≡ true
+      → is_among x.name (names_in x.namespace (set_by rules b)) ≡ false
+  by Html5ever h = out_by (set_by Html5ever a) (set_by Html5ever b) parts.0 x.namespace x.name h
+  by Standard h = out_by (set_by Standard a) (set_by Standard b) parts.1 x.namespace x.name h

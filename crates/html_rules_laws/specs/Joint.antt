@@ -8,7 +8,7 @@ use Rattle.html_tokens.specs.Reading.{next_stand, said}
 use Rattle.html_tokens.specs.Sink.{Reply}
 use Rattle.html_tokens.specs.Table.{Row}
 use Rattle.html_tokens.specs.declared.options.TokenizerOpts.{TokenizerOpts}
-use Rattle.html_rules.specs.Documents.{Setting, before_document, before_fragment, stand_of, tokenizer_state}
+use Rattle.html_rules.specs.Documents.{Setting, before_document, before_fragment, stand_of, tokenizer_state, form_of_context}
 use Rattle.html_rules.specs.ForeignContent.{asks_cdata, is_end_tag}
 use Rattle.html_rules.specs.Names.{Html, element_name_of}
 use Rattle.html_rules.specs.Shape.{is_fit}
@@ -30,7 +30,7 @@ pub data Met (table : List Row) : Stand → State → Type 0 where
       → Met table (stand_of opts) (hushed (before_document setting f))
   fragment : (opts : TokenizerOpts) (setting : Setting) (context : Open) (form : Option ℕ) (scripting : Bool)
       (f : Forest) → IsTree f → above_of f 0 ≡ None → IsOwn context.namespace
-      → IfSome form (λ n. element_name (data_of f n) ≡ Some (element_name_of Html (codes "form")))
+      → IfSome (form_of_context setting.opts.rules context form) (λ n. element_name (data_of f n) ≡ Some (element_name_of Html (codes "form")))
       → Met table (stand_of (record opts { initial_state = Some (tokenizer_state context scripting) }))
       (hushed (before_fragment setting context form f))
   behind : (st : Stand) (s r : State) (c : ℕ) (t : List ℕ) (breaks : ℕ) (reply : Reply) → Met table st s

@@ -7,7 +7,7 @@ use Rattle.html_tokens.specs.Sink.{Reply, Unfit}
 use Rattle.html_tokens.specs.declared.token.Token.{Token}
 use Rattle.html_rules.specs.Choice.{choose}
 use Rattle.html_rules.specs.Conditions.{context_is, is_nonempty}
-use Rattle.html_rules.specs.Documents.{Setting, before_document, before_fragment}
+use Rattle.html_rules.specs.Documents.{Setting, before_document, before_fragment, form_of_context}
 use Rattle.html_rules.specs.ForeignContent.{is_html_element}
 use Rattle.html_rules.specs.Names.{Html, element_name_of}
 use Rattle.html_rules.specs.Rules.{turn}
@@ -257,7 +257,7 @@ pub record AreNestedStatesFit : Type 0 where
   -- the states before the first token are such, where a fragment's form is one
   pub document : (setting : Setting) (f : Forest) → IsNested (before_document setting f)
   pub fragment : (setting : Setting) (context : Open) (form : Option ℕ) (f : Forest) → IsTree f
-      → IfSome form (λ n. element_name (data_of f n) ≡ Some (element_name_of Html (codes "form")))
+      → IfSome (form_of_context setting.opts.rules context form) (λ n. element_name (data_of f n) ≡ Some (element_name_of Html (codes "form")))
       → IsNested (before_fragment setting context form f)
   -- turns lead to such states
   pub turn : (t : Token) (s : State) → MayCome t s → IsNested s → IsNested (turn t s).state
@@ -267,7 +267,7 @@ pub data Reached : State → Type 0 where
   document : (setting : Setting) (f : Forest) → IsTree f → above_of f 0 ≡ None → Reached (before_document setting f)
   fragment : (setting : Setting) (context : Open) (form : Option ℕ) (f : Forest) → IsTree f → above_of f 0 ≡ None
       → IsOwn context.namespace
-      → IfSome form (λ n. element_name (data_of f n) ≡ Some (element_name_of Html (codes "form")))
+      → IfSome (form_of_context setting.opts.rules context form) (λ n. element_name (data_of f n) ≡ Some (element_name_of Html (codes "form")))
       → Reached (before_fragment setting context form f)
   token : (s r : State) (t : Token) (line : ℕ) (reply : Reply) → Reached s → step s t line ≡ Ok (r, reply) → Reached r
 

@@ -3,7 +3,7 @@ use Rattle.std.specs.Prelude.{◌≡◌, ℕ, false, Option, Some, None, IfSome,
 use Rattle.markup.specs.Forest.{Forest, IsNode, above_of, data_of, element_name}
 use Rattle.markup.specs.Named.{IsTree}
 use Rattle.html_tokens.specs.Sink.{SinkLaws}
-use Rattle.html_rules.specs.Documents.{Setting, before_document, before_fragment}
+use Rattle.html_rules.specs.Documents.{Setting, before_document, before_fragment, form_of_context}
 use Rattle.html_rules.specs.Names.{Html, element_name_of}
 use Rattle.html_rules.specs.State.{Open, State, hushed}
 use Rattle.html_rules.specs.Step.{ended, is_quiet, step}
@@ -26,5 +26,5 @@ pub record AreStatesUsable : Type 0 where
   pub document : (setting : Setting) (f : Forest) → IsTree f → above_of f 0 ≡ None → Usable (hushed (before_document setting f))
   pub fragment : (setting : Setting) (context : Open) (form : Option ℕ) (f : Forest) → IsTree f
       → above_of f 0 ≡ None → IsOwn context.namespace → IsNode f context.number
-      → IfSome form (λ n. element_name (data_of f n) ≡ Some (element_name_of Html (codes "form")))
+      → IfSome (form_of_context setting.opts.rules context form) (λ n. element_name (data_of f n) ≡ Some (element_name_of Html (codes "form")))
       → Usable (hushed (before_fragment setting context form f))

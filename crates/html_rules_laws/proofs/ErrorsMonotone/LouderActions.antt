@@ -27,7 +27,7 @@ use Rattle.html_rules.specs.Renames.{adjust_attributes, adjust_tag_name}
 use Rattle.html_rules.specs.Reset.{mode_of, mode_of_context, mode_of_open, reset_insertion_mode}
 use Rattle.html_rules.specs.Stack.{parse_error, pop, pop_until_current}
 use Rattle.html_rules.specs.State.{Open, State, adjusted_current_node, current_number, is_in, is_named}
-use Rattle.html_rules.specs.Table.{Action, Nothing, Then, When, ParseError, InsertElement, InsertVoid, InsertVoidAs}
+use Rattle.html_rules.specs.Table.{Action, Nothing, Then, When, ParseError, InsertElement, InsertVoid, InsertVoidAs, ByStandard}
 use Rattle.html_rules.specs.Table.{InsertFormVoid, InsertNew, InsertNewVoid, CreateRoot, CreateNewRoot, AppendText}
 use Rattle.html_rules.specs.Table.{AppendReplacement, AppendComment, AppendCommentToDocument, AppendCommentToRoot}
 use Rattle.html_rules.specs.Table.{InsertTemplate, AddAttributesToRoot, AddAttributesToBody, RemoveBody, Pop, PopUntil}
@@ -73,6 +73,7 @@ module _ (g : ℕ → ℕ) (commutes : Commutes g) where
   holds-louder Always t s = refl
   holds-louder ScriptingEnabled t s = refl
   holds-louder IframeSrcdoc t s = refl
+  holds-louder ByStandard t s = refl
   holds-louder InFragment t s = refl
   holds-louder (ContextIs names) t s = refl
   holds-louder InQuirksMode t s = refl

@@ -39,8 +39,9 @@ module _ (g : ℕ → ℕ) (commutes : Commutes g) where
       ap (λ f. record {
         forest = put f (Last (node_count w.forest)) w.last_node;
         active_formatting = with_in_place listed.number (Element (node_count w.forest) listed.tag) w.active_formatting;
-        copies = w.copies ++ opened_for w.forest listed.tag ∷ [];
+        copies = w.copies ++ opened_for w.rules w.forest listed.tag ∷ [];
         last_node = node_count w.forest;
+        rules = w.rules;
       }) (ap (λ f. remove f w.last_node) (with_copy-louder listed.tag w.forest) ∙ remove-louder w.last_node (with_copy w.forest listed.tag))
 
   copy_if-louder : (o : Option Listed) (w : Walk) → copy_if o (louder_walk g w) ≡ louder_walk g (copy_if o w)
@@ -72,7 +73,7 @@ module _ (g : ℕ → ℕ) (commutes : Commutes g) where
   finished formatting_element block w s f = record s {
     forest = put (reparent_children (with_copy f formatting_element.tag) block.number (node_count f)) (Last block.number) (node_count f);
     active_formatting = relist formatting_element.number (Element (node_count f) formatting_element.tag) w.copies w.active_formatting;
-    open_elems = opened_after block.number s.open_elems ++ opened_for f formatting_element.tag ∷ block ∷ w.copies
+    open_elems = opened_after block.number s.open_elems ++ opened_for s.opts.rules f formatting_element.tag ∷ block ∷ w.copies
         ++ opened_before formatting_element.number s.open_elems;
   }
 
@@ -83,7 +84,7 @@ module _ (g : ℕ → ℕ) (commutes : Commutes g) where
       ap (λ made. record s {
         forest = put (reparent_children made block.number (node_count f)) (Last block.number) (node_count f);
         active_formatting = relist formatting_element.number (Element (node_count f) formatting_element.tag) w.copies w.active_formatting;
-        open_elems = opened_after block.number s.open_elems ++ opened_for f formatting_element.tag ∷ block ∷
+        open_elems = opened_after block.number s.open_elems ++ opened_for s.opts.rules f formatting_element.tag ∷ block ∷
             w.copies ++ opened_before formatting_element.number s.open_elems;
       }) (with_copy-louder formatting_element.tag f)
 

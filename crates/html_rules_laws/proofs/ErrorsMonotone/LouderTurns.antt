@@ -16,7 +16,7 @@ use Rattle.html_rules.specs.Rules.{fits, four_for_each, is_self_closing, most_mo
 use Rattle.html_rules.specs.Rules.{turn, turn_by_row, turn_then, using_rules_for, within}
 use Rattle.html_rules.specs.Stack.{parse_error}
 use Rattle.html_rules.specs.State.{Open, State, current_number}
-use Rattle.html_rules.specs.Step.{followed_by, after_line_feed, doctype_taken, first_doctype_taken, if_kept, taken, taken_by}
+use Rattle.html_rules.specs.Step.{followed_by, after_line_feed, doctype_taken, first_doctype_taken, if_kept, taken, taken_by, doctype_settled, ends_table_text}
 use Rattle.html_rules.specs.Step.{text_taken, untouched}
 use Rattle.html_rules.specs.Table.{Row, Conclusion, Done, Acknowledged, Reprocess, ReprocessInOriginal, ReprocessInMode, Using}
 use Rattle.html_rules.specs.Table.{UsingThen, UsingCurrentMode, RawText, PlainText, RunScript, ReportEncoding}
@@ -143,7 +143,7 @@ module _ (g : ℕ → ℕ) (commutes : Commutes g) where
 
   first_doctype-louder : (d : Doctype) → IsLoud g commutes (first_doctype_taken d)
   first_doctype-louder d s =
-      let quirks = quirks_of s.opts.iframe_srcdoc d in
+      let quirks = quirks_of s.opts.rules s.opts.iframe_srcdoc d in
       then-louder g commutes (λ r. set_quirks_mode quirks
       (if_kept s.opts.drop_doctype d (choose (doctype_error d) (λ _. parse_error r) (λ _. r)))) (set_mode BeforeHtml)
       (then-louder g commutes (λ r. if_kept s.opts.drop_doctype d
@@ -158,9 +158,13 @@ module _ (g : ℕ → ℕ) (commutes : Commutes g) where
   doctype-louder Initial d s = first_doctype-louder d s
   doctype-louder _ d s = parse_error-louder g commutes s
 
+  doctype_settled-louder : (e : Bool) (d : Doctype) (s : State) → doctype_settled e d (louder g s) ≡ louder_settled g (doctype_settled e d s)
+  doctype_settled-louder true d s = settle-louder (DoctypeToken d) s
+  doctype_settled-louder false d s = ap untouched (doctype-louder s.mode d s)
+
   taken_by-louder : (b : Bool) (t : Token) (s : State) → taken_by b t (louder g s) ≡ louder_settled g (taken_by b t s)
   taken_by-louder b (CharacterTokens text) s = text_taken-louder (after_line_feed b text) (untouched s)
-  taken_by-louder b (DoctypeToken d) s = ap untouched (doctype-louder s.mode d s)
+  taken_by-louder b (DoctypeToken d) s = doctype_settled-louder (ends_table_text s.opts.rules s.mode) d s
   taken_by-louder b (TagToken tag) s = settle-louder (TagToken tag) s
   taken_by-louder b (CommentToken text) s = settle-louder (CommentToken text) s
   taken_by-louder b NullCharacterToken s = settle-louder NullCharacterToken s

@@ -15,7 +15,7 @@ use Rattle.html_rules.specs.Actions.{set_quirks_mode, set_template_mode, insert_
 use Rattle.html_rules.specs.Adoption.{adopt_from, handle_misnested_a_tags}
 use Rattle.html_rules.specs.Choice.{choose}
 use Rattle.html_rules.specs.Conditions.{holds}
-use Rattle.html_rules.specs.ForeignContent.{close_foreign, ends_foreign, enter_foreign, foreign_end, foreign_start, pop_foreign}
+use Rattle.html_rules.specs.ForeignContent.{close_foreign, ends_foreign, ends_foreign_in, enter_foreign, foreign_end, foreign_start, pop_foreign}
 use Rattle.html_rules.specs.Formatting.{Listed, clear_active_formatting_to_marker, create_formatting_element_for, last_named, push_marker}
 use Rattle.html_rules.specs.Names.{Html}
 use Rattle.html_rules.specs.Places.{append_comment, append_comment_to_doc, append_comment_to_html, append_text, create_root}
@@ -230,5 +230,5 @@ act-rest InsertPendingText p t s = let told = tell-keeps aside_kept s.pending_ta
     record { context = told.context; ended = told.ended; modes = λ m. rw told.modes m }
 act-rest (EnterForeign namespace) p t s = tag-rest (enter_foreign namespace) t (enter-keeps aside_kept namespace) s
 act-rest InsertForeign p t s = tag-rest foreign_start t (λ tag s. foreign-keeps aside_kept (adjusted_current_node s) tag s) s
-act-rest PopForeign p t s = aside-rest s _ (pop_until_current-keeps aside_kept ends_foreign s)
+act-rest PopForeign p t s = aside-rest s _ (pop_until_current-keeps aside_kept (ends_foreign_in s) s)
 act-rest CloseForeign p t s = aside-rest s _ (close_by-keeps aside_kept (foreign_end (name_of t) s) s)

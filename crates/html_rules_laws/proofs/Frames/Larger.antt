@@ -19,7 +19,7 @@ use Rattle.html_rules.specs.Modes.Foreign.{in_foreign_content}
 use Rattle.html_rules.specs.Rules.{Settled, rows, settle}
 use Rattle.html_rules.specs.Stack.{parse_error}
 use Rattle.html_rules.specs.State.{Open, State}
-use Rattle.html_rules.specs.Step.{followed_by, after_line_feed, doctype_taken, first_doctype_taken, if_kept, taken, taken_by}
+use Rattle.html_rules.specs.Step.{followed_by, after_line_feed, doctype_taken, first_doctype_taken, if_kept, taken, taken_by, doctype_settled, ends_table_text}
 use Rattle.html_rules.specs.Step.{text_taken, untouched}
 use Rattle.html_rules.specs.Table.{Action, Row, Conclusion, UsingThen, CreateNewRoot, Then, When, SetHeadElem, SetFormElem}
 use Rattle.html_rules.specs.Table.{ForgetFormElem, InsertFormVoid}
@@ -124,20 +124,24 @@ first-larger : (d : Doctype) (s : State) → Larger s (first_doctype_taken d s)
 first-larger d s =
     let told : State = choose (doctype_error d) (λ _. parse_error s) (λ _. s) in
     let kept : State = if_kept s.opts.drop_doctype d told in
-    let laid : State = set_quirks_mode (quirks_of s.opts.iframe_srcdoc d) kept in
+    let laid : State = set_quirks_mode (quirks_of s.opts.rules s.opts.iframe_srcdoc d) kept in
     let one = larger-either (doctype_error d) s (parse_error s) s (error-larger s) (larger-same s) in
     let two = larger-either s.opts.drop_doctype told told (append_doctype_to_document d told) (larger-same told) (put-larger d told) in
     larger-after s told _ one
     (larger-after told kept _ two
-    (larger-after kept laid _ (quirks-larger (quirks_of s.opts.iframe_srcdoc d) kept) (moved-larger mode.BeforeHtml laid)))
+    (larger-after kept laid _ (quirks-larger (quirks_of s.opts.rules s.opts.iframe_srcdoc d) kept) (moved-larger mode.BeforeHtml laid)))
 
 doctype-larger : (m : InsertionMode) (d : Doctype) (s : State) → Larger s (doctype_taken m d s)
 doctype-larger mode.Initial d s = first-larger d s
 doctype-larger m d s = error-larger s
 
+doctype_settled-larger : (e : Bool) (d : Doctype) (s : State) → Larger s (doctype_settled e d s).state
+doctype_settled-larger true d s = settle-larger (DoctypeToken d) s
+doctype_settled-larger false d s = doctype-larger s.mode d s
+
 taken_by-larger : (t : Token) (b : Bool) (s : State) → Larger s (taken_by b t s).state
 taken_by-larger (CharacterTokens text) b s = text-larger (after_line_feed b text) (untouched s)
-taken_by-larger (DoctypeToken d) b s = doctype-larger s.mode d s
+taken_by-larger (DoctypeToken d) b s = doctype_settled-larger (ends_table_text s.opts.rules s.mode) d s
 taken_by-larger t b s = settle-larger t s
 
 unlined-larger : (s : State) → Larger s (set_ignore_lf false s)

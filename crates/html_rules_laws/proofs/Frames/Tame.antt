@@ -27,6 +27,7 @@ use Rattle.html_rules.specs.Stack.{generate_implied_end_tags, in_scope, is_open,
 use Rattle.html_rules.specs.Stack.{pop_until, pop_until_current, process_end_tag_in_body, remove_from_stack, remove_if}
 use Rattle.html_rules.specs.State.{Open, Entry, Element, Marker, State, current_is, current_number, is_in, is_named}
 use Rattle.html_rules.specs.Tokens.{is_white}
+use Rattle.html_rules.specs.declared.rules.Rules.{Rules}
 use Rattle.html_rules.specs.declared.tag_set.TagSet.{TagSet}
 use Rattle.html_rules.specs.declared.tag_set.TagSet.TheVariants as set
 use Rattle.html_rules_laws.specs.Ready.{are_formatting}
@@ -132,11 +133,11 @@ put_element-tame namespace name attributes dup s l = part-tame s _ (part-same s.
 -- elements come
 
 pub insert_element-tame : (namespace : Namespace) (name : List ℕ) (attributes : List Attribute) (dup : Bool)
-    → ((n : ℕ) → IsOrdinary (record { number = n; namespace = namespace; name = name }))
+    → ((n : ℕ) (rules : Rules) → IsOrdinary (record { number = n; namespace = namespace; name = name; rules = rules }))
     → Tames (insert_element namespace name attributes dup)
 unfolding insert_element
 insert_element-tame namespace name attributes dup plain s l =
-    record { firm = firm-plain _ s.open_elems (plain (node_count s.forest)); listed = l }
+    record { firm = firm-plain _ s.open_elems (plain (node_count s.forest) s.opts.rules); listed = l }
 
 abbrev pub special_names : List (List ℕ)
 special_names = codes "html" ∷ codes "head" ∷ codes "template" ∷ []
@@ -147,25 +148,25 @@ three false true c h = absurd (true≢false h)
 three false false true h = absurd (true≢false h)
 three false false false h = (refl, (refl, refl))
 
-pub plain-name : (name : List ℕ) → is_among name special_names ≡ false → (n : ℕ)
-    → IsOrdinary (record { number = n; namespace = Html; name = name })
+pub plain-name : (name : List ℕ) → is_among name special_names ≡ false → (n : ℕ) (rules : Rules)
+    → IsOrdinary (record { number = n; namespace = Html; name = name; rules = rules })
 unfolding names_of
-plain-name name h n =
+plain-name name h n rules =
     let parts = three (bytes_eq name (codes "html")) (bytes_eq name (codes "head")) (bytes_eq name (codes "template")) h in
     record { root = parts.0; head = parts.1.0; template = parts.1.1 }
 
-pub plain-formatting : (tag : Tag) → is_among tag.name (names_of set.FormattingEnd) ≡ true → (n : ℕ)
-    → IsOrdinary (record { number = n; namespace = Html; name = tag.name })
+pub plain-formatting : (tag : Tag) → is_among tag.name (names_of set.FormattingEnd) ≡ true → (n : ℕ) (rules : Rules)
+    → IsOrdinary (record { number = n; namespace = Html; name = tag.name; rules = rules })
 unfolding names_of
-plain-formatting tag h n = plain-name tag.name (disjoint tag.name (names_of set.FormattingEnd) special_names refl h) n
+plain-formatting tag h n rules = plain-name tag.name (disjoint tag.name (names_of set.FormattingEnd) special_names refl h) n rules
 
-pub plain-foreign : (namespace : Namespace) (name : List ℕ) → is_html namespace ≡ false → (n : ℕ)
-    → IsOrdinary (record { number = n; namespace = namespace; name = name })
+pub plain-foreign : (namespace : Namespace) (name : List ℕ) → is_html namespace ≡ false → (n : ℕ) (rules : Rules)
+    → IsOrdinary (record { number = n; namespace = namespace; name = name; rules = rules })
 unfolding names_of mathml_names_of svg_names_of
-plain-foreign Html name h n = absurd (true≢false h)
-plain-foreign MathMl name h n = record { root = refl; head = refl; template = refl }
-plain-foreign Svg name h n = record { root = refl; head = refl; template = refl }
-plain-foreign (Other uri) name h n = record { root = refl; head = refl; template = refl }
+plain-foreign Html name h n rules = absurd (true≢false h)
+plain-foreign MathMl name h n rules = record { root = refl; head = refl; template = refl }
+plain-foreign Svg name h n rules = record { root = refl; head = refl; template = refl }
+plain-foreign (Other uri) name h n rules = record { root = refl; head = refl; template = refl }
 
 -- formatting elements
 
@@ -293,7 +294,7 @@ copied-well : (o : Option Listed) (w : Walk)
     → IfSome o (λ listed. is_among listed.tag.name (names_of set.FormattingEnd) ≡ true) → WalksWell w → WalksWell (copy_if o w)
 copied-well None w h is = is
 copied-well (Some listed) w h is = record {
-  plain = plain-append w.copies _ is.plain (plain-formatting listed.tag h (node_count w.forest), tt);
+  plain = plain-append w.copies _ is.plain (plain-formatting listed.tag h (node_count w.forest) w.rules, tt);
   listed = in_place-listed listed.number (node_count w.forest) listed.tag h w.active_formatting is.listed;
 }
 
@@ -317,7 +318,7 @@ adopt-tame fe block w s t is there e =
     let at = found fe.number block s.open_elems there e in
     record {
       firm = adopted-firm s.open_elems (opened_after block.number s.open_elems)
-          (opened_before fe.number s.open_elems) block at.0 _ w.copies at.1 (plain-formatting fe.tag t _) is.plain;
+          (opened_before fe.number s.open_elems) block at.0 _ w.copies at.1 (plain-formatting fe.tag t _ _) is.plain;
       listed = relist-listed fe.number _ fe.tag w.copies w.active_formatting t is.listed;
     }
 

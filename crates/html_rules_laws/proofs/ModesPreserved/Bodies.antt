@@ -141,15 +141,15 @@ moved-nested g template w to r h f n i b = fluid-nested g template (record w { m
 
 text-nested : (g : Ground) (template : Bool) (w : At) (r : State) → Fluid g template w r → is_bodily w.mode ≡ true
     → has_base w.mode w.base ≡ true → (tag : Tag)
-    → IsLoose (record { number = node_count r.forest; namespace = Html; name = tag.name })
+    → IsLoose (record { number = node_count r.forest; namespace = Html; name = tag.name; rules = r.opts.rules })
     → IsNested (set_mode mode.Text (save_mode (insert_element_for tag r)))
 unfolding set_mode save_mode insert_element
 text-nested g template w r h f b tag l =
-    let x : Open = record { number = node_count r.forest; namespace = Html; name = tag.name } in
+    let x : Open = record { number = node_count r.forest; namespace = Html; name = tag.name; rules = r.opts.rules } in
     let fits = flow-fits g template w.mode w.base r.open_elems f b h.nested h.base
     (root-flows g template w.mode w.base h.takes h.in_template) in
     let some = base-nonempty r.open_elems (rw h.base (based-some w.mode w.base b)) in
-    let made = inserted-Made r.foster_parenting r.forest Html tag.name tag.attrs tag.had_duplicate_attributes
+    let made = inserted-Made r.opts.rules r.foster_parenting r.forest Html tag.name tag.attrs tag.had_duplicate_attributes
     r.open_elems h.poised.upright.standing.tree tt h.poised.upright.standing.opened in
     let same = pushed-templates x r.open_elems l in
     record {
@@ -192,7 +192,7 @@ module _ (g : Ground) (template : Bool) (t : Token) where
       by u e k i l f b = tagged kind u i k
           (λ u. IsNested (act (Then SaveMode (SwitchTo mode.Text)) u (act InsertElement u s)))
           (λ tag same. text-nested g template w s fluid f b tag
-          (name-loose tag.name (kind-loose kind tag l (subst (λ u. is_of kind u ≡ true) same k)) (node_count s.forest)))
+          (name-loose tag.name (kind-loose kind tag l (subst (λ u. is_of kind u ≡ true) same k)) (node_count s.forest) s.opts.rules))
   to-text kind InsertElement b w h k s fluid = no h
   to-text kind a b w h k s fluid = no h
 

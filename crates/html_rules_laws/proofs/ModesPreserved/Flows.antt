@@ -1,5 +1,5 @@
 -- Actions under which loose elements alone come and go.
-use Rattle.std.proofs.Common.{◌≡◌, ◌∙◌, ℕ, Bool, true, false, List, [], ◌∷◌, Option, Some, None, refl, sym, true≢false, codes}
+use Rattle.std.proofs.Common.{◌≡◌, ◌∙◌, ℕ, Bool, true, false, List, [], ◌∷◌, Option, Some, None, refl, sym, true≢false, codes, subst}
 use Rattle.std.specs.Prelude.{◌&&◌, not, IfSome}
 use Rattle.std.proofs.lemmas.Bool.{and_parts}
 use Rattle.markup.specs.Forest.{data_of, element_name, node_count}
@@ -14,7 +14,7 @@ use Rattle.std.specs.List.{list_all}
 use Rattle.std.proofs.lemmas.Slice.Eq.{bytes_eq-Decides}
 use Rattle.markup.specs.declared.attributes.Attribute.{Attribute}
 use Rattle.html_rules.specs.Choice.{choose}
-use Rattle.html_rules.specs.ForeignContent.{ends_foreign, enter_foreign, is_end_tag, pop_foreign}
+use Rattle.html_rules.specs.ForeignContent.{ends_foreign, ends_foreign_in, enter_foreign, is_end_tag, pop_foreign}
 use Rattle.html_rules.specs.Formatting.{clear_active_formatting_to_marker, create_formatting_element_for, last_named, push_marker}
 use Rattle.html_rules.specs.Names.{Namespace, Html, MathMl, Svg, Other, element_name_of, is_html}
 use Rattle.html_rules.specs.Places.{append_comment, append_comment_to_doc, append_comment_to_html, append_text}
@@ -44,7 +44,7 @@ use Rattle.html_rules_laws.proofs.Termination.Kinds.{Kind, Ends, EndsBut, is_of}
 use Rattle.html_rules_laws.proofs.Soundness.Acts.{formatting-of, formatting_kind}
 use Rattle.html_rules_laws.proofs.Frames.Framed as framed
 use Rattle.html_rules_laws.proofs.Frames.Framed.{IsFramed}
-use Rattle.html_rules_laws.proofs.ModesPreserved.Parts.{are_loose, foreign-loose, is_loose_name, name-loose, part-set, set-loose}
+use Rattle.html_rules_laws.proofs.ModesPreserved.Parts.{are_loose, foreign-loose, is_loose_name, name-loose, part-set, set-loose, set_of-by}
 use Rattle.html_rules_laws.proofs.ModesPreserved.Smooth.{Guard, Reaches, ReachesToken, Current, Holds, is_tag_kind, kind-loose}
 use Rattle.html_rules_laws.proofs.ModesPreserved.Smooth.{loose_kind, token-loose}
 use Rattle.html_rules_laws.proofs.ModesPreserved.Stacks.{drop, frees-same, reach, reach-frees, reach-more}
@@ -136,24 +136,25 @@ popped-flow g names l (x ∷ xs) h = by (is_in set.Html x) where
 formatting-flow : (g : Ground) (tag : Tag) → is_among tag.name (names_of set.FormattingEnd) ≡ true → (s : State)
     → IsFlow g s.open_elems (create_formatting_element_for tag s).open_elems
 unfolding create_formatting_element_for insert_element
-formatting-flow g tag h s = flow-push g (record { number = node_count s.forest; namespace = Html; name = tag.name })
-    s.open_elems (name-loose tag.name (formatting-loose tag h) (node_count s.forest))
+formatting-flow g tag h s = flow-push g (record { number = node_count s.forest; namespace = Html; name = tag.name; rules = s.opts.rules })
+    s.open_elems (name-loose tag.name (formatting-loose tag h) (node_count s.forest) s.opts.rules)
 
 pub foreign-flow : (g : Ground) (namespace : Namespace) (tag : Tag) → is_html namespace ≡ false → (s : State)
     → IsFlow g s.open_elems (enter_foreign namespace tag s).open_elems
 unfolding enter_foreign put_element insert_element
 foreign-flow g namespace tag h s = flow-either g s.open_elems tag.self_closing _ _ (flow-same g s.open_elems)
-    (flow-push g (record { number = node_count s.forest; namespace = namespace; name = tag.name }) s.open_elems (foreign-loose _ h))
+    (flow-push g (record { number = node_count s.forest; namespace = namespace; name = tag.name; rules = s.opts.rules }) s.open_elems (foreign-loose _ h))
 
 -- the token does not name the part that was opened last
 pub named-out : (names : List (List ℕ)) → (name : List ℕ) (b : Part) → is_among name (names_of (set_of b)) ≡ false
     → is_loose b ≡ false → (x : Open) → is_named name x ≡ true → part_of x ≡ b → ⊥
-named-out names name b out l x i e = by x.namespace x.name i (part-set x b e l) where
-  by : (namespace : Namespace) (own : List ℕ) → named_in namespace own name ≡ true → is_among own (names_in namespace (set_of b)) ≡ true → ⊥
-  by Html own i k = true≢false (sym (rw ((bytes_eq-Decides own name).0 i) at k) ∙ out)
-  by MathMl own i k = no i
-  by Svg own i k = no i
-  by (Other uri) own i k = no i
+named-out names name b out l x i e = by x.namespace x.name i
+    (subst (λ these. is_among x.name (names_in x.namespace these) ≡ true) (set_of-by x.rules b) (part-set x b e l)) where
+      by : (namespace : Namespace) (own : List ℕ) → named_in namespace own name ≡ true → is_among own (names_in namespace (set_of b)) ≡ true → ⊥
+      by Html own i k = true≢false (sym (rw ((bytes_eq-Decides own name).0 i) at k) ∙ out)
+      by MathMl own i k = no i
+      by Svg own i k = no i
+      by (Other uri) own i k = no i
 
 other-name : (kind : Kind) (b : Part) → other_kind kind b ≡ true → (t : Token) → is_of kind t ≡ true
     → is_among (name_of t) (names_of (set_of b)) ≡ false
@@ -170,8 +171,8 @@ other-name kind b h t k = no h
 
 item-flow : (g : Ground) (items : TagSet) → is_item items ≡ true → (s : State) → IsFlow g s.open_elems (close_item items s).open_elems
 unfolding names_of mathml_names_of svg_names_of
-item-flow g set.Li h s = close_item-flow g set.Li refl refl refl s
-item-flow g set.DdDt h s = close_item-flow g set.DdDt refl refl refl s
+item-flow g set.Li h s = close_item-flow g set.Li (λ rules. refl) refl refl refl s
+item-flow g set.DdDt h s = close_item-flow g set.DdDt (λ rules. refl) refl refl refl s
 item-flow g items h s = no h
 
 nobr-loose : is_loose_name (codes "nobr") parts ≡ true
@@ -242,8 +243,8 @@ act-flow g kind gd b KeepText f l t k s e h form fs is = flow-same g s.open_elem
 act-flow g kind gd b InsertElement f l t k s e h form fs is = let tests = and_parts (is_tag_kind kind) _ f in
     tag-flow g insert_element_for kind t k s (λ tag j. insert-flow g tag (kind-loose kind tag tests.1 j) s)
 act-flow g kind gd b (InsertNew name) f l t k s e h form fs is =
-    flow-push g (record { number = node_count s.forest; namespace = Html; name = name }) s.open_elems
-    (name-loose name f (node_count s.forest))
+    flow-push g (record { number = node_count s.forest; namespace = Html; name = name; rules = s.opts.rules }) s.open_elems
+    (name-loose name f (node_count s.forest) s.opts.rules)
 act-flow g kind (Current names) b Pop f l t k s e h form fs is = popped-flow g names f s.open_elems h
 act-flow g kind (Reaches names) b (PopUntil others) f l t k s e h form fs is = until-flow g (is_in others) s
     (reach-more (is_in names) (is_in others) (in-within names others f) s.open_elems h)
@@ -333,6 +334,6 @@ act-framed kind gd b AdoptNobr f t s = agency-keeps framed.framed_kept (codes "n
 act-framed kind gd b CloseMisnestedA f t s = misnested-keeps framed.framed_kept (last_named (codes "a") s.active_formatting) s
 act-framed kind gd b InsertPendingText f t s = pending-framed s
 act-framed kind gd b (EnterForeign namespace) f t s = tag-framed (enter_foreign namespace) t ((enter-keeps framed.framed_kept) namespace) s
-act-framed kind gd b PopForeign f t s = pop_until_current-keeps framed.framed_kept ends_foreign s
+act-framed kind gd b PopForeign f t s = pop_until_current-keeps framed.framed_kept (ends_foreign_in s) s
 act-framed kind gd b RemoveFormElem f t s = unopened-keeps framed.framed_kept s.form_elem s
 act-framed kind gd b a f t s = no f

@@ -12,13 +12,15 @@ use Rattle.html_rules.specs.Actions.{act, set_mode}
 use Rattle.html_rules.specs.Choice.{choose}
 use Rattle.html_rules.specs.Conditions.{context_is}
 use Rattle.html_rules.specs.Names.{Namespace, Html, MathMl, Svg, Other, element_name_of}
-use Rattle.html_rules.specs.Sets.{is_among, mathml_names_of, names_in, names_of, svg_names_of}
+use Rattle.html_rules.specs.Sets.{is_among, mathml_names_of, names_in, names_of, set_by, svg_names_of}
 use Rattle.html_rules.specs.Shape.{one_if}
 use Rattle.html_rules.specs.Stack.{left_below, left_from, open_templates}
 use Rattle.html_rules.specs.State.{Open, State, is_in, is_named, named_in}
 use Rattle.html_rules.specs.Table.{Action}
 use Rattle.html_rules.specs.declared.insertion_mode.InsertionMode.{InsertionMode}
 use Rattle.html_rules.specs.declared.insertion_mode.InsertionMode.TheVariants as mode
+use Rattle.html_rules.specs.declared.rules.Rules.{Rules}
+use Rattle.html_rules.specs.declared.rules.Rules.TheVariants.{Html5ever, Standard}
 use Rattle.html_rules.specs.declared.tag_set.TagSet.{TagSet}
 use Rattle.html_rules.specs.declared.tag_set.TagSet.TheVariants as set
 use Rattle.html_rules_laws.specs.Held.{wanted}
@@ -35,7 +37,7 @@ use Rattle.html_rules_laws.proofs.TreePreserved.Acts.{act-eased}
 use Rattle.html_rules_laws.proofs.TreePreserved.Poised.{Poised, moved-poised, tame-poised}
 use Rattle.html_rules_laws.proofs.ModesPreserved.Flows.{act-flow, act-framed, flows}
 use Rattle.html_rules_laws.proofs.Frames.Framed.{IsFramed}
-use Rattle.html_rules_laws.proofs.ModesPreserved.Parts.{is_loose_name, part-within, set-part}
+use Rattle.html_rules_laws.proofs.ModesPreserved.Parts.{is_loose_name, part-within, set-part, set_of-by}
 use Rattle.html_rules_laws.proofs.ModesPreserved.Smooth.{Guard, Holds, based}
 use Rattle.html_rules_laws.proofs.ModesPreserved.Stacks.{Frees, IsLoose, drop, frees-same, keep, loose-template, nil}
 use Rattle.html_rules_laws.proofs.Bools.{no, not_true}
@@ -233,8 +235,12 @@ abbrev no_names : List (List ℕ) → Bool
 no_names [] = true
 no_names (name ∷ names) = false
 
+abbrev are_names_of_parts : TagSet → Bool
+are_names_of_parts names = have_parts (names_of names) && (no_names (mathml_names_of names) && no_names (svg_names_of names))
+
+-- whatever the rules
 abbrev pub are_parts : TagSet → Bool
-are_parts names = have_parts (names_of names) && (no_names (mathml_names_of names) && no_names (svg_names_of names))
+are_parts names = are_names_of_parts (set_by Html5ever names) && are_names_of_parts (set_by Standard names)
 
 has-part : (name : List ℕ) (names : List (List ℕ)) → have_parts names ≡ true → is_among name names ≡ true → is_loose_name name parts ≡ false
 has-part name [] h k = no k
@@ -251,57 +257,69 @@ abbrev has_no_loose : List Part → Bool
 has_no_loose [] = true
 has_no_loose (p ∷ ps) = not (is_loose p) && has_no_loose ps
 
-unnamed : (n : ℕ) (name : List ℕ) (ps : List Part) → has_no_loose ps ≡ true
-    → part_among ps (record { number = n; namespace = Html; name = name }) ≡ Loose → is_loose_name name ps ≡ true
-unnamed n name [] a e = refl
-unnamed n name (p ∷ ps) a e = by (is_among name (names_of (set_of p))) refl e (unnamed n name ps tests.1) where
-  tests : (not (is_loose p) ≡ true) × (has_no_loose ps ≡ true)
-  tests = and_parts (not (is_loose p)) _ a
+unnamed : (n : ℕ) (rules : Rules) (name : List ℕ) (ps : List Part) → has_no_loose ps ≡ true
+    → part_among ps (record { number = n; namespace = Html; name = name; rules = rules }) ≡ Loose → is_loose_name name ps ≡ true
+unnamed n rules name [] a e = refl
+unnamed n rules name (p ∷ ps) a e = by (is_among name (names_of (set_of p))) refl
+    (subst (λ these. choose (is_among name (names_of these)) (λ _. p)
+    (λ _. part_among ps (record { number = n; namespace = Html; name = name; rules = rules })) ≡ Loose) (set_of-by rules p) e)
+    (unnamed n rules name ps tests.1) where
+      tests : (not (is_loose p) ≡ true) × (has_no_loose ps ≡ true)
+      tests = and_parts (not (is_loose p)) _ a
 
-  by : (b : Bool) → is_among name (names_of (set_of p)) ≡ b
-      → choose b (λ _. p) (λ _. part_among ps (record { number = n; namespace = Html; name = name })) ≡ Loose
-      → (part_among ps (record { number = n; namespace = Html; name = name }) ≡ Loose → is_loose_name name ps ≡ true)
-      → (not b && is_loose_name name ps) ≡ true
-  by true i e rest = absurd (true≢false (sym (ap is_loose e) ∙ not_true _ tests.0))
-  by false i e rest = rest e
+      by : (b : Bool) → is_among name (names_of (set_of p)) ≡ b
+          → choose b (λ _. p) (λ _. part_among ps (record { number = n; namespace = Html; name = name; rules = rules })) ≡ Loose
+          → (part_among ps (record { number = n; namespace = Html; name = name; rules = rules }) ≡ Loose → is_loose_name name ps ≡ true)
+          → (not b && is_loose_name name ps) ≡ true
+      by true i e rest = absurd (true≢false (sym (ap is_loose e) ∙ not_true _ tests.0))
+      by false i e rest = rest e
 
 empty-names : (names : List (List ℕ)) (name : List ℕ) → no_names names ≡ true → is_among name names ≡ false
 empty-names [] name h = refl
 empty-names (x ∷ names) name h = no h
 
-pub parts-out : (names : TagSet) → are_parts names ≡ true → (x : Open) → IsLoose x → is_in names x ≡ false
+out_by : (names : TagSet) → are_names_of_parts names ≡ true → (x : Open) → IsLoose x → is_among x.name (names_in x.namespace names) ≡ false
 unfolding part_of
-parts-out names h x l = by x.number x.namespace x.name l where
+out_by names h x l = by x.number x.rules x.namespace x.name l where
   tests : (have_parts (names_of names) ≡ true) × ((no_names (mathml_names_of names) ≡ true) × (no_names (svg_names_of names) ≡ true))
   tests = let one = and_parts (have_parts (names_of names)) _ h in (one.0, and_parts (no_names (mathml_names_of names)) _ one.1)
 
-  html : (n : ℕ) (name : List ℕ) (b : Bool) → is_among name (names_of names) ≡ b
-      → part_among parts (record { number = n; namespace = Html; name = name }) ≡ Loose → b ≡ false
-  html n name true e l = absurd (true≢false (sym (unnamed n name parts refl l) ∙ has-part name (names_of names) tests.0 e))
-  html n name false e l = refl
+  html : (n : ℕ) (rules : Rules) (name : List ℕ) (b : Bool) → is_among name (names_of names) ≡ b
+      → part_among parts (record { number = n; namespace = Html; name = name; rules = rules }) ≡ Loose → b ≡ false
+  html n rules name true e l = absurd (true≢false (sym (unnamed n rules name parts refl l) ∙ has-part name (names_of names) tests.0 e))
+  html n rules name false e l = refl
 
-  by : (n : ℕ) (namespace : Namespace) (name : List ℕ)
-      → part_among parts (record { number = n; namespace = namespace; name = name }) ≡ Loose
+  by : (n : ℕ) (rules : Rules) (namespace : Namespace) (name : List ℕ)
+      → part_among parts (record { number = n; namespace = namespace; name = name; rules = rules }) ≡ Loose
       → is_among name (names_in namespace names) ≡ false
-  by n Html name l = html n name (is_among name (names_of names)) refl l
-  by n MathMl name l = empty-names (mathml_names_of names) name tests.1.0
-  by n Svg name l = empty-names (svg_names_of names) name tests.1.1
-  by n (Other uri) name l = refl
+  by n rules Html name l = html n rules name (is_among name (names_of names)) refl l
+  by n rules MathMl name l = empty-names (mathml_names_of names) name tests.1.0
+  by n rules Svg name l = empty-names (svg_names_of names) name tests.1.1
+  by n rules (Other uri) name l = refl
+
+pub parts-out : (names : TagSet) → are_parts names ≡ true → (x : Open) → IsLoose x → is_in names x ≡ false
+parts-out names h x l = by x.rules where
+  tests : (are_names_of_parts (set_by Html5ever names) ≡ true) × (are_names_of_parts (set_by Standard names) ≡ true)
+  tests = and_parts (are_names_of_parts (set_by Html5ever names)) _ h
+
+  by : (rules : Rules) → is_among x.name (names_in x.namespace (set_by rules names)) ≡ false
+  by Html5ever = out_by (set_by Html5ever names) tests.0 x l
+  by Standard = out_by (set_by Standard names) tests.1 x l
 
 -- a name of a part names nothing loose
 pub named-loose : (names : List (List ℕ)) → have_parts names ≡ true → (name : List ℕ) → is_among name names ≡ true
     → (x : Open) → IsLoose x → is_named name x ≡ false
 unfolding part_of
-named-loose names h name k x l = by x.number x.namespace x.name l where
-  html : (n : ℕ) (own : List ℕ) (b : Bool) → bytes_eq own name ≡ b
-      → part_among parts (record { number = n; namespace = Html; name = own }) ≡ Loose → b ≡ false
-  html n own true e l = absurd
-      (true≢false (sym (unnamed n own parts refl l) ∙ rw ((bytes_eq-Decides own name).0 e) (has-part name names h k)))
-  html n own false e l = refl
+named-loose names h name k x l = by x.number x.rules x.namespace x.name l where
+  html : (n : ℕ) (rules : Rules) (own : List ℕ) (b : Bool) → bytes_eq own name ≡ b
+      → part_among parts (record { number = n; namespace = Html; name = own; rules = rules }) ≡ Loose → b ≡ false
+  html n rules own true e l = absurd
+      (true≢false (sym (unnamed n rules own parts refl l) ∙ rw ((bytes_eq-Decides own name).0 e) (has-part name names h k)))
+  html n rules own false e l = refl
 
-  by : (n : ℕ) (namespace : Namespace) (own : List ℕ)
-      → part_among parts (record { number = n; namespace = namespace; name = own }) ≡ Loose → named_in namespace own name ≡ false
-  by n Html own l = html n own (bytes_eq own name) refl l
-  by n MathMl own l = refl
-  by n Svg own l = refl
-  by n (Other uri) own l = refl
+  by : (n : ℕ) (rules : Rules) (namespace : Namespace) (own : List ℕ)
+      → part_among parts (record { number = n; namespace = namespace; name = own; rules = rules }) ≡ Loose → named_in namespace own name ≡ false
+  by n rules Html own l = html n rules own (bytes_eq own name) refl l
+  by n rules MathMl own l = refl
+  by n rules Svg own l = refl
+  by n rules (Other uri) own l = refl

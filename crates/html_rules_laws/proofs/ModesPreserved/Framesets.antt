@@ -20,6 +20,7 @@ use Rattle.html_rules.specs.Table.{Action, Then, When, InsertElement, AppendText
 use Rattle.html_rules.specs.Table.{FramesetNotOkUnlessWhite, InsertPendingText, Conclusion, Done, ReprocessInOriginal}
 use Rattle.html_rules.specs.declared.insertion_mode.InsertionMode.{InsertionMode}
 use Rattle.html_rules.specs.declared.insertion_mode.InsertionMode.TheVariants as mode
+use Rattle.html_rules.specs.declared.rules.Rules.{Rules}
 use Rattle.html_rules.specs.declared.tag_set.TagSet.TheVariants as set
 use Rattle.html_rules_laws.specs.Nesting.{Part, Root, Frames, Loose, Ground, IsNested, are_html, base, fits_parts, fits_table}
 use Rattle.html_rules_laws.specs.Nesting.{ground_of, is_flow, is_foster, is_frames, is_loose, is_root, may_stand, nested}
@@ -73,10 +74,10 @@ inner-nested tag e s at standing h =
     let is = in-frames (ground_of s.context_elem) s.open_elems (rw at at h.fits) in
     like-nested s (insert_element_for tag s)
     (record { context = like.context; modes = like.modes; framed = like.framed; form = like.form; names = like.names })
-    (rw (frames-template tag.name e (node_count s.forest)) refl)
+    (rw (frames-template tag.name e (node_count s.forest) s.opts.rules) refl)
     (rw (
       at,
-      frames-part tag.name e (node_count s.forest),
+      frames-part tag.name e (node_count s.forest) s.opts.rules,
       is.ground,
       frames-stand (ground_of s.context_elem)
           (top s.open_elems) is.ground is.frames,
@@ -215,11 +216,11 @@ record IsOver (xs ys : List Open) : Type 0 where
 over-same : (xs : List Open) → IsOver xs xs
 over-same xs = record { html = λ h. h; root = λ h. h; templates = refl }
 
-over-push : (name : List ℕ) → is_loose_name name parts ≡ true → (n : ℕ) (xs ys : List Open) → IsOver xs ys
-    → IsOver xs (record { number = n; namespace = Html; name = name } ∷ ys)
-over-push name l n xs ys o =
-    let x : Open = record { number = n; namespace = Html; name = name } in
-    let loose = name-loose name l n in
+over-push : (name : List ℕ) → is_loose_name name parts ≡ true → (n : ℕ) (rules : Rules) (xs ys : List Open) → IsOver xs ys
+    → IsOver xs (record { number = n; namespace = Html; name = name; rules = rules } ∷ ys)
+over-push name l n rules xs ys o =
+    let x : Open = record { number = n; namespace = Html; name = name; rules = rules } in
+    let loose = name-loose name l n rules in
     record {
       html = o.html;
       root = λ h. rw (root-html x ∙ ap is_root loose) (o.root h);
@@ -238,7 +239,7 @@ reopen-over (Marker ∷ entries) h s = over-same s.open_elems
 reopen-over (Element n tag ∷ entries) h s =
     let tests = and_parts (is_among tag.name (names_of set.FormattingEnd)) (are_formatting entries) h in
     over-either s.open_elems (is_open n s.open_elems) _ _ (over-same s.open_elems)
-    (over-push tag.name (formatting-loose tag tests.0) (node_count (reopen entries s).forest) s.open_elems
+    (over-push tag.name (formatting-loose tag tests.0) (node_count (reopen entries s).forest) (reopen entries s).opts.rules s.open_elems
     (reopen entries s).open_elems (reopen-over entries tests.1 s))
 
 reconstruct-over : (s : State) → are_formatting s.active_formatting ≡ true → IsOver s.open_elems

@@ -29,6 +29,7 @@ use Rattle.html_rules.specs.Table.{ReportEncoding}
 use Rattle.html_rules.specs.Templates.{insert_template}
 use Rattle.html_rules.specs.declared.insertion_mode.InsertionMode.{InsertionMode}
 use Rattle.html_rules.specs.declared.insertion_mode.InsertionMode.TheVariants as mode
+use Rattle.html_rules.specs.declared.rules.Rules.{Rules}
 use Rattle.html_rules.specs.declared.tag_set.TagSet.TheVariants as set
 use Rattle.html_rules_laws.specs.Nesting.{Root, Contents, IsNested, ground_of, is_root, nested, part_of, parts, top}
 use Rattle.html_rules_laws.specs.Settled.{are_template_modes}
@@ -80,8 +81,8 @@ template-head name l e = let head : is_among (codes "head") (names_of set.Templa
     subst (λ name. is_among name (names_of set.Template) ≡ true) e l in true≢false (sym head)
 
 -- the one that is not the head stays
-taken-out : (n : ℕ) (x : Open) (xs : List Open) → nat_eq x.number n ≡ false → without_number n (x ∷ again n ∷ xs) ≡ x ∷ xs
-taken-out n x xs e = rw e (ap (λ ys. x ∷ ys) (alone n xs))
+taken-out : (rules : Rules) (n : ℕ) (x : Open) (xs : List Open) → nat_eq x.number n ≡ false → without_number n (x ∷ again rules n ∷ xs) ≡ x ∷ xs
+taken-out rules n x xs e = rw e (ap (λ ys. x ∷ ys) (alone rules n xs))
 
 head-among : is_among (codes "head") (names_of set.Head) ≡ true
 unfolding names_of
@@ -116,7 +117,7 @@ calm-again a h kind t k n q w =
     let tests = and_parts (quiet a) _ h in
     let aside = act-aside kind a (quiet-tame kind a tests.0) t p in
     let like = like-after q p r (like-pushed n q) (calm-like a h kind t k p w.pushed.listed w.pushed.upright.standing) in
-    let elements : without_number n r.open_elems ≡ q.open_elems = ap (without_number n) (quiet-same a tests.0 t p) ∙ alone n q.open_elems in
+    let elements : without_number n r.open_elems ≡ q.open_elems = ap (without_number n) (quiet-same a tests.0 t p) ∙ alone q.opts.rules n q.open_elems in
     like-nested q (remove_from_stack n r)
     (record {
       context = like.context;
@@ -128,7 +129,7 @@ calm-again a h kind t k n q w =
 
 -- what is opened for a tag that is none of the head's stands where the head stood
 abbrev opened_for : Tag → State → Open
-opened_for tag q = record { number = node_count q.forest; namespace = Html; name = tag.name }
+opened_for tag q = record { number = node_count q.forest; namespace = Html; name = tag.name; rules = q.opts.rules }
 
 text-elements : (tag : Tag) → is_loose_name tag.name parts ≡ true → (n : ℕ) (q : State) → IsAgain n q
     → without_number n (set_mode mode.Text (save_mode (insert_element_for tag (push_head (Some n) q)))).open_elems ≡
@@ -138,7 +139,7 @@ text-elements tag l n q w =
     let p : State = push_head (Some n) q in
     let r : State = set_mode mode.Text (save_mode (insert_element_for tag p)) in
     let opened = (insert_element-Standing Html tag.name tag.attrs tag.had_duplicate_attributes tt p w.pushed.upright.standing).opened in
-    taken-out n (opened_for tag q) q.open_elems
+    taken-out q.opts.rules n (opened_for tag q) q.open_elems
     (apart-number r.forest (node_count q.forest) n tag.name (codes "head") opened.0.named opened.1.0.named (loose-head tag.name l))
 
 -- the text of an element
@@ -149,7 +150,7 @@ text-again tag l n q w =
     let p : State = push_head (Some n) q in
     let r : State = set_mode mode.Text (save_mode (insert_element_for tag p)) in
     let x : Open = opened_for tag q in
-    let loose = name-loose tag.name l (node_count q.forest) in
+    let loose = name-loose tag.name l (node_count q.forest) q.opts.rules in
     let elements : without_number n r.open_elems ≡ x ∷ q.open_elems = text-elements tag l n q w in
     let fits = parts-direct q.mode (ap is_text_mode w.at) (ground_of q.context_elem)
     (context_is set.Template q.context_elem) q.orig_mode q.open_elems w.is.fits in
@@ -189,28 +190,28 @@ raw-on-top kind a h t k n q w = let tests = and_parts (raw_text_only a) (loose_t
 
 -- a template
 
-head-count : (n : ℕ) (xs : List Open) → open_templates (again n ∷ xs) ≡ open_templates xs
-head-count n xs = rw (head-template (codes "head") head-among n) refl
+head-count : (rules : Rules) (n : ℕ) (xs : List Open) → open_templates (again rules n ∷ xs) ≡ open_templates xs
+head-count rules n xs = rw (head-template (codes "head") head-among n rules) refl
 
 again-ready : (n : ℕ) (q : State) → IsAgain n q → Ready (push_head (Some n) q)
 again-ready n q w = record {
   standing = w.pushed.upright.standing;
-  nested = rw (head-part (codes "head") head-among n, w.over.root, w.over.document, w.over.nested) refl;
+  nested = rw (head-part (codes "head") head-among n q.opts.rules, w.over.root, w.over.document, w.over.nested) refl;
   modes = w.modes;
-  count = ap (λ k. k + one_if (context_is set.Template q.context_elem)) (head-count n q.open_elems) ∙ w.is.count;
-  framed = λ e. head-count n q.open_elems ∙ w.is.framed e;
+  count = ap (λ k. k + one_if (context_is set.Template q.context_elem)) (head-count q.opts.rules n q.open_elems) ∙ w.is.count;
+  framed = λ e. head-count q.opts.rules n q.open_elems ∙ w.is.framed e;
   form = w.is.form;
 }
 
 -- the head leaves from under it
-uncovered-nested : (n : ℕ) (x : Open) (xs : List Open) (r : State) → r.open_elems ≡ x ∷ again n ∷ xs
+uncovered-nested : (rules : Rules) (n : ℕ) (x : Open) (xs : List Open) (r : State) → r.open_elems ≡ x ∷ again rules n ∷ xs
     → nat_eq x.number n ≡ false → part_of x ≡ Contents → top xs ≡ Root → nested (ground_of r.context_elem) xs ≡ true
     → r.mode ≡ mode.InTemplate → IsNested r → IsNested (remove_from_stack n r)
 unfolding remove_from_stack
-uncovered-nested n x xs r elements apart part root nest at h =
-    let left : without_number n r.open_elems ≡ x ∷ xs = ap (without_number n) elements ∙ taken-out n x xs apart in
+uncovered-nested rules n x xs r elements apart part root nest at h =
+    let left : without_number n r.open_elems ≡ x ∷ xs = ap (without_number n) elements ∙ taken-out rules n x xs apart in
     let same : open_templates (without_number n r.open_elems) ≡ open_templates r.open_elems =
-    ap open_templates left ∙ ap (λ k. choose (is_in set.Template x) (λ _. suc k) (λ _. k)) (sym (head-count n xs))
+    ap open_templates left ∙ ap (λ k. choose (is_in set.Template x) (λ _. suc k) (λ _. k)) (sym (head-count rules n xs))
     ∙ sym (ap open_templates elements) in
     record {
       fits = rw (at, left) (rw (part, root, nest) refl);
@@ -234,15 +235,15 @@ opened-again names tag h k n q w =
     let name = among-all tag.name names (names_of set.Template) h (and_parts (is_start_tag tag.kind) _ k).1 in
     let above = template-topped tag s in
     let aside = template-keeps aside_kept tag s in
-    let x : Open = record { number = above.number; namespace = Html; name = tag.name } in
-    let elements : r.open_elems ≡ x ∷ again n ∷ q.open_elems = above.elements in
+    let x : Open = record { number = above.number; namespace = Html; name = tag.name; rules = q.opts.rules } in
+    let elements : r.open_elems ≡ x ∷ again q.opts.rules n ∷ q.open_elems = above.elements in
     let poised : Poised r = act-poised (Starts names) a h (TagToken tag) k p w.pushed in
-    let opened : AreOpened r.forest (x ∷ again n ∷ q.open_elems) = subst (AreOpened r.forest) elements poised.upright.standing.opened in
+    let opened : AreOpened r.forest (x ∷ again q.opts.rules n ∷ q.open_elems) = subst (AreOpened r.forest) elements poised.upright.standing.opened in
     let apart = apart-number r.forest above.number n tag.name (codes "head") opened.0.named opened.1.0.named
     (template-head tag.name name) in
     let nest : IsNested r = opens-nested (Starts names) a refl h (TagToken tag) k p (again-ready n q w)
-    (rw (head-part (codes "head") head-among n) refl) in
-    uncovered-nested n x q.open_elems r elements apart (template-part x name) w.over.root (rw aside.context w.over.nested) aside.mode nest
+    (rw (head-part (codes "head") head-among n q.opts.rules) refl) in
+    uncovered-nested q.opts.rules n x q.open_elems r elements apart (template-part x name) w.over.root (rw aside.context w.over.nested) aside.mode nest
 
 opens-again : (kind : Kind) (a : Action) → opens a ≡ true → starts_template kind ≡ true → (t : Token)
     → is_of kind t ≡ true → (n : ℕ) (q : State) → IsAgain n q → IsNested (remove_from_stack n (act a t (push_head (Some n) q)))

@@ -22,6 +22,7 @@ use Rattle.html_rules.specs.Table.{SetHeadElem, SwitchTo, FramesetNotOk, Conclus
 use Rattle.html_rules.specs.Tokens.{attributes_of}
 use Rattle.html_rules.specs.declared.insertion_mode.InsertionMode.{InsertionMode}
 use Rattle.html_rules.specs.declared.insertion_mode.InsertionMode.TheVariants as mode
+use Rattle.html_rules.specs.declared.rules.Rules.{Rules}
 use Rattle.html_rules.specs.declared.tag_set.TagSet.{TagSet}
 use Rattle.html_rules.specs.declared.tag_set.TagSet.TheVariants as set
 use Rattle.html_rules_laws.specs.Nesting.{Part, Root, HeadPart, BodyPart, Ground, IsNested, fits_nested, ground_of, is_document}
@@ -90,13 +91,13 @@ pub initial-nested : (using : InsertionMode → Token → State → Turn) (e : C
 initial-nested using (Reprocess mode.BeforeHtml) h t script s at n = begun-nested s at n
 initial-nested using e h t script s at n = no h
 
-pub root-part : (n : ℕ) → part_of (record { number = n; namespace = Html; name = codes "html" }) ≡ Root
+pub root-part : (n : ℕ) (rules : Rules) → part_of (record { number = n; namespace = Html; name = codes "html"; rules = rules }) ≡ Root
 unfolding names_of mathml_names_of svg_names_of
-root-part n = set-part set.Html Root refl (record { number = n; namespace = Html; name = codes "html" }) refl
+root-part n rules = set-part set.Html Root refl (record { number = n; namespace = Html; name = codes "html"; rules = rules }) refl
 
-pub root-template : (n : ℕ) → is_in set.Template (record { number = n; namespace = Html; name = codes "html" }) ≡ false
+pub root-template : (n : ℕ) (rules : Rules) → is_in set.Template (record { number = n; namespace = Html; name = codes "html"; rules = rules }) ≡ false
 unfolding names_of mathml_names_of svg_names_of
-root-template n = refl
+root-template n rules = refl
 
 rooted-nested : (attributes : List Attribute) (s : State) → s.mode ≡ mode.BeforeHtml
     → is_document (ground_of s.context_elem) ≡ true → Standing s → IsNested s
@@ -105,14 +106,14 @@ unfolding create_root set_mode
 rooted-nested attributes s at document standing h =
     let f : Forest = s.forest in
     let spot = IsParent-document f standing.tree.forest in
-    let made = made-Made f Html (codes "html") attributes false s.open_elems standing.tree tt standing.opened in
-    let whole = put-Made f Html (codes "html") attributes false s.open_elems (Last 0) standing.tree tt
+    let made = made-Made s.opts.rules f Html (codes "html") attributes false s.open_elems standing.tree tt standing.opened in
+    let whole = put-Made s.opts.rules f Html (codes "html") attributes false s.open_elems (Last 0) standing.tree tt
     standing.opened spot (IsParent-document _ made.stays.tree.forest) in
     let none : not (is_nonempty s.open_elems) ≡ true = rw at at h.fits in
     let empty = empty-list s.open_elems none in
     like-nested s (set_mode mode.BeforeHead (create_root attributes s))
     (record { context = refl; modes = refl; framed = λ e. e; form = refl; names = whole.stays.names.names })
-    (rw (root-template (node_count f)) refl) (rw (document, root-part (node_count f), empty) refl) h
+    (rw (root-template (node_count f) s.opts.rules) refl) (rw (document, root-part (node_count f) s.opts.rules, empty) refl) h
 
 pub before_html-nested : (using : InsertionMode → Token → State → Turn) (a : Action) (e : Conclusion)
     → before_html_ok a e ≡ true → (t : Token) (script : ℕ) (s : State) → s.mode ≡ mode.BeforeHtml
@@ -126,15 +127,15 @@ before_html-nested using a e h t script s at document standing n = no h
 
 -- the head is made
 
-pub head-part : (name : List ℕ) → is_among name (names_of set.Head) ≡ true → (n : ℕ)
-    → part_of (record { number = n; namespace = Html; name = name }) ≡ HeadPart
+pub head-part : (name : List ℕ) → is_among name (names_of set.Head) ≡ true → (n : ℕ) (rules : Rules)
+    → part_of (record { number = n; namespace = Html; name = name; rules = rules }) ≡ HeadPart
 unfolding names_of mathml_names_of svg_names_of
-head-part name h n = set-part set.Head HeadPart refl (record { number = n; namespace = Html; name = name }) h
+head-part name h n rules = set-part set.Head HeadPart refl (record { number = n; namespace = Html; name = name; rules = rules }) h
 
-pub head-template : (name : List ℕ) → is_among name (names_of set.Head) ≡ true → (n : ℕ) → is_in set.Template
-    (record { number = n; namespace = Html; name = name }) ≡ false
+pub head-template : (name : List ℕ) → is_among name (names_of set.Head) ≡ true → (n : ℕ) (rules : Rules) → is_in set.Template
+    (record { number = n; namespace = Html; name = name; rules = rules }) ≡ false
 unfolding names_of mathml_names_of svg_names_of
-head-template name h n = in-apart set.Head set.Template refl (record { number = n; namespace = Html; name = name }) h
+head-template name h n rules = in-apart set.Head set.Template refl (record { number = n; namespace = Html; name = name; rules = rules }) h
 
 -- the root alone is open in a document
 pub record IsOverRoot (g : Ground) (xs : List Open) : Type 0 where
@@ -157,8 +158,8 @@ headed-nested name attributes dup e s at standing h =
     let is = over-root (ground_of s.context_elem) s.open_elems (rw at at h.fits) in
     like-nested s (set_mode mode.InHead (set_head_elem (insert_element Html name attributes dup s)))
     (record { context = like.context; modes = like.modes; framed = like.framed; form = like.form; names = like.names })
-    (rw (head-template name e (node_count s.forest)) refl)
-    (rw (head-part name e (node_count s.forest), is.root, is.document, is.nested) refl) h
+    (rw (head-template name e (node_count s.forest) s.opts.rules) refl)
+    (rw (head-part name e (node_count s.forest) s.opts.rules, is.root, is.document, is.nested) refl) h
 
 abbrev pub heads : Kind → Action → Conclusion → Bool
 heads kind (Then InsertElement (Then SetHeadElem (SwitchTo mode.InHead))) Done = starts_all set.Head kind
@@ -213,8 +214,8 @@ noscript-nested : (tag : Tag) → is_loose_name tag.name parts ≡ true → (s :
     → Standing s → IsNested s → IsNested (set_mode mode.InHeadNoscript (insert_element_for tag s))
 unfolding set_mode insert_element
 noscript-nested tag l s at standing h =
-    let x : Open = record { number = node_count s.forest; namespace = Html; name = tag.name } in
-    let loose = name-loose tag.name l (node_count s.forest) in
+    let x : Open = record { number = node_count s.forest; namespace = Html; name = tag.name; rules = s.opts.rules } in
+    let loose = name-loose tag.name l (node_count s.forest) s.opts.rules in
     let like = like-insert tag.name tag.attrs tag.had_duplicate_attributes s standing in
     let was : (nested (ground_of s.context_elem) s.open_elems && is_head (top s.open_elems)) ≡ true = rw at at h.fits in
     like-nested s (set_mode mode.InHeadNoscript (insert_element_for tag s))
@@ -274,23 +275,23 @@ noscript-ends using a e h t script s at n = no h
 
 -- after the head
 
-body-part : (name : List ℕ) → is_among name (names_of set.Body) ≡ true → (n : ℕ)
-    → part_of (record { number = n; namespace = Html; name = name }) ≡ BodyPart
+body-part : (name : List ℕ) → is_among name (names_of set.Body) ≡ true → (n : ℕ) (rules : Rules)
+    → part_of (record { number = n; namespace = Html; name = name; rules = rules }) ≡ BodyPart
 unfolding names_of mathml_names_of svg_names_of
-body-part name h n = set-part set.Body BodyPart refl (record { number = n; namespace = Html; name = name }) h
+body-part name h n rules = set-part set.Body BodyPart refl (record { number = n; namespace = Html; name = name; rules = rules }) h
 
-body-template : (name : List ℕ) → is_among name (names_of set.Body) ≡ true → (n : ℕ) → is_in set.Template
-    (record { number = n; namespace = Html; name = name }) ≡ false
+body-template : (name : List ℕ) → is_among name (names_of set.Body) ≡ true → (n : ℕ) (rules : Rules) → is_in set.Template
+    (record { number = n; namespace = Html; name = name; rules = rules }) ≡ false
 unfolding names_of mathml_names_of svg_names_of
-body-template name h n = in-apart set.Body set.Template refl (record { number = n; namespace = Html; name = name }) h
+body-template name h n rules = in-apart set.Body set.Template refl (record { number = n; namespace = Html; name = name; rules = rules }) h
 
 -- a body over the root
-pub bodied-fits : (name : List ℕ) → is_among name (names_of set.Body) ≡ true → (n : ℕ) (s : State)
+pub bodied-fits : (name : List ℕ) → is_among name (names_of set.Body) ≡ true → (n : ℕ) (rules : Rules) (s : State)
     → s.mode ≡ mode.AfterHead → IsNested s → fits_at s mode.InBody s.orig_mode
-    (record { number = n; namespace = Html; name = name } ∷ s.open_elems) ≡ true
-bodied-fits name e n s at h =
+    (record { number = n; namespace = Html; name = name; rules = rules } ∷ s.open_elems) ≡ true
+bodied-fits name e n rules s at h =
     let is = over-root (ground_of s.context_elem) s.open_elems (rw at at h.fits) in
-    rw (body-part name e n, is.root, is.document, is.nested) refl
+    rw (body-part name e n rules, is.root, is.document, is.nested) refl
 
 bodied-nested : (name : List ℕ) (attributes : List Attribute) (dup : Bool)
     → is_among name (names_of set.Body) ≡ true → (s : State) → s.mode ≡ mode.AfterHead → Standing s → IsNested s
@@ -300,7 +301,7 @@ bodied-nested name attributes dup e s at standing h =
     let like = like-insert name attributes dup s standing in
     like-nested s (set_mode mode.InBody (insert_element Html name attributes dup s))
     (record { context = like.context; modes = like.modes; framed = like.framed; form = like.form; names = like.names })
-    (rw (body-template name e (node_count s.forest)) refl) (bodied-fits name e (node_count s.forest) s at h) h
+    (rw (body-template name e (node_count s.forest) s.opts.rules) refl) (bodied-fits name e (node_count s.forest) s.opts.rules s at h) h
 
 -- a flag does not matter
 unframed-nested : (m : InsertionMode) (s : State) → IsNested (set_mode m s) → IsNested (set_mode m (frameset_not_ok s))
@@ -315,9 +316,9 @@ framed-nested tag e s at standing h =
     let is = over-root (ground_of s.context_elem) s.open_elems (rw at at h.fits) in
     like-nested s (set_mode mode.InFrameset (insert_element_for tag s))
     (record { context = like.context; modes = like.modes; framed = like.framed; form = like.form; names = like.names })
-    (rw (frames-template tag.name e (node_count s.forest)) refl)
+    (rw (frames-template tag.name e (node_count s.forest) s.opts.rules) refl)
     (rw (
-      frames-part tag.name e (node_count s.forest),
+      frames-part tag.name e (node_count s.forest) s.opts.rules,
       is.root,
       document-frames (ground_of s.context_elem)
           is.document,

@@ -93,7 +93,7 @@ pub like-insert : (name : List ℕ) (attributes : List Attribute) (dup : Bool) (
     → IsLike s (insert_element Html name attributes dup s)
 unfolding insert_element
 like-insert name attributes dup s standing =
-    let made = inserted-Made s.foster_parenting s.forest Html name attributes dup s.open_elems standing.tree tt standing.opened in
+    let made = inserted-Made s.opts.rules s.foster_parenting s.forest Html name attributes dup s.open_elems standing.tree tt standing.opened in
     record { context = refl; modes = refl; framed = λ e. e; form = refl; names = made.stays.names.names }
 
 pub like-pop : (s : State) → IsLike s (pop_but_root s)
@@ -173,8 +173,8 @@ pub text-nested : (tag : Tag) → is_loose_name tag.name parts ≡ true → (s :
     → is_text_mode s.mode ≡ false → Standing s → IsNested s → IsNested (set_mode mode.Text (save_mode (insert_element_for tag s)))
 unfolding set_mode save_mode insert_element
 text-nested tag l s f e standing h =
-    let x : Open = record { number = node_count s.forest; namespace = Html; name = tag.name } in
-    let loose = name-loose tag.name l (node_count s.forest) in
+    let x : Open = record { number = node_count s.forest; namespace = Html; name = tag.name; rules = s.opts.rules } in
+    let loose = name-loose tag.name l (node_count s.forest) s.opts.rules in
     let like = like-insert tag.name tag.attrs tag.had_duplicate_attributes s standing in
     let fits = parts-direct s.mode e (ground_of s.context_elem) (context_is set.Template s.context_elem) s.orig_mode s.open_elems h.fits in
     let some = direct-nonempty s.mode f (ground_of s.context_elem) (context_is set.Template s.context_elem) s.open_elems fits in

@@ -65,7 +65,7 @@ opened-nested tag name s h stands =
     let above = template-topped tag q in
     let aside = template-keeps aside_kept tag q in
     let kept = template-keeps framed.framed_kept tag q in
-    let x : Open = record { number = above.number; namespace = Html; name = tag.name } in
+    let x : Open = record { number = above.number; namespace = Html; name = tag.name; rules = q.opts.rules } in
     let part : part_of x ≡ Contents = template-part x name in
     let template : is_in set.Template x ≡ true = name in
     let all : r.open_elems ≡ x ∷ s.open_elems = above.elements in

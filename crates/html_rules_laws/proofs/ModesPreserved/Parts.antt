@@ -4,14 +4,31 @@ use Rattle.std.specs.Prelude.{◌&&◌, not}
 use Rattle.std.proofs.lemmas.Bool.{and_parts}
 use Rattle.html_rules.specs.Choice.{choose}
 use Rattle.html_rules.specs.Names.{Namespace, Html, MathMl, Svg, Other, is_html}
-use Rattle.html_rules.specs.Sets.{is_among, mathml_names_of, names_of, svg_names_of}
+use Rattle.html_rules.specs.Sets.{is_among, mathml_names_of, names_of, set_by, svg_names_of}
 use Rattle.html_rules.specs.State.{Open, is_in}
+use Rattle.html_rules.specs.declared.rules.Rules.{Rules}
 use Rattle.html_rules.specs.declared.tag_set.TagSet.{TagSet}
 use Rattle.html_rules_laws.specs.Nesting.{Part, Root, HeadPart, BodyPart, Frames, Contents, TablePart, Section, RowPart, Cell}
-use Rattle.html_rules_laws.specs.Nesting.{CaptionPart, Columns, Loose, is_loose, part_among, part_of, parts, set_of}
+use Rattle.html_rules_laws.specs.Nesting.{CaptionPart, Columns, Loose, Nothing, is_loose, part_among, part_of, parts, set_of}
 use Rattle.html_rules_laws.proofs.Names.{disjoint, shares_name}
 use Rattle.html_rules_laws.proofs.SetFacts.{apart, in-apart, in-within, within}
 use Rattle.html_rules_laws.proofs.Bools.{both, no, not_true}
+
+-- the sets of parts are the same by all rules
+pub set_of-by : (rules : Rules) (p : Part) → set_by rules (set_of p) ≡ set_of p
+set_of-by rules Root = refl
+set_of-by rules HeadPart = refl
+set_of-by rules BodyPart = refl
+set_of-by rules Frames = refl
+set_of-by rules Contents = refl
+set_of-by rules TablePart = refl
+set_of-by rules Section = refl
+set_of-by rules RowPart = refl
+set_of-by rules Cell = refl
+set_of-by rules CaptionPart = refl
+set_of-by rules Columns = refl
+set_of-by rules Loose = refl
+set_of-by rules Nothing = refl
 
 -- an element that is a part is in the set of the part
 among-set : (ps : List Part) (x : Open) (p : Part) → part_among ps x ≡ p → is_loose p ≡ false → is_in (set_of p) x ≡ true
@@ -99,16 +116,16 @@ abbrev pub is_loose_name : List ℕ → List Part → Bool
 is_loose_name name [] = true
 is_loose_name name (p ∷ ps) = not (is_among name (names_of (set_of p))) && is_loose_name name ps
 
-among-named : (name : List ℕ) (ps : List Part) → is_loose_name name ps ≡ true → (n : ℕ)
-    → part_among ps (record { number = n; namespace = Html; name = name }) ≡ Loose
-among-named name [] h n = refl
-among-named name (p ∷ ps) h n = let parts = and_parts (not (is_among name (names_of (set_of p)))) _ h in
-    rw (not_true _ parts.0) (among-named name ps parts.1 n)
+among-named : (name : List ℕ) (ps : List Part) → is_loose_name name ps ≡ true → (n : ℕ) (rules : Rules)
+    → part_among ps (record { number = n; namespace = Html; name = name; rules = rules }) ≡ Loose
+among-named name [] h n rules = refl
+among-named name (p ∷ ps) h n rules = let parts = and_parts (not (is_among name (names_of (set_of p)))) _ h in
+    rw (set_of-by rules p, not_true _ parts.0) (among-named name ps parts.1 n rules)
 
-pub name-loose : (name : List ℕ) → is_loose_name name parts ≡ true → (n : ℕ)
-    → part_of (record { number = n; namespace = Html; name = name }) ≡ Loose
+pub name-loose : (name : List ℕ) → is_loose_name name parts ≡ true → (n : ℕ) (rules : Rules)
+    → part_of (record { number = n; namespace = Html; name = name; rules = rules }) ≡ Loose
 unfolding part_of
-name-loose name h n = among-named name parts h n
+name-loose name h n rules = among-named name parts h n rules
 
 -- names that no part has
 abbrev pub share_none : List (List ℕ) → List Part → Bool
@@ -125,13 +142,13 @@ among-loose_name names (p ∷ ps) h name is =
 -- an element of another namespace is no part
 pub foreign-loose : (x : Open) → is_html x.namespace ≡ false → part_of x ≡ Loose
 unfolding part_of mathml_names_of svg_names_of
-foreign-loose x h = by x.number x.namespace x.name h where
-  by : (n : ℕ) (namespace : Namespace) (name : List ℕ) → is_html namespace ≡ false
-      → part_among parts (record { number = n; namespace = namespace; name = name }) ≡ Loose
-  by n Html name h = absurd (true≢false h)
-  by n MathMl name h = refl
-  by n Svg name h = refl
-  by n (Other uri) name h = refl
+foreign-loose x h = by x.number x.rules x.namespace x.name h where
+  by : (n : ℕ) (rules : Rules) (namespace : Namespace) (name : List ℕ) → is_html namespace ≡ false
+      → part_among parts (record { number = n; namespace = namespace; name = name; rules = rules }) ≡ Loose
+  by n rules Html name h = absurd (true≢false h)
+  by n rules MathMl name h = refl
+  by n rules Svg name h = refl
+  by n rules (Other uri) name h = refl
 
 pub solid-html : (x : Open) → is_loose (part_of x) ≡ false → is_html x.namespace ≡ true
 solid-html x h = by (is_html x.namespace) refl where

@@ -22,13 +22,14 @@ use Rattle.html_rules.specs.Sets.{is_among, mathml_names_of, names_of, svg_names
 use Rattle.html_rules.specs.Shape.{one_if}
 use Rattle.html_rules.specs.Stack.{body_elem, if_body, left_from, open_templates, parse_error, pop_until_current, remove_body}
 use Rattle.html_rules.specs.Stack.{remove_if, second_of}
-use Rattle.html_rules.specs.State.{Open, State, current_is, current_number, is_in}
+use Rattle.html_rules.specs.State.{Open, State, current_is, current_number, is_in, Options}
 use Rattle.html_rules.specs.Table.{Row, Condition, Both, CurrentIs, FramesetOk, SecondIsBody, Action, Then, ParseError}
 use Rattle.html_rules.specs.Table.{RemoveBody, InsertElement, SwitchTo, Nothing as NoAction, EnableFosterParenting, SaveMode}
 use Rattle.html_rules.specs.Table.{Conclusion, Done, Acknowledged, Reprocess, ReprocessInOriginal, ReprocessInMode, Using}
 use Rattle.html_rules.specs.Table.{UsingThen, UsingCurrentMode, RawText, PlainText, RunScript, ReportEncoding}
 use Rattle.html_rules.specs.declared.insertion_mode.InsertionMode.{InsertionMode}
 use Rattle.html_rules.specs.declared.insertion_mode.InsertionMode.TheVariants as mode
+use Rattle.html_rules.specs.declared.rules.Rules.{Rules}
 use Rattle.html_rules.specs.declared.tag_set.TagSet.TheVariants as set
 use Rattle.html_rules_laws.specs.Nesting.{Document, InFrames, Flow, Part, Root, HeadPart, BodyPart, Frames, Contents, TablePart}
 use Rattle.html_rules_laws.specs.Nesting.{Section, RowPart, Cell, CaptionPart, Columns, Loose, Nothing, Ground, IsNested, base}
@@ -311,15 +312,15 @@ document-frames Flow d = no d
 abbrev framed_action : Action
 framed_action = Then ParseError (Then RemoveBody InsertElement)
 
-pub frames-part : (name : List ℕ) → is_among name (names_of set.Frameset) ≡ true → (n : ℕ)
-    → part_of (record { number = n; namespace = Html; name = name }) ≡ Frames
+pub frames-part : (name : List ℕ) → is_among name (names_of set.Frameset) ≡ true → (n : ℕ) (rules : Rules)
+    → part_of (record { number = n; namespace = Html; name = name; rules = rules }) ≡ Frames
 unfolding names_of mathml_names_of svg_names_of
-frames-part name h n = set-part set.Frameset Frames refl (record { number = n; namespace = Html; name = name }) h
+frames-part name h n rules = set-part set.Frameset Frames refl (record { number = n; namespace = Html; name = name; rules = rules }) h
 
-pub frames-template : (name : List ℕ) → is_among name (names_of set.Frameset) ≡ true → (n : ℕ) → is_in set.Template
-    (record { number = n; namespace = Html; name = name }) ≡ false
+pub frames-template : (name : List ℕ) → is_among name (names_of set.Frameset) ≡ true → (n : ℕ) (rules : Rules) → is_in set.Template
+    (record { number = n; namespace = Html; name = name; rules = rules }) ≡ false
 unfolding names_of mathml_names_of svg_names_of
-frames-template name h n = in-apart set.Frameset set.Template refl (record { number = n; namespace = Html; name = name }) h
+frames-template name h n rules = in-apart set.Frameset set.Template refl (record { number = n; namespace = Html; name = name; rules = rules }) h
 
 frames-tame : tame_in (Starts (codes "frameset" ∷ [])) framed_action ≡ true
 unfolding names_of
@@ -334,8 +335,12 @@ removed-same : (o : Option ℕ) (s : State) → (remove_if o s).open_elems ≡ s
 removed-same None s = refl
 removed-same (Some n) s = refl
 
+removed-opts : (o : Option ℕ) (s : State) → (remove_if o s).opts ≡ s.opts
+removed-opts None s = refl
+removed-opts (Some n) s = refl
+
 framed-elements : (tag : Tag) (s : State) → (n : ℕ)
-    × ((act framed_action (TagToken tag) s).open_elems ≡ record { number = n; namespace = Html; name = tag.name } ∷
+    × ((act framed_action (TagToken tag) s).open_elems ≡ record { number = n; namespace = Html; name = tag.name; rules = s.opts.rules } ∷
     left_from (is_in set.Html) s.open_elems)
 unfolding parse_error remove_body pop_until_current insert_element
 framed-elements tag s = (
@@ -344,7 +349,14 @@ framed-elements tag s = (
     number = node_count (remove_if (body_elem s.open_elems) (parse_error s)).forest;
     namespace = Html;
     name = tag.name;
-  } ∷ left_from (is_in set.Html) xs) (removed-same (body_elem s.open_elems) (parse_error s)),
+    rules = (remove_if (body_elem s.open_elems) (parse_error s)).opts.rules;
+  } ∷ left_from (is_in set.Html) xs) (removed-same (body_elem s.open_elems) (parse_error s))
+      ∙ ap (λ (opts : Options). record {
+        number = node_count (remove_if (body_elem s.open_elems) (parse_error s)).forest;
+        namespace = Html;
+        name = tag.name;
+        rules = opts.rules;
+      } ∷ left_from (is_in set.Html) s.open_elems) (removed-opts (body_elem s.open_elems) (parse_error s)),
 )
 
 framed-framed : (tag : Tag) (s : State) → IsFramed s (act framed_action (TagToken tag) s)
@@ -370,9 +382,9 @@ frameset-nested tag s start name poised h some ok body =
     let eased = act-eased kind framed_action frames-tame refl t of s poised.listed poised.upright.standing in
     let elements = framed-elements tag s in
     let left = html-left (ground_of s.context_elem) s.open_elems h.nested some in
-    let part = frames-part tag.name name elements.0 in
+    let part = frames-part tag.name name elements.0 s.opts.rules in
     let stands = document-frames (ground_of s.context_elem) (body-document (ground_of s.context_elem) s.open_elems h.nested body) in
-    let none : open_templates r.open_elems ≡ 0 = ap open_templates elements.1 ∙ rw (frames-template tag.name name elements.0) left.1.1 in
+    let none : open_templates r.open_elems ≡ 0 = ap open_templates elements.1 ∙ rw (frames-template tag.name name elements.0 s.opts.rules) left.1.1 in
     let kept = framed-framed tag s in
     record {
       fits = rw (aside.context, elements.1) (rw (part, left.0, stands, left.1.0) refl);

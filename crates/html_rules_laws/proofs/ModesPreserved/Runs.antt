@@ -26,6 +26,7 @@ use Rattle.html_rules.specs.Table.{ForgetFormElem, SwitchTo, SetTemplateMode}
 use Rattle.html_rules.specs.Tokens.{name_of}
 use Rattle.html_rules.specs.declared.insertion_mode.InsertionMode.{InsertionMode}
 use Rattle.html_rules.specs.declared.insertion_mode.InsertionMode.TheVariants as mode
+use Rattle.html_rules.specs.declared.rules.Rules.{Rules}
 use Rattle.html_rules.specs.declared.tag_set.TagSet.{TagSet}
 use Rattle.html_rules.specs.declared.tag_set.TagSet.TheVariants as set
 use Rattle.html_rules_laws.specs.Nesting.{Part, Root, HeadPart, BodyPart, Frames, Contents, TablePart, Section, RowPart, Cell}
@@ -218,15 +219,15 @@ is_table_part TablePart = true
 is_table_part p = is_inner p
 
 table-set : (p : Part) → is_table_part p ≡ true → (name : List ℕ) → is_among name (names_of (set_of p)) ≡ true
-    → (n : ℕ) → part_of (record { number = n; namespace = Html; name = name }) ≡ p
+    → (n : ℕ) (rules : Rules) → part_of (record { number = n; namespace = Html; name = name; rules = rules }) ≡ p
 unfolding names_of mathml_names_of svg_names_of
-table-set TablePart i name h n = set-part set.Table TablePart refl (record { number = n; namespace = Html; name = name }) h
-table-set Section i name h n = set-part set.TbodyTfootThead Section refl (record { number = n; namespace = Html; name = name }) h
-table-set RowPart i name h n = set-part set.Tr RowPart refl (record { number = n; namespace = Html; name = name }) h
-table-set Cell i name h n = set-part set.TdTh Cell refl (record { number = n; namespace = Html; name = name }) h
-table-set CaptionPart i name h n = set-part set.Caption CaptionPart refl (record { number = n; namespace = Html; name = name }) h
-table-set Columns i name h n = set-part set.Colgroup Columns refl (record { number = n; namespace = Html; name = name }) h
-table-set p i name h n = no i
+table-set TablePart i name h n rules = set-part set.Table TablePart refl (record { number = n; namespace = Html; name = name; rules = rules }) h
+table-set Section i name h n rules = set-part set.TbodyTfootThead Section refl (record { number = n; namespace = Html; name = name; rules = rules }) h
+table-set RowPart i name h n rules = set-part set.Tr RowPart refl (record { number = n; namespace = Html; name = name; rules = rules }) h
+table-set Cell i name h n rules = set-part set.TdTh Cell refl (record { number = n; namespace = Html; name = name; rules = rules }) h
+table-set CaptionPart i name h n rules = set-part set.Caption CaptionPart refl (record { number = n; namespace = Html; name = name; rules = rules }) h
+table-set Columns i name h n rules = set-part set.Colgroup Columns refl (record { number = n; namespace = Html; name = name; rules = rules }) h
+table-set p i name h n rules = no i
 
 table-some : (p : Part) → is_table_part p ≡ true → is_nothing p ≡ false
 table-some Nothing i = no i
@@ -321,7 +322,7 @@ unfolding pop_but_root
 pop-same s = refl
 
 new-same : (name : List ℕ) (s : State) → (insert_element Html name [] false s).open_elems ≡
-    record { number = node_count s.forest; namespace = Html; name = name } ∷ s.open_elems
+    record { number = node_count s.forest; namespace = Html; name = name; rules = s.opts.rules } ∷ s.open_elems
 unfolding insert_element
 new-same name s = refl
 
@@ -329,6 +330,7 @@ tag-same : (tag : Tag) (s : State) → (insert_element_for tag s).open_elems ≡
   number = node_count s.forest;
   namespace = Html;
   name = tag.name;
+  rules = s.opts.rules;
 } ∷ s.open_elems
 unfolding insert_element
 tag-same tag s = refl
@@ -342,12 +344,14 @@ element-same : (t : Token) (tag : Tag) → t ≡ TagToken tag → (s : State)
       number = node_count s.forest;
       namespace = Html;
       name = tag.name;
+      rules = s.opts.rules;
     } ∷ s.open_elems
 element-same t tag e s = subst
     (λ t. (for_tag insert_element_for t s).open_elems ≡ record {
       number = node_count s.forest;
       namespace = Html;
       name = tag.name;
+      rules = s.opts.rules;
     } ∷ s.open_elems) (sym e) (tag-same tag s)
 
 inner-some : (p : Part) → is_inner p ≡ true → is_nothing p ≡ false
@@ -530,10 +534,10 @@ module _ (g : Ground) (template : Bool) (t : Token) where
       let all = first-is (λ p. inserted p names) parts p refl (table-some p table) in
       insert-run (Starts names) InsertElement p v post more.0 refl tests.0 more.1
       (subst (λ t. is_of (Starts names) t ≡ true) (sym same) k) s (element-framed t s)
-      (record { number = node_count s.forest; namespace = Html; name = tag.name })
+      (record { number = node_count s.forest; namespace = Html; name = tag.name; rules = s.opts.rules })
       (table-set p table tag.name
       (among-all tag.name names (names_of (set_of p)) all (and_parts (is_start_tag tag.kind) _ k).1)
-      (node_count s.forest)) (element-same t tag same s) fluid
+      (node_count s.forest) s.opts.rules) (element-same t tag same s) fluid
 
   element-run : (kind : Kind) (v : At) (post : At → Bool)
       → (may_insert (part_in kind) v && (tame_in kind InsertElement && post (at_exact (part_in kind) v))) ≡ true
@@ -555,9 +559,9 @@ module _ (g : Ground) (template : Bool) (t : Token) where
       let p : Part = part_named name in
       let table = may-table p v tests.0 in
       insert-run kind (InsertNew name) p v post more.0 refl tests.0 more.1 k s
-      (framed.framed_kept.inserts Html name [] false s) (record { number = node_count s.forest; namespace = Html; name = name })
+      (framed.framed_kept.inserts Html name [] false s) (record { number = node_count s.forest; namespace = Html; name = name; rules = s.opts.rules })
       (table-set p table name (first-is (λ p. is_among name (names_of (set_of p))) parts p refl
-      (table-some p table)) (node_count s.forest)) (new-same name s) fluid
+      (table-some p table)) (node_count s.forest) s.opts.rules) (new-same name s) fluid
 
   switch-run : (m : InsertionMode) (v : At) (post : At → Bool)
       → ((not (is_first m) && not (is_in_template m)) && post (record v { mode = m })) ≡ true → (s : State)
@@ -700,7 +704,7 @@ module _ (g : Ground) (template : Bool) (t : Token) where
       voided : (tag : Tag) → t ≡ TagToken tag → tag.name ≡ codes "form" → Fluid g template v (insert_form_void tag s)
       voided tag same e =
           let made = fluid-flow g template v kind NoGuard InsertVoid refl refl refl t k s tt fluid in
-          let named = (inserted-Made s.foster_parenting s.forest Html tag.name tag.attrs
+          let named = (inserted-Made s.opts.rules s.foster_parenting s.forest Html tag.name tag.attrs
           tag.had_duplicate_attributes s.open_elems fluid.poised.upright.standing.tree tt
           fluid.poised.upright.standing.opened).opened.named in
           let made' : Fluid g template (loosened v) (for_tag insert_and_pop_element_for (TagToken tag) s) =

@@ -14,18 +14,19 @@ use Rattle.html_rules.specs.Adoption.{adoption_turns, begin_walk, between, close
 use Rattle.html_rules.specs.Adoption.{handle_misnested_a_tags, is_number, listed_as, opened_after, opened_before, unlist, walk}
 use Rattle.html_rules.specs.Choice.{choose}
 use Rattle.html_rules.specs.ForeignContent.{ForeignEnd, Dropped, AsInMode, Closed, close_foreign, close_foreign_by}
-use Rattle.html_rules.specs.ForeignContent.{ends_foreign, foreign_end, foreign_end_from, is_html_element, is_named_any_case}
+use Rattle.html_rules.specs.ForeignContent.{ends_foreign, ends_foreign_in, foreign_end, foreign_end_from, is_html_element, is_named_any_case}
 use Rattle.html_rules.specs.ForeignContent.{pop_foreign}
 use Rattle.html_rules.specs.Formatting.{Listed, is_listed, last_named, reconstruct_active_formatting_elements, reopen, without_entry}
 use Rattle.html_rules.specs.Names.{Namespace, Html, MathMl, Svg, Other, element_name_of, is_html}
 use Rattle.html_rules.specs.Places.{append_text, insert_element, insert_element_for}
-use Rattle.html_rules.specs.Sets.{is_among, mathml_names_of, names_in, names_of, svg_names_of}
+use Rattle.html_rules.specs.Sets.{is_among, mathml_names_of, names_in, names_of, set_by, svg_names_of}
 use Rattle.html_rules.specs.Stack.{close_item, close_item_named, close_p_element, close_p_element_in_button_scope}
 use Rattle.html_rules.specs.Stack.{expect_to_close, finds_generic, generate_implied_end_except, generate_implied_end_tags}
 use Rattle.html_rules.specs.Stack.{in_scope, is_open, item_name, left_below, nothing, open_templates, parse_error, pop}
 use Rattle.html_rules.specs.Stack.{pop_until_current, process_end_tag_in_body, remove_from_stack, without_current}
 use Rattle.html_rules.specs.State.{Open, Entry, Element, Marker, State, current_is, current_number, is_in, is_named, named_in}
 use Rattle.html_rules.specs.Tokens.{is_white}
+use Rattle.html_rules.specs.declared.rules.Rules.{Rules}
 use Rattle.html_rules.specs.declared.tag_set.TagSet.{TagSet}
 use Rattle.html_rules.specs.declared.tag_set.TagSet.TheVariants as set
 use Rattle.html_rules_laws.specs.Nesting.{Loose, Ground, base, is_loose, nested, part_of, parts, takes}
@@ -148,23 +149,26 @@ unfolding names_of mathml_names_of svg_names_of
 item-loose x h = item-special (is_in set.SpecialTag x) (is_in set.AddressDivP x) (is_loose (part_of x))
     (special-loose x) (λ e. loose-true x (set-loose set.AddressDivP refl x e)) h
 
-item-named : (items : TagSet) → mathml_names_of items ≡ [] → svg_names_of items ≡ [] → (x : Open)
+item-named : (items : TagSet) → ((rules : Rules) → set_by rules items ≡ items) → mathml_names_of items ≡ [] → svg_names_of items ≡ []
+    → (x : Open)
     → is_in items x ≡ true → is_named x.name x ≡ true
-item-named items m v x h = by x.namespace x.name h where
-  by : (namespace : Namespace) (name : List ℕ) → is_among name (names_in namespace items) ≡ true → named_in namespace name name ≡ true
-  by Html name h = (bytes_eq-Decides name name).1 refl
-  by MathMl name h = no (rw m at h)
-  by Svg name h = no (rw v at h)
-  by (Other uri) name h = no h
+item-named items same m v x h = by x.namespace x.name
+    (subst (λ these. is_among x.name (names_in x.namespace these) ≡ true) (same x.rules) h) where
+      by : (namespace : Namespace) (name : List ℕ) → is_among name (names_in namespace items) ≡ true → named_in namespace name name ≡ true
+      by Html name h = (bytes_eq-Decides name name).1 refl
+      by MathMl name h = no (rw m at h)
+      by Svg name h = no (rw v at h)
+      by (Other uri) name h = no h
 
-item-reach : (items : TagSet) → mathml_names_of items ≡ [] → svg_names_of items ≡ [] → are_loose items ≡ true
+item-reach : (items : TagSet) → ((rules : Rules) → set_by rules items ≡ items) → mathml_names_of items ≡ [] → svg_names_of items ≡ []
+    → are_loose items ≡ true
     → (name : List ℕ) (xs : List Open) → item_name items xs ≡ Some name → reach (is_named name) xs ≡ true
-item-reach items m v l name [] e = absurd (cc)
-item-reach items m v l name (x ∷ xs) e =
-    by (is_in items x) (is_in set.SpecialTag x && not (is_in set.AddressDivP x)) refl refl e (item-reach items m v l name xs)
+item-reach items own m v l name [] e = absurd (cc)
+item-reach items own m v l name (x ∷ xs) e =
+    by (is_in items x) (is_in set.SpecialTag x && not (is_in set.AddressDivP x)) refl refl e (item-reach items own m v l name xs)
   where
     named : Some x.name ≡ Some name → is_in items x ≡ true → is_named name x ≡ true
-    named e h = let same : x.name ≡ name = cc in subst (λ name. is_named name x ≡ true) same (item-named items m v x h)
+    named e h = let same : x.name ≡ name = cc in subst (λ name. is_named name x ≡ true) same (item-named items own m v x h)
 
     or-right : (a b : Bool) → b ≡ true → (a || b) ≡ true
     or-right a b h = rw h (or_true a)
@@ -181,13 +185,13 @@ close_named-flow : (g : Ground) (o : Option (List ℕ)) (s : State)
 close_named-flow g None s h = flow-same g s.open_elems
 close_named-flow g (Some name) s h = closed-flow g (is_named name) s h
 
-pub close_item-flow : (g : Ground) (items : TagSet) → mathml_names_of items ≡ [] → svg_names_of items ≡ []
+pub close_item-flow : (g : Ground) (items : TagSet) → ((rules : Rules) → set_by rules items ≡ items) → mathml_names_of items ≡ [] → svg_names_of items ≡ []
     → are_loose items ≡ true → (s : State) → IsFlow g s.open_elems (close_item items s).open_elems
 unfolding close_item
-close_item-flow g items m v l s = by (item_name items s.open_elems) refl where
+close_item-flow g items own m v l s = by (item_name items s.open_elems) refl where
   by : (o : Option (List ℕ)) → item_name items s.open_elems ≡ o → IsFlow g s.open_elems (close_item_named o s).open_elems
   by None e = flow-same g s.open_elems
-  by (Some name) e = close_named-flow g (Some name) s (item-reach items m v l name s.open_elems e)
+  by (Some name) e = close_named-flow g (Some name) s (item-reach items own m v l name s.open_elems e)
 
 -- any other end tag
 pub generic-flow : (g : Ground) (name : List ℕ) (s : State)
@@ -209,8 +213,8 @@ formatting-loose tag h = among-loose_name (names_of set.FormattingEnd) parts ref
 pub insert-flow : (g : Ground) (tag : Tag) → is_loose_name tag.name parts ≡ true → (s : State)
     → IsFlow g s.open_elems (insert_element_for tag s).open_elems
 unfolding insert_element
-insert-flow g tag l s = flow-push g (record { number = node_count s.forest; namespace = Html; name = tag.name })
-    s.open_elems (name-loose tag.name l (node_count s.forest))
+insert-flow g tag l s = flow-push g (record { number = node_count s.forest; namespace = Html; name = tag.name; rules = s.opts.rules })
+    s.open_elems (name-loose tag.name l (node_count s.forest) s.opts.rules)
 
 reopen-flow : (g : Ground) (entries : List Entry) → are_formatting entries ≡ true → (s : State)
     → IsFlow g s.open_elems (reopen entries s).open_elems
@@ -250,10 +254,10 @@ named-one f n name e l x own same = by x.namespace refl where
   names = ap local-of (sym at ∙ e)
 
   by : (namespace : Namespace) → x.namespace ≡ namespace → IsLoose x
-  by Html k = html x.number x.namespace x.name k names where
-    html : (m : ℕ) (namespace : Namespace) (own : List ℕ) → namespace ≡ Html → own ≡ name
-        → part_of (record { number = m; namespace = namespace; name = own }) ≡ Loose
-    html m namespace own k j = rw (k, j) (name-loose name l m)
+  by Html k = html x.number x.rules x.namespace x.name k names where
+    html : (m : ℕ) (rules : Rules) (namespace : Namespace) (own : List ℕ) → namespace ≡ Html → own ≡ name
+        → part_of (record { number = m; namespace = namespace; name = own; rules = rules }) ≡ Loose
+    html m rules namespace own k j = rw (k, j) (name-loose name l m rules)
   by MathMl k = foreign-loose x (ap is_html k)
   by Svg k = foreign-loose x (ap is_html k)
   by (Other uri) k = foreign-loose x (ap is_html k)
@@ -294,7 +298,7 @@ copied-loose : (o : Option Listed) (w : Walk)
     → IfSome o (λ listed. is_among listed.tag.name (names_of set.FormattingEnd) ≡ true) → WalksLoose w → WalksLoose (copy_if o w)
 copied-loose None w h is = is
 copied-loose (Some listed) w h is = record {
-  loose = loose-append w.copies _ is.loose (name-loose listed.tag.name (formatting-loose listed.tag h) (node_count w.forest), tt);
+  loose = loose-append w.copies _ is.loose (name-loose listed.tag.name (formatting-loose listed.tag h) (node_count w.forest) w.rules, tt);
   listed = in_place-listed listed.number (node_count w.forest) listed.tag h w.active_formatting is.listed;
 }
 
@@ -318,7 +322,7 @@ from-flow g fe s (Some block) t l r e =
     let copies = (walked-loose 3 (between fe block s) (begin_walk block s) (record { loose = tt; listed = l })).loose in
     flow-after g xs before (adopt fe block w s).open_elems (flow-frees g xs before (reach-frees (is_number fe.number) xs r))
     (flow-pushes g (opened_after block.number xs ++ _ ∷ block ∷ w.copies) before
-    (loose-append (opened_after block.number xs) _ loose.1 (name-loose fe.tag.name (formatting-loose fe.tag t) _, (loose.0, copies))))
+    (loose-append (opened_after block.number xs) _ loose.1 (name-loose fe.tag.name (formatting-loose fe.tag t) _ _, (loose.0, copies))))
 
 open-flow : (g : Ground) (fe : Listed) (s : State) → is_among fe.tag.name (names_of set.FormattingEnd) ≡ true
     → are_formatting s.active_formatting ≡ true → reach (is_number fe.number) s.open_elems ≡ true
@@ -335,13 +339,13 @@ abbrev pub NamesLoose : List ℕ → Type 0
 NamesLoose name = (x : Open) → is_named name x ≡ true → IsLoose x
 
 pub names-loose : (name : List ℕ) → is_loose_name name parts ≡ true → NamesLoose name
-names-loose name l x h = by x.number x.namespace x.name h where
-  by : (n : ℕ) (namespace : Namespace) (own : List ℕ) → named_in namespace own name ≡ true
-      → part_of (record { number = n; namespace = namespace; name = own }) ≡ Loose
-  by n Html own h = rw ((bytes_eq-Decides own name).0 h) (name-loose name l n)
-  by n MathMl own h = no h
-  by n Svg own h = no h
-  by n (Other uri) own h = no h
+names-loose name l x h = by x.number x.rules x.namespace x.name h where
+  by : (n : ℕ) (rules : Rules) (namespace : Namespace) (own : List ℕ) → named_in namespace own name ≡ true
+      → part_of (record { number = n; namespace = namespace; name = own; rules = rules }) ≡ Loose
+  by n rules Html own h = rw ((bytes_eq-Decides own name).0 h) (name-loose name l n rules)
+  by n rules MathMl own h = no h
+  by n rules Svg own h = no h
+  by n rules (Other uri) own h = no h
 
 turned-flow : (g : Ground) (o : Option Listed) (name : List ℕ) (s : State)
     → IfSome o (λ fe. is_among fe.tag.name (names_of set.FormattingEnd) ≡ true)
@@ -475,4 +479,4 @@ ends-loose x h = html-loose x (or_false (is_html_element x) _ (or_false (is_html
 
 pub pop_foreign-flow : (g : Ground) (s : State) → IsFlow g s.open_elems (pop_foreign s).open_elems
 unfolding pop_foreign pop_until_current
-pop_foreign-flow g s = flow-frees g s.open_elems _ (from-frees ends_foreign ends-loose s.open_elems)
+pop_foreign-flow g s = flow-frees g s.open_elems _ (from-frees (ends_foreign_in s) (λ x h. ends-loose x (or_false (ends_foreign x) _ h)) s.open_elems)

@@ -16,7 +16,7 @@ use Rattle.html_rules.specs.Rules.{is_self_closing, settle, settled_by, turn, wi
 use Rattle.html_rules.specs.Shape.{is_fit}
 use Rattle.html_rules.specs.Stack.{parse_error}
 use Rattle.html_rules.specs.State.{Open, State, hushed}
-use Rattle.html_rules.specs.Step.{followed_by, after_line_feed, doctype_taken, first_doctype_taken, if_kept, is_barred, is_idle}
+use Rattle.html_rules.specs.Step.{followed_by, after_line_feed, doctype_taken, first_doctype_taken, if_kept, is_barred, is_idle, doctype_settled, ends_table_text}
 use Rattle.html_rules.specs.Step.{step, taken, taken_by, text_taken, untouched}
 use Rattle.html_rules.specs.declared.insertion_mode.InsertionMode.{InsertionMode}
 use Rattle.html_rules.specs.declared.insertion_mode.InsertionMode.TheVariants as mode
@@ -124,8 +124,8 @@ first-doctype d s f =
     let kept : State = if_kept s.opts.drop_doctype d told in
     let one = first-either (doctype_error d) (parse_error s) s (first-error s f) f in
     let two = first-either s.opts.drop_doctype told (append_doctype_to_document d told) one (first-put d told one) in
-    let three = first-quirks (quirks_of s.opts.iframe_srcdoc d) kept two in
-    begun-nested (set_quirks_mode (quirks_of s.opts.iframe_srcdoc d) kept) three.at three.is
+    let three = first-quirks (quirks_of s.opts.rules s.opts.iframe_srcdoc d) kept two in
+    begun-nested (set_quirks_mode (quirks_of s.opts.rules s.opts.iframe_srcdoc d) kept) three.at three.is
 
 doctype-nested : (m : InsertionMode) (d : Doctype) (s : State) → s.mode ≡ m → Standing s → IsNested s → IsNested (doctype_taken m d s)
 doctype-nested mode.Initial d s at standing h = first-doctype d s (record { at = at; standing = standing; is = h })
@@ -133,10 +133,15 @@ doctype-nested m d s at standing h = erred-nested s h
 
 -- a token that is taken
 
+doctype_settled-nested : (e : Bool) (d : Doctype) (s : State) → MayCome (DoctypeToken d) s → IsNested s
+    → IsNested (doctype_settled e d s).state
+doctype_settled-nested true d s may h = settle-nested (DoctypeToken d) s may h
+doctype_settled-nested false d s may h = doctype-nested s.mode d s refl may.upright.standing h
+
 taken_by-nested : (t : Token) (b : Bool) (s : State) → MayCome t s → IsNested s → IsNested (taken_by b t s).state
 taken_by-nested (CharacterTokens text) b s may h = text-nested (after_line_feed b text) (untouched s)
     (come-kept (CharacterTokens text) s may) h
-taken_by-nested (DoctypeToken d) b s may h = doctype-nested s.mode d s refl may.upright.standing h
+taken_by-nested (DoctypeToken d) b s may h = doctype_settled-nested (ends_table_text s.opts.rules s.mode) d s may h
 taken_by-nested (TagToken tag) b s may h = settle-nested (TagToken tag) s may h
 taken_by-nested (CommentToken text) b s may h = settle-nested (CommentToken text) s may h
 taken_by-nested NullCharacterToken b s may h = settle-nested NullCharacterToken s may h

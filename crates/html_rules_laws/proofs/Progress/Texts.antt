@@ -24,7 +24,7 @@ use Rattle.html_rules.specs.Actions.{restore_mode, or_mode, set_ignore_lf, set_m
 use Rattle.html_rules.specs.Choice.{choose}
 use Rattle.html_rules.specs.Conditions.{context_is, is_nonempty}
 use Rattle.html_rules.specs.Doctypes.{doctype_error, quirks_of}
-use Rattle.html_rules.specs.Documents.{Setting, before_document, before_fragment, modes_of_context, stand_of, tokenizer_state}
+use Rattle.html_rules.specs.Documents.{Setting, before_document, before_fragment, modes_of_context, stand_of, tokenizer_state, form_of_context}
 use Rattle.html_rules.specs.ForeignContent.{asks_cdata, is_end_tag, is_foreign, is_start_tag}
 use Rattle.html_rules.specs.Modes.Foreign.{in_foreign_content}
 use Rattle.html_rules.specs.Places.{append_doctype_to_document, append_text, create_root}
@@ -35,7 +35,7 @@ use Rattle.html_rules.specs.Sets.{is_among, names_of}
 use Rattle.html_rules.specs.Shape.{is_fit}
 use Rattle.html_rules.specs.Stack.{parse_error, pop_but_root}
 use Rattle.html_rules.specs.State.{Open, State, hushed, is_in}
-use Rattle.html_rules.specs.Step.{answered, followed_by, after_line_feed, doctype_taken, ended, first_doctype_taken, if_kept}
+use Rattle.html_rules.specs.Step.{answered, followed_by, after_line_feed, doctype_taken, ended, first_doctype_taken, if_kept, doctype_settled, ends_table_text}
 use Rattle.html_rules.specs.Step.{is_barred, is_idle, step, taken, taken_by, text_taken, untouched}
 use Rattle.html_rules.specs.Table.{Row as TableRow, EndTags, AnyEndTag, Then, Pop, RestoreMode, Done, RunScript, row}
 use Rattle.html_rules.specs.declared.insertion_mode.InsertionMode.{InsertionMode}
@@ -89,9 +89,13 @@ unfolding parse_error
 doctype-ended mode.Initial d s = first-ended d s
 doctype-ended m d s = refl
 
+doctype_settled-ended : (e : Bool) (d : Doctype) (s : State) → (doctype_settled e d s).state.has_ended ≡ s.has_ended
+doctype_settled-ended true d s = (settle-rest (DoctypeToken d) s).ended
+doctype_settled-ended false d s = doctype-ended s.mode d s
+
 taken_by-ended : (t : Token) (b : Bool) (s : State) → (taken_by b t s).state.has_ended ≡ s.has_ended
 taken_by-ended (CharacterTokens text) b s = (text-going (after_line_feed b text) (untouched s) s (rest-same s)).ended
-taken_by-ended (DoctypeToken d) b s = doctype-ended s.mode d s
+taken_by-ended (DoctypeToken d) b s = doctype_settled-ended (ends_table_text s.opts.rules s.mode) d s
 taken_by-ended (TagToken tag) b s = (settle-rest (TagToken tag) s).ended
 taken_by-ended (CommentToken text) b s = (settle-rest (CommentToken text) s).ended
 taken_by-ended NullCharacterToken b s = (settle-rest NullCharacterToken s).ended
@@ -136,15 +140,19 @@ first-out d s o =
     let told : State = choose (doctype_error d) (λ _. parse_error s) (λ _. s) in
     let one = either-out (doctype_error d) (parse_error s) s (error-out s o) o in
     let two = either-out s.opts.drop_doctype told (append_doctype_to_document d told) one (put-out d told one) in
-    moved-out mode.BeforeHtml refl _ (quirks-out (quirks_of s.opts.iframe_srcdoc d) (if_kept s.opts.drop_doctype d told) two)
+    moved-out mode.BeforeHtml refl _ (quirks-out (quirks_of s.opts.rules s.opts.iframe_srcdoc d) (if_kept s.opts.drop_doctype d told) two)
 
 doctype-out : (m : InsertionMode) (d : Doctype) (s : State) → Outside s → Outside (doctype_taken m d s)
 doctype-out mode.Initial d s o = first-out d s o
 doctype-out m d s o = error-out s o
 
+doctype_settled-out : (e : Bool) (d : Doctype) (s : State) → Outside s → IsOutside (doctype_settled e d s)
+doctype_settled-out true d s o = settle-out (DoctypeToken d) s o
+doctype_settled-out false d s o = inl (doctype-out s.mode d s o)
+
 taken_by-out : (t : Token) (b : Bool) (s : State) → Outside s → IsOutside (taken_by b t s)
 taken_by-out (CharacterTokens text) b s o = inl (text-out (after_line_feed b text) (untouched s) o)
-taken_by-out (DoctypeToken d) b s o = inl (doctype-out s.mode d s o)
+taken_by-out (DoctypeToken d) b s o = doctype_settled-out (ends_table_text s.opts.rules s.mode) d s o
 taken_by-out (TagToken tag) b s o = settle-out (TagToken tag) s o
 taken_by-out (CommentToken text) b s o = settle-out (CommentToken text) s o
 taken_by-out NullCharacterToken b s o = settle-out NullCharacterToken s o
@@ -325,10 +333,15 @@ in-text next r Plaintext t at raw leaves made = absurd raw
 in-text next r (Script n) t at raw leaves made = absurd raw
 in-text next r (EncodingIndicator label) t at raw leaves made = absurd raw
 
+doctype_settled-named : (e : Bool) (d : Doctype) (s : State) → MayCome (DoctypeToken d) s → IsNested s
+    → IsRaw (doctype_settled e d s).reply → IsMade (DoctypeToken d) (doctype_settled e d s).state.open_elems
+doctype_settled-named true d s may is raw = settle-named (DoctypeToken d) s may is raw
+doctype_settled-named false d s may is raw = absurd raw
+
 taken_by-named : (t : Token) (b : Bool) (s : State) → MayCome t s → IsNested s → IsRaw (taken_by b t s).reply
     → IsMade t (taken_by b t s).state.open_elems
 taken_by-named (CharacterTokens text) b s may is raw = absurd (no_raw _ raw (text-continues (after_line_feed b text) (untouched s) refl))
-taken_by-named (DoctypeToken d) b s may is raw = absurd raw
+taken_by-named (DoctypeToken d) b s may is raw = doctype_settled-named (ends_table_text s.opts.rules s.mode) d s may is raw
 taken_by-named (TagToken tag) b s may is raw = settle-named (TagToken tag) s may is raw
 taken_by-named (CommentToken text) b s may is raw = settle-named (CommentToken text) s may is raw
 taken_by-named NullCharacterToken b s may is raw = settle-named NullCharacterToken s may is raw
@@ -458,7 +471,7 @@ unfolding create_root
 fragment-out setting context form f =
     reset-out (create_root [] (record (before_document setting f) {
       context_elem = Some context;
-      form_elem = form;
+      form_elem = form_of_context setting.opts.rules context form;
       template_modes = modes_of_context context;
     })) refl (context-template_modes (is_in set.Template context))
 

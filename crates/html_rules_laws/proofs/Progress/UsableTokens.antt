@@ -6,7 +6,7 @@ use Rattle.markup.specs.Named.{IsTree}
 use Rattle.markup.specs.TreeLaws.{with_errors}
 use Rattle.html_tokens.specs.Sink.{Reply, Refusal, SinkLaws}
 use Rattle.html_tokens.specs.declared.token.Token.{Token}
-use Rattle.html_rules.specs.Documents.{Setting, before_document, before_fragment, modes_of_context}
+use Rattle.html_rules.specs.Documents.{Setting, before_document, before_fragment, modes_of_context, form_of_context}
 use Rattle.html_rules.specs.Names.{Html, element_name_of}
 use Rattle.html_rules.specs.Shape.{is_fit}
 use Rattle.html_rules.specs.State.{Open, State, hushed}
@@ -125,19 +125,19 @@ document-usable setting f tree top = record {
 
 fragment-usable : (setting : Setting) (context : Open) (form : Option ℕ) (f : Forest) → IsTree f
     → above_of f 0 ≡ None → IsOwn context.namespace → IsNode f context.number
-    → IfSome form (λ n. element_name (data_of f n) ≡ Some (element_name_of Html (codes "form")))
+    → IfSome (form_of_context setting.opts.rules context form) (λ n. element_name (data_of f n) ≡ Some (element_name_of Html (codes "form")))
     → Usable (before_fragment setting context form f)
 fragment-usable setting context form f tree top own at named = record {
   steady = states-steady.fragment setting context form f tree top own;
   nested = λ going. nested-states.fragment setting context form f tree named;
   context = context-stays (record (before_document setting f) {
     context_elem = Some context;
-    form_elem = form;
+    form_elem = form_of_context setting.opts.rules context form;
     template_modes = modes_of_context context;
   }) (before_fragment setting context form f)
       (root-larger (record (before_document setting f) {
         context_elem = Some context;
-        form_elem = form;
+        form_elem = form_of_context setting.opts.rules context form;
         template_modes = modes_of_context context;
       })) at;
 }

@@ -10,7 +10,7 @@ use Rattle.html_rules.specs.Actions.{insert_form_void, keep_text, remove_form_el
 use Rattle.html_rules.specs.Actions.{set_form_elem, set_ignore_lf, set_quirks_mode, insert_pending_text}
 use Rattle.html_rules.specs.Adoption.{handle_misnested_a_tags}
 use Rattle.html_rules.specs.Conditions.{holds}
-use Rattle.html_rules.specs.ForeignContent.{close_foreign, ends_foreign, enter_foreign, foreign_end, is_start_tag, is_end_tag, pop_foreign}
+use Rattle.html_rules.specs.ForeignContent.{close_foreign, ends_foreign, ends_foreign_in, ends_foreign_in, enter_foreign, foreign_end, is_start_tag, is_end_tag, pop_foreign}
 use Rattle.html_rules.specs.Formatting.{clear_active_formatting_to_marker, create_formatting_element_for, last_named, push_marker}
 use Rattle.html_rules.specs.Names.{Html, is_html}
 use Rattle.html_rules.specs.Places.{append_comment, append_comment_to_doc, append_comment_to_html, insert_and_pop_element_for}
@@ -29,6 +29,7 @@ use Rattle.html_rules.specs.Table.{InsertFormatting, InsertMarker, ClearToMarker
 use Rattle.html_rules.specs.Table.{SetQuirks, FramesetNotOk, FramesetNotOkUnlessWhite, IgnoreLineFeed, EnableFosterParenting}
 use Rattle.html_rules.specs.Table.{DisableFosterParenting, KeepText, InsertPendingText, EnterForeign, PopForeign, CloseForeign}
 use Rattle.html_rules.specs.Tokens.{attributes_of, name_of, text_of}
+use Rattle.html_rules.specs.declared.rules.Rules.{Rules}
 use Rattle.html_rules.specs.declared.tag_set.TagSet.{TagSet}
 use Rattle.html_rules.specs.declared.tag_set.TagSet.TheVariants as set
 use Rattle.html_rules_laws.proofs.Frames.Aside.{Asides, after, aside_kept, other, same}
@@ -75,16 +76,16 @@ out_of name names h k = by (is_among name special_names) refl where
   by true e = absurd (true≢false (sym (among-all name special_names names h e) ∙ k))
   by false e = e
 
-pub plain-of : (kind : Kind) (tag : Tag) → plain_kind kind ≡ true → is_of kind (TagToken tag) ≡ true → (n : ℕ)
-    → IsOrdinary (record { number = n; namespace = Html; name = tag.name })
-plain-of (Starts names) tag h k n = plain-name tag.name
-    (disjoint tag.name names special_names (not_true _ h) (and_parts (is_start_tag tag.kind) _ k).1) n
-plain-of (Ends names) tag h k n = plain-name tag.name
-    (disjoint tag.name names special_names (not_true _ h) (and_parts (is_end_tag tag.kind) _ k).1) n
-plain-of (StartsBut names) tag h k n = plain-name tag.name
-    (out_of tag.name names h (not_true _ (and_parts (is_start_tag tag.kind) _ k).1)) n
-plain-of (EndsBut names) tag h k n = plain-name tag.name (out_of tag.name names h (not_true _ (and_parts (is_end_tag tag.kind) _ k).1)) n
-plain-of kind tag h k n = no k
+pub plain-of : (kind : Kind) (tag : Tag) → plain_kind kind ≡ true → is_of kind (TagToken tag) ≡ true → (n : ℕ) (rules : Rules)
+    → IsOrdinary (record { number = n; namespace = Html; name = tag.name; rules = rules })
+plain-of (Starts names) tag h k n rules = plain-name tag.name
+    (disjoint tag.name names special_names (not_true _ h) (and_parts (is_start_tag tag.kind) _ k).1) n rules
+plain-of (Ends names) tag h k n rules = plain-name tag.name
+    (disjoint tag.name names special_names (not_true _ h) (and_parts (is_end_tag tag.kind) _ k).1) n rules
+plain-of (StartsBut names) tag h k n rules = plain-name tag.name
+    (out_of tag.name names h (not_true _ (and_parts (is_start_tag tag.kind) _ k).1)) n rules
+plain-of (EndsBut names) tag h k n rules = plain-name tag.name (out_of tag.name names h (not_true _ (and_parts (is_end_tag tag.kind) _ k).1)) n rules
+plain-of kind tag h k n rules = no k
 
 pub formatting-of : (kind : Kind) (tag : Tag) → formatting_kind kind ≡ true → is_of kind (TagToken tag) ≡ true
     → is_among tag.name (names_of set.FormattingEnd) ≡ true
@@ -251,7 +252,7 @@ act-tame kind KeepText p t f s l = part-tame s _ (part-same s.open_elems) l
 act-tame kind InsertPendingText p t f s l = pending-tame s l
 act-tame kind (EnterForeign namespace) p t f s l = tag-tame (enter_foreign namespace) kind t f
     (λ tag n. enter-tame namespace tag (not_true _ p)) s l
-act-tame kind PopForeign p t f s l = pop_until_current-tame ends_foreign s l
+act-tame kind PopForeign p t f s l = pop_until_current-tame (ends_foreign_in s) s l
 act-tame kind CloseForeign p t f s l = close_by-tame (foreign_end (name_of t) s) s (foreign_end-part true (name_of t) s.open_elems) l
 act-tame kind a p t f s l = no p
 
@@ -338,6 +339,6 @@ act-aside kind DisableFosterParenting p t s = record {
 act-aside kind KeepText p t s = record { mode = refl; original = refl; modes = refl; head = refl; context = refl; ended = refl }
 act-aside kind InsertPendingText p t s = pending-aside s
 act-aside kind (EnterForeign namespace) p t s = for_tag-keeps aside_kept (enter_foreign namespace) t (enter-keeps aside_kept namespace) s
-act-aside kind PopForeign p t s = pop_until_current-keeps aside_kept ends_foreign s
+act-aside kind PopForeign p t s = pop_until_current-keeps aside_kept (ends_foreign_in s) s
 act-aside kind CloseForeign p t s = close_by-keeps aside_kept (foreign_end (name_of t) s) s
 act-aside kind a p t s = no p

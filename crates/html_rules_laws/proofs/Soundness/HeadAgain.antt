@@ -24,6 +24,7 @@ use Rattle.html_rules.specs.Table.{Conclusion, Done, RawText, ReportEncoding}
 use Rattle.html_rules.specs.Templates.{insert_template}
 use Rattle.html_rules.specs.declared.insertion_mode.InsertionMode.{InsertionMode}
 use Rattle.html_rules.specs.declared.insertion_mode.InsertionMode.TheVariants as mode
+use Rattle.html_rules.specs.declared.rules.Rules.{Rules}
 use Rattle.html_rules.specs.declared.tag_set.TagSet.TheVariants as set
 use Rattle.html_rules_laws.specs.Held.{Held}
 use Rattle.html_rules_laws.specs.Placing.{are_general, stand_well}
@@ -41,23 +42,23 @@ use Rattle.html_rules_laws.proofs.Bools.{both, no}
 use Rattle.html_rules_laws.proofs.Frames.KeptBySteps.{push_head-keeps, template-keeps, unopened-keeps}
 
 -- the head again
-abbrev pub again : ℕ → Open
-again n = record { number = n; namespace = Html; name = codes "head" }
+abbrev pub again : Rules → ℕ → Open
+again rules n = record { number = n; namespace = Html; name = codes "head"; rules = rules }
 
 -- over it another element was opened, and one of the two is taken out
-taken-out : (n : ℕ) (x : Open) (xs : List Open) → (without_number n (x ∷ again n ∷ xs) ≡ x ∷ xs)
-    ⊎ (without_number n (x ∷ again n ∷ xs) ≡ again n ∷ xs)
-taken-out n x xs = by (nat_eq x.number n) where
-  inner : choose (nat_eq n n) (λ _. xs) (λ _. again n ∷ without_number n xs) ≡ xs
+taken-out : (rules : Rules) (n : ℕ) (x : Open) (xs : List Open) → (without_number n (x ∷ again rules n ∷ xs) ≡ x ∷ xs)
+    ⊎ (without_number n (x ∷ again rules n ∷ xs) ≡ again rules n ∷ xs)
+taken-out rules n x xs = by (nat_eq x.number n) where
+  inner : choose (nat_eq n n) (λ _. xs) (λ _. again rules n ∷ without_number n xs) ≡ xs
   inner = rw (eq-eqb n n refl) refl
 
-  by : (b : Bool) → (choose b (λ _. again n ∷ xs) (λ _. x ∷ choose (nat_eq n n) (λ _. xs) (λ _. again n ∷ without_number n xs)) ≡ x ∷ xs)
-      ⊎ (choose b (λ _. again n ∷ xs) (λ _. x ∷ choose (nat_eq n n) (λ _. xs) (λ _. again n ∷ without_number n xs)) ≡ again n ∷ xs)
+  by : (b : Bool) → (choose b (λ _. again rules n ∷ xs) (λ _. x ∷ choose (nat_eq n n) (λ _. xs) (λ _. again rules n ∷ without_number n xs)) ≡ x ∷ xs)
+      ⊎ (choose b (λ _. again rules n ∷ xs) (λ _. x ∷ choose (nat_eq n n) (λ _. xs) (λ _. again rules n ∷ without_number n xs)) ≡ again rules n ∷ xs)
   by true = inr refl
   by false = inl (ap (λ ys. x ∷ ys) inner)
 
-pub alone : (n : ℕ) (xs : List Open) → without_number n (again n ∷ xs) ≡ xs
-alone n xs = rw (eq-eqb n n refl) refl
+pub alone : (rules : Rules) (n : ℕ) (xs : List Open) → without_number n (again rules n ∷ xs) ≡ xs
+alone rules n xs = rw (eq-eqb n n refl) refl
 
 -- an own element over what is open, where its text is read
 over-held : (q f : State) (y : Open) → q.mode ≡ mode.AfterHead → Held q → f.open_elems ≡ y ∷ q.open_elems
@@ -127,9 +128,9 @@ template-over q f y e h elements at original modes head context listed = by (is_
         placed = λ k root. absurd (omega arith);
       }
 
-own-head : (n : ℕ) → is_own (again n) ≡ true
+own-head : (rules : Rules) (n : ℕ) → is_own (again rules n) ≡ true
 unfolding names_of
-own-head n = refl
+own-head rules n = refl
 
 -- the rows that take such a tag
 
@@ -198,15 +199,15 @@ unfolding remove_from_stack
 some-void kind InsertVoid h t f n q is =
     let s : State = push_head (Some n) q in
     let r : State = act InsertVoid t s in
-    still-tame q (remove_from_stack n r) is (ap (without_number n) (void-same t s) ∙ alone n q.open_elems)
+    still-tame q (remove_from_stack n r) is (ap (without_number n) (void-same t s) ∙ alone q.opts.rules n q.open_elems)
     (act-tame kind InsertVoid refl t f s is.listed).listed
     (after q r (remove_from_stack n r)
     (after q s r (push_head-keeps aside_kept (Some n) q) (act-aside kind InsertVoid refl t s)) (unopened-keeps aside_kept (Some n) r))
 some-void kind a h t f n q is = no h
 
-plain-own : (n : ℕ) (name : List ℕ) → IsOrdinary (record { number = n; namespace = Html; name = name })
-    → is_own (record { number = n; namespace = Html; name = name }) ≡ true
-plain-own n name is = rw (is.root, is.template) refl
+plain-own : (rules : Rules) (n : ℕ) (name : List ℕ) → IsOrdinary (record { number = n; namespace = Html; name = name; rules = rules })
+    → is_own (record { number = n; namespace = Html; name = name; rules = rules }) ≡ true
+plain-own rules n name is = rw (is.root, is.template) refl
 
 some-raw : (kind : Kind) (a : Action) → raw_text_only a ≡ true → starts_plain kind ≡ true → (t : Token)
     → is_of kind t ≡ true → (n : ℕ) (q : State) → q.mode ≡ mode.AfterHead → Held q
@@ -215,12 +216,12 @@ unfolding remove_from_stack set_mode save_mode insert_element
 some-raw (Starts names) (Then InsertElement (Then SaveMode (SwitchTo mode.Text))) h p (TagToken tag) f n q at is =
     let s : State = push_head (Some n) q in
     let r : State = set_mode mode.Text (save_mode (insert_element_for tag s)) in
-    let x : Open = record { number = node_count q.forest; namespace = Html; name = tag.name } in
-    elim (taken-out n x q.open_elems) [
+    let x : Open = record { number = node_count q.forest; namespace = Html; name = tag.name; rules = q.opts.rules } in
+    elim (taken-out q.opts.rules n x q.open_elems) [
       | inl one ↦ over-held q (remove_from_stack n r) x at is one
-          (plain-own (node_count q.forest) tag.name (plain-of (Starts names) tag p f (node_count q.forest))) refl
+          (plain-own q.opts.rules (node_count q.forest) tag.name (plain-of (Starts names) tag p f (node_count q.forest) q.opts.rules)) refl
           (ap Some at) refl refl refl is.listed
-      | inr other ↦ over-held q (remove_from_stack n r) (again n) at is other (own-head n) refl (ap Some at) refl refl refl is.listed
+      | inr other ↦ over-held q (remove_from_stack n r) (again q.opts.rules n) at is other (own-head q.opts.rules n) refl (ap Some at) refl refl refl is.listed
     ]
 some-raw (Starts names) (Then InsertElement (Then SaveMode (SwitchTo mode.Text))) h p t f n q at is = no f
 some-raw kind (Then InsertElement (Then SaveMode (SwitchTo mode.Text))) h p t f n q at is = no p
@@ -238,12 +239,12 @@ some-opens (Starts names)
     let r : State = insert_template tag s in
     let top = template-topped tag s in
     let aside = template-keeps aside_kept tag s in
-    let x : Open = record { number = top.number; namespace = Html; name = tag.name } in
+    let x : Open = record { number = top.number; namespace = Html; name = tag.name; rules = q.opts.rules } in
     let listed : are_formatting r.active_formatting ≡ true = rw top.entries is.listed in
-    elim (taken-out n x q.open_elems) [
+    elim (taken-out q.opts.rules n x q.open_elems) [
       | inl one ↦ template-over q (remove_from_stack n r) x at is (ap (without_number n) top.elements ∙ one)
           aside.mode aside.original aside.modes aside.head aside.context listed
-      | inr other ↦ template-over q (remove_from_stack n r) (again n) at is
+      | inr other ↦ template-over q (remove_from_stack n r) (again q.opts.rules n) at is
           (ap (without_number n) top.elements ∙ other) aside.mode aside.original aside.modes aside.head aside.context listed
     ]
 some-opens (Starts names)
@@ -295,7 +296,7 @@ unfolding remove_from_stack
 either-bare None q k = k.held
 either-bare (Some n) q k =
     let s : State = push_head (Some n) q in
-    still-tame q (remove_from_stack n s) k.held (alone n q.open_elems) k.held.listed
+    still-tame q (remove_from_stack n s) k.held (alone q.opts.rules n q.open_elems) k.held.listed
     (after q s (remove_from_stack n s) (push_head-keeps aside_kept (Some n) q) (unopened-keeps aside_kept (Some n) s))
 
 -- with nothing between

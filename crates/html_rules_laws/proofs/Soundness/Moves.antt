@@ -19,6 +19,7 @@ use Rattle.html_rules.specs.State.{Open, State, is_in}
 use Rattle.html_rules.specs.Templates.{insert_template, may_be_shadow_root}
 use Rattle.html_rules.specs.declared.insertion_mode.InsertionMode.{InsertionMode}
 use Rattle.html_rules.specs.declared.insertion_mode.InsertionMode.TheVariants as mode
+use Rattle.html_rules.specs.declared.rules.Rules.{Rules}
 use Rattle.html_rules.specs.declared.tag_set.TagSet.TheVariants as set
 use Rattle.html_rules_laws.specs.Held.{HasRoot, Held, wanted}
 use Rattle.html_rules_laws.specs.Placing.{are_general, is_in_head, may_stand_over, stand_well}
@@ -190,12 +191,12 @@ own-plain : (x : Open) → IsOrdinary x → is_html_element x ≡ true → is_ow
 own-plain x plain html = rw (html, plain.root, plain.template) refl
 
 pub text-held : (s : State) (tag : Tag)
-    → ((n : ℕ) → IsOrdinary (record { number = n; namespace = Html; name = tag.name }))
+    → ((n : ℕ) (rules : Rules) → IsOrdinary (record { number = n; namespace = Html; name = tag.name; rules = rules }))
     → is_text_mode s.mode ≡ false → is_later s.mode ≡ true → Held s → Held (set_mode mode.Text (save_mode (insert_element_for tag s)))
 unfolding set_mode save_mode insert_element
 text-held s tag plain text later h =
-    let x : Open = record { number = node_count s.forest; namespace = Html; name = tag.name } in
-    let is = plain (node_count s.forest) in
+    let x : Open = record { number = node_count s.forest; namespace = Html; name = tag.name; rules = s.opts.rules } in
+    let is = plain (node_count s.forest) s.opts.rules in
     record {
       listed = h.listed;
       modes = h.modes;
@@ -211,7 +212,7 @@ text-held s tag plain text later h =
 
 pub record Topped (tag : Tag) (q r : State) : Type 0 where
   pub number : ℕ
-  pub elements : r.open_elems ≡ record { number = number; namespace = Html; name = tag.name } ∷ q.open_elems
+  pub elements : r.open_elems ≡ record { number = number; namespace = Html; name = tag.name; rules = q.opts.rules } ∷ q.open_elems
   pub entries : r.active_formatting ≡ q.active_formatting
 
 topped-choose : (tag : Tag) (q x y : State) (b : Bool) → Topped tag q x → Topped tag q y → Topped tag q (choose b (λ _. x) (λ _. y))
@@ -232,9 +233,9 @@ template-topped tag q =
     }))
     (record { number = node_count q.forest; elements = refl; entries = refl })
 
-template-in : (name : List ℕ) → is_among name (names_of set.Template) ≡ true → (n : ℕ) → is_in set.Template
-    (record { number = n; namespace = Html; name = name }) ≡ true
-template-in name h n = h
+template-in : (name : List ℕ) → is_among name (names_of set.Template) ≡ true → (n : ℕ) (rules : Rules) → is_in set.Template
+    (record { number = n; namespace = Html; name = name; rules = rules }) ≡ true
+template-in name h n rules = h
 
 pub not_html-template : (x : Open) → is_in set.Template x ≡ true → is_in set.Html x ≡ false
 unfolding names_of mathml_names_of svg_names_of
@@ -256,7 +257,7 @@ pub opened-held : (s q r : State) (tag : Tag) → is_among tag.name (names_of se
     → is_later_original q.orig_mode ≡ true
     → Topped tag q r → IsAside q r → Held r
 opened-held s q r tag name later well h elements modes at head context listed kept top aside =
-    let x : Open = record { number = top.number; namespace = Html; name = tag.name } in
+    let x : Open = record { number = top.number; namespace = Html; name = tag.name; rules = q.opts.rules } in
     let t : is_in set.Template x ≡ true = name in
     let all : r.open_elems ≡ x ∷ s.open_elems = top.elements ∙ ap (λ xs. x ∷ xs) elements in
     let count : open_templates r.open_elems ≡ suc (open_templates s.open_elems) = ap open_templates all ∙ rw t refl in

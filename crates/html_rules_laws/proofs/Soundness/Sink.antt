@@ -12,14 +12,14 @@ use Rattle.html_rules.specs.Actions.{set_ignore_lf, set_quirks_mode}
 use Rattle.html_rules.specs.Choice.{choose}
 use Rattle.html_rules.specs.Conditions.{is_nonempty}
 use Rattle.html_rules.specs.Doctypes.{doctype_error, quirks_of}
-use Rattle.html_rules.specs.Documents.{Setting, before_document, before_fragment, modes_of_context}
+use Rattle.html_rules.specs.Documents.{Setting, before_document, before_fragment, modes_of_context, form_of_context}
 use Rattle.html_rules.specs.Places.{append_doctype_to_document, create_root}
 use Rattle.html_rules.specs.Reset.{current_template_mode, mode_of, reset_insertion_mode}
 use Rattle.html_rules.specs.Sets.{mathml_names_of, names_of, svg_names_of}
 use Rattle.html_rules.specs.Shape.{fits_mode, has_root, has_template_modes, is_at_root, is_fit}
 use Rattle.html_rules.specs.Stack.{has_open, parse_error}
 use Rattle.html_rules.specs.State.{Open, State, hushed, is_in}
-use Rattle.html_rules.specs.Step.{doctype_taken, ended, first_doctype_taken, if_kept, is_barred, is_idle, step, taken, taken_by}
+use Rattle.html_rules.specs.Step.{doctype_settled, doctype_taken, ended, ends_table_text, first_doctype_taken, if_kept, is_barred, is_idle, step, taken, taken_by}
 use Rattle.html_rules.specs.Step.{after_line_feed, untouched}
 use Rattle.html_rules.specs.declared.insertion_mode.InsertionMode.{InsertionMode}
 use Rattle.html_rules.specs.declared.insertion_mode.InsertionMode.TheVariants as mode
@@ -75,16 +75,20 @@ first-held d s is =
     let told : State = choose (doctype_error d) (λ _. parse_error s) (λ _. s) in
     let one = first-either (doctype_error d) (parse_error s) s (record { held = erred s is.held; mode = error-mode s ∙ is.mode }) is in
     let two = first-either s.opts.drop_doctype told (append_doctype_to_document d told) one (put-first d told one) in
-    let three = quirks-first (quirks_of s.opts.iframe_srcdoc d) (if_kept s.opts.drop_doctype d told) two in
-    initial-held (set_quirks_mode (quirks_of s.opts.iframe_srcdoc d) (if_kept s.opts.drop_doctype d told)) three.mode three.held
+    let three = quirks-first (quirks_of s.opts.rules s.opts.iframe_srcdoc d) (if_kept s.opts.drop_doctype d told) two in
+    initial-held (set_quirks_mode (quirks_of s.opts.rules s.opts.iframe_srcdoc d) (if_kept s.opts.drop_doctype d told)) three.mode three.held
 
 doctype-held : (m : InsertionMode) (d : Doctype) (s : State) → s.mode ≡ m → Held s → Held (doctype_taken m d s)
 doctype-held mode.Initial d s e h = first-held d s (record { held = h; mode = e })
 doctype-held m d s e h = erred s h
 
+doctype_settled-held : (e : Bool) (d : Doctype) (s : State) → Held s → Held (doctype_settled e d s).state
+doctype_settled-held true d s h = settle-held (DoctypeToken d) s h
+doctype_settled-held false d s h = doctype-held s.mode d s refl h
+
 taken_by-held : (t : Token) (b : Bool) (s : State) → Held s → Held (taken_by b t s).state
 taken_by-held (CharacterTokens text) b s h = text-held (after_line_feed b text) (untouched s) h
-taken_by-held (DoctypeToken d) b s h = doctype-held s.mode d s refl h
+taken_by-held (DoctypeToken d) b s h = doctype_settled-held (ends_table_text s.opts.rules s.mode) d s h
 taken_by-held (TagToken tag) b s h = settle-held (TagToken tag) s h
 taken_by-held (CommentToken text) b s h = settle-held (CommentToken text) s h
 taken_by-held NullCharacterToken b s h = settle-held NullCharacterToken s h
@@ -280,7 +284,7 @@ unfolding reset_insertion_mode create_root names_of
 fragment-sound setting context form f =
     let s : State = create_root [] (record (before_document setting f) {
       context_elem = Some context;
-      form_elem = form;
+      form_elem = form_of_context setting.opts.rules context form;
       template_modes = modes_of_context context;
     }) in
     let asks = context-asks s context refl refl in

@@ -29,6 +29,7 @@ use Rattle.html_rules.specs.Table.{Reprocess, ReprocessInOriginal, RunScript}
 use Rattle.html_rules.specs.Tokens.{attributes_of}
 use Rattle.html_rules.specs.declared.insertion_mode.InsertionMode.{InsertionMode}
 use Rattle.html_rules.specs.declared.insertion_mode.InsertionMode.TheVariants as mode
+use Rattle.html_rules.specs.declared.rules.Rules.{Rules}
 use Rattle.html_rules.specs.declared.tag_set.TagSet.TheVariants as set
 use Rattle.html_rules_laws.specs.Held.{Held}
 use Rattle.html_rules_laws.specs.Placing.{are_general, is_in_head, may_stand_over, stand_well}
@@ -164,7 +165,7 @@ headed-held : (name : List ℕ) (attributes : List Attribute) (dup : Bool) → i
     → Held (set_mode mode.InHead (set_head_elem (insert_element Html name attributes dup s)))
 unfolding set_mode set_head_elem insert_element
 headed-held name attributes dup n s e h =
-    let x : Open = record { number = node_count s.forest; namespace = Html; name = name } in
+    let x : Open = record { number = node_count s.forest; namespace = Html; name = name; rules = s.opts.rules } in
     let head : is_in set.Head x ≡ true = n in
     let template = head-plain x head in
     let root' = head-root x head in
@@ -217,11 +218,11 @@ some-later m s l h = rw l h
 later-at : (s : State) (m : InsertionMode) → s.mode ≡ m → is_later m ≡ true → is_later s.mode ≡ true
 later-at s m e l = ap is_later e ∙ l
 
-noscript-held : (tag : Tag) → ((n : ℕ) → IsOrdinary (record { number = n; namespace = Html; name = tag.name }))
+noscript-held : (tag : Tag) → ((n : ℕ) (rules : Rules) → IsOrdinary (record { number = n; namespace = Html; name = tag.name; rules = rules }))
     → (s : State) → s.mode ≡ mode.InHead → Held s → Held (set_mode mode.InHeadNoscript (insert_element_for tag s))
 unfolding set_mode insert_element
 noscript-held tag plain s e h =
-    let is = plain (node_count s.forest) in
+    let is = plain (node_count s.forest) s.opts.rules in
     record {
       listed = h.listed;
       modes = h.modes;

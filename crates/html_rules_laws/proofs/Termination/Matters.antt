@@ -11,11 +11,13 @@ use Rattle.html_rules.specs.Choice.{choose}
 use Rattle.html_rules.specs.Conditions.{holds}
 use Rattle.html_rules.specs.ForeignContent.{is_end_tag}
 use Rattle.html_rules.specs.Names.{Namespace, Html, MathMl, Svg, Other}
-use Rattle.html_rules.specs.Sets.{is_among, mathml_names_of, names_in, names_of, svg_names_of}
+use Rattle.html_rules.specs.Sets.{is_among, mathml_names_of, names_in, names_of, set_by, svg_names_of}
 use Rattle.html_rules.specs.Stack.{in_scope, left_below, left_from, without_current_but_root}
 use Rattle.html_rules.specs.State.{Open, State, current_is, is_in, is_named, named_in}
 use Rattle.html_rules.specs.Table.{Class, EndTags, Condition, InScope, TemplateOpen, TokenInScope}
 use Rattle.html_rules.specs.Tokens.{class_fits, name_of}
+use Rattle.html_rules.specs.declared.rules.Rules.{Rules}
+use Rattle.html_rules.specs.declared.rules.Rules.TheVariants.{Html5ever, Standard}
 use Rattle.html_rules.specs.declared.tag_set.TagSet.{TagSet}
 use Rattle.html_rules.specs.declared.tag_set.TagSet.TheVariants as set
 use Rattle.html_rules_laws.proofs.SetFacts.{all_among, among-all, apart, in-apart, in-within, within}
@@ -62,14 +64,18 @@ abbrev pub is_empty : List (List ℕ) → Bool
 is_empty [] = true
 is_empty names = false
 
-abbrev pub all_pay : TagSet → Bool
-all_pay these = all_among (names_of these) paying_names && (is_empty (mathml_names_of these) && is_empty (svg_names_of these))
+abbrev pub all_names_pay : TagSet → Bool
+all_names_pay these = all_among (names_of these) paying_names && (is_empty (mathml_names_of these) && is_empty (svg_names_of these))
 
 nothing-among : (name : List ℕ) (xs : List (List ℕ)) → is_empty xs ≡ true → is_among name xs ≡ true → ⊥
 nothing-among name [] e h = true≢false (sym h)
 nothing-among name (x ∷ xs) e h = true≢false (sym e)
 
-pay_by : (these : TagSet) → all_pay these ≡ true → (namespace : Namespace) (name : List ℕ)
+-- whatever the rules
+abbrev pub all_pay : TagSet → Bool
+all_pay these = all_names_pay (set_by Html5ever these) && all_names_pay (set_by Standard these)
+
+pay_by : (these : TagSet) → all_names_pay these ≡ true → (namespace : Namespace) (name : List ℕ)
     → is_among name (names_in namespace these) ≡ true → is_among name (paying_names_in namespace) ≡ true
 pay_by these h namespace name = by namespace where
   html : (all_among (names_of these) paying_names ≡ true) × ((is_empty (mathml_names_of these) && is_empty (svg_names_of these)) ≡ true)
@@ -85,18 +91,28 @@ pay_by these h namespace name = by namespace where
   by (Other uri) k = k
 
 pub pays-in : (these : TagSet) → all_pay these ≡ true → (x : Open) → is_in these x ≡ true → pays x ≡ true
-pays-in these h x k = pay_by these h x.namespace x.name k
+pays-in these h x k = by x.rules k where
+  parts : (all_names_pay (set_by Html5ever these) ≡ true) × (all_names_pay (set_by Standard these) ≡ true)
+  parts = and_parts (all_names_pay (set_by Html5ever these)) _ h
+
+  by : (rules : Rules) → is_among x.name (names_in x.namespace (set_by rules these)) ≡ true → pays x ≡ true
+  by Html5ever k = pay_by (set_by Html5ever these) parts.0 x.namespace x.name k
+  by Standard k = pay_by (set_by Standard these) parts.1 x.namespace x.name k
 
 -- sets whose elements pay, or are the root
-abbrev pub all_pay_or_root : TagSet → Bool
-all_pay_or_root these = all_among (names_of these) (codes "html" ∷ paying_names)
+abbrev pub all_names_pay_or_root : TagSet → Bool
+all_names_pay_or_root these = all_among (names_of these) (codes "html" ∷ paying_names)
     && (is_empty (mathml_names_of these) && is_empty (svg_names_of these))
+
+-- whatever the rules
+abbrev pub all_pay_or_root : TagSet → Bool
+all_pay_or_root these = all_names_pay_or_root (set_by Html5ever these) && all_names_pay_or_root (set_by Standard these)
 
 or_false : (a b : Bool) → (a || b) ≡ true → (a || false) ≡ false → b ≡ true
 or_false true b h e = absurd (true≢false e)
 or_false false b h e = h
 
-root_by : (these : TagSet) → all_pay_or_root these ≡ true → (namespace : Namespace) (name : List ℕ)
+root_by : (these : TagSet) → all_names_pay_or_root these ≡ true → (namespace : Namespace) (name : List ℕ)
     → is_among name (names_in namespace these) ≡ true → is_among name (names_in namespace set.Html) ≡ false
     → is_among name (paying_names_in namespace) ≡ true
 unfolding names_of
@@ -118,7 +134,13 @@ root_by these h namespace name = by namespace where
 
 pub pays-but_root : (these : TagSet) → all_pay_or_root these ≡ true → (x : Open) → is_in these x ≡ true
     → is_in set.Html x ≡ false → pays x ≡ true
-pays-but_root these h x k e = root_by these h x.namespace x.name k e
+pays-but_root these h x k e = by x.rules k where
+  parts : (all_names_pay_or_root (set_by Html5ever these) ≡ true) × (all_names_pay_or_root (set_by Standard these) ≡ true)
+  parts = and_parts (all_names_pay_or_root (set_by Html5ever these)) _ h
+
+  by : (rules : Rules) → is_among x.name (names_in x.namespace (set_by rules these)) ≡ true → pays x ≡ true
+  by Html5ever k = root_by (set_by Html5ever these) parts.0 x.namespace x.name k e
+  by Standard k = root_by (set_by Standard these) parts.1 x.namespace x.name k e
 
 -- an element that pays is popped
 

@@ -2,6 +2,7 @@
 use Rattle.std.proofs.Common.{◌≡◌, ℕ, ◌<◌, Bool, true, false, List, [], ◌∷◌, Option, Some, None, refl, sym, true≢false, arith}
 use Rattle.std.specs.Prelude.{◌&&◌, not}
 use Rattle.std.proofs.lemmas.Bool.{and_parts}
+use Rattle.html_tokens.specs.declared.token.Doctype.{Doctype}
 use Rattle.html_tokens.specs.declared.token.Token.{Token}
 use Rattle.html_tokens.specs.declared.token.Token.TheVariants.{CharacterTokens, CommentToken, DoctypeToken, EOFToken}
 use Rattle.html_tokens.specs.declared.token.Token.TheVariants.{NullCharacterToken, ParseError, TagToken}
@@ -10,7 +11,7 @@ use Rattle.html_rules.specs.Rules.{Settled, rows, settle}
 use Rattle.html_rules.specs.Shape.{fits_in, fits_in_original, fits_mode, has_root, has_template_modes, is_at_root, is_fit}
 use Rattle.html_rules.specs.Stack.{parse_error, without_current}
 use Rattle.html_rules.specs.State.{Open, State}
-use Rattle.html_rules.specs.Step.{followed_by, after_line_feed, taken, taken_by, text_taken, untouched}
+use Rattle.html_rules.specs.Step.{followed_by, after_line_feed, taken, taken_by, text_taken, untouched, doctype_settled, ends_table_text}
 use Rattle.html_rules.specs.declared.insertion_mode.InsertionMode.{InsertionMode}
 use Rattle.html_rules.specs.declared.insertion_mode.InsertionMode.TheVariants.{Text, InTableText}
 use Rattle.html_rules_laws.specs.Ready.{Ready, are_formatting}
@@ -100,10 +101,15 @@ text-settled (c ∷ cs) before is modes h =
     text-settled cs (followed_by before (settle t before.state)) (settle-keeps c before.state is) ((settle-rest t before.state).modes modes)
     (both before.is_settled (settle t before.state).is_settled h (token-settled t before.state is.fit is.listed modes))
 
+doctype-settled : (e : Bool) (d : Doctype) (s : State) → Ready s → are_template_modes s.template_modes ≡ true
+    → (doctype_settled e d s).is_settled ≡ true
+doctype-settled true d s is modes = token-settled (DoctypeToken d) s is.fit is.listed modes
+doctype-settled false d s is modes = refl
+
 taken-settled : (t : Token) (s : State) → Ready s → are_template_modes s.template_modes ≡ true → (b : Bool)
     → (taken_by b t s).is_settled ≡ true
 taken-settled (CharacterTokens text) s is modes b = text-settled (after_line_feed b text) (untouched s) is modes refl
-taken-settled (DoctypeToken d) s is modes b = refl
+taken-settled (DoctypeToken d) s is modes b = doctype-settled (ends_table_text s.opts.rules s.mode) d s is modes
 taken-settled (TagToken tag) s is modes b = token-settled (TagToken tag) s is.fit is.listed modes
 taken-settled (CommentToken text) s is modes b = token-settled (CommentToken text) s is.fit is.listed modes
 taken-settled NullCharacterToken s is modes b = token-settled NullCharacterToken s is.fit is.listed modes

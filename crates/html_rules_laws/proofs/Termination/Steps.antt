@@ -11,7 +11,7 @@ use Rattle.html_rules.specs.Actions.{act, frameset_not_ok_unless_white, save_mod
 use Rattle.html_rules.specs.Actions.{remove_from_stack_if, remove_head_elem, set_foster_parenting, set_head_elem}
 use Rattle.html_rules.specs.Actions.{set_quirks_mode, set_template_mode, insert_pending_text, insert_table_text}
 use Rattle.html_rules.specs.Choice.{choose}
-use Rattle.html_rules.specs.ForeignContent.{ends_foreign, pop_foreign}
+use Rattle.html_rules.specs.ForeignContent.{ends_foreign, ends_foreign_in, pop_foreign}
 use Rattle.html_rules.specs.Formatting.{clear_active_formatting_to_marker, reconstruct_active_formatting_elements, reopen}
 use Rattle.html_rules.specs.Names.{Html}
 use Rattle.html_rules.specs.Places.{append_text, create_root, insert_element}
@@ -25,6 +25,7 @@ use Rattle.html_rules.specs.Table.{Close, ImpliedEndTags, CheckBodyEnd, SetHeadE
 use Rattle.html_rules.specs.Table.{ClearToMarker, SaveMode, ResetMode, SetTemplateMode, PopTemplateMode, SetQuirks}
 use Rattle.html_rules.specs.Table.{EnableFosterParenting, DisableFosterParenting, PopForeign}
 use Rattle.html_rules.specs.Tokens.{is_white}
+use Rattle.html_rules.specs.declared.rules.Rules.{Rules}
 use Rattle.html_rules.specs.declared.tag_set.TagSet.TheVariants as set
 use Rattle.html_rules_laws.specs.Ready.{are_formatting}
 use Rattle.html_rules_laws.specs.Settled.{are_template_modes, is_template_mode}
@@ -84,9 +85,9 @@ unfolding expect_to_close pop_until parse_error
 close-brings p s = brings-choose (current_is p s.open_elems) 0 s _ _
     (brings-part s _ (part-below p s.open_elems) refl) (brings-part s _ (part-below p s.open_elems) refl)
 
-new-brings : (name : List ℕ) (xs : List Open) (n : ℕ)
-    → payers (record { number = n; namespace = Html; name = name } ∷ xs) ≤ payers xs + one_if_pays name
-new-brings name xs n = by (is_among name paying_names) where
+new-brings : (name : List ℕ) (xs : List Open) (n : ℕ) (rules : Rules)
+    → payers (record { number = n; namespace = Html; name = name; rules = rules } ∷ xs) ≤ payers xs + one_if_pays name
+new-brings name xs n rules = by (is_among name paying_names) where
   by : (b : Bool) → choose b (λ _. suc (payers xs)) (λ _. payers xs) ≤ payers xs + choose b (λ _. 1) (λ _. 0)
   by true = omega arith
   by false = omega arith
@@ -102,8 +103,8 @@ known-brings (Then a b) k t s =
     record { payers = let p = one.payers in let q = two.payers in omega arith; modes = λ h. two.modes (one.modes h) }
 known-brings Nothing k t s = brings-none s s (omega arith) refl
 known-brings ParseError k t s = brings-none s (parse_error s) (omega arith) refl
-known-brings (InsertNew name) k t s = record { payers = new-brings name s.open_elems (node_count s.forest); modes = λ h. h }
-known-brings CreateNewRoot k t s = record { payers = new-brings (codes "html") s.open_elems (node_count s.forest); modes = λ h. h }
+known-brings (InsertNew name) k t s = record { payers = new-brings name s.open_elems (node_count s.forest) s.opts.rules; modes = λ h. h }
+known-brings CreateNewRoot k t s = record { payers = new-brings (codes "html") s.open_elems (node_count s.forest) s.opts.rules; modes = λ h. h }
 known-brings Pop k t s = brings-part s _ (part-but_root s.open_elems) refl
 known-brings (PopUntil names) k t s = brings-part s _ (part-below (is_in names) s.open_elems) refl
 known-brings (ClearBackTo names) k t s = brings-part s _ (part-from (is_in names) s.open_elems) refl
@@ -200,7 +201,7 @@ mild-elements s xs h = record { payers = h; mode = refl; original = refl; entrie
 
 head-mild : (o : Option ℕ) (s : State) → IsMild s (push_head o s)
 head-mild None s = mild-elements s s.open_elems (omega arith)
-head-mild (Some n) s = mild-elements s _ (let new = new-brings (codes "head") s.open_elems n in omega arith)
+head-mild (Some n) s = mild-elements s _ (let new = new-brings (codes "head") s.open_elems n s.opts.rules in omega arith)
 
 removed-mild : (o : Option ℕ) (s : State) → IsMild s (remove_from_stack_if o s)
 unfolding remove_from_stack
@@ -226,7 +227,7 @@ mild-is EnableFosterParenting h t s = record { payers = omega arith; mode = refl
 mild-is DisableFosterParenting h t s = record { payers = omega arith; mode = refl; original = refl; entries = refl; modes = refl }
 mild-is PushHeadElem h t s = head-mild s.head_elem s
 mild-is RemoveHeadElem h t s = removed-mild s.head_elem s
-mild-is PopForeign h t s = mild-elements s _ (payers-part s.open_elems _ (part-from ends_foreign s.open_elems))
+mild-is PopForeign h t s = mild-elements s _ (payers-part s.open_elems _ (part-from (ends_foreign_in s) s.open_elems))
 mild-is Pop h t s = mild-elements s _ (payers-part s.open_elems _ (part-but_root s.open_elems))
 mild-is a h t s = absurd (true≢false (sym h))
 
@@ -256,16 +257,16 @@ reopened-told (Element n tag ∷ entries) h s =
     let before = reopened-told entries parts.1 s in
     told-choose (is_open n s.open_elems) s _ _ (record { payers = omega arith; mode = refl; original = refl; modes = refl })
     (record {
-      payers = free tag parts.0 (node_count (reopen entries s).forest) (reopen entries s).open_elems
+      payers = free tag parts.0 (node_count (reopen entries s).forest) (reopen entries s).opts.rules (reopen entries s).open_elems
           s.open_elems before.payers;
       mode = before.mode;
       original = before.original;
       modes = before.modes;
     })
   where
-    free : (tag : Tag) → is_among tag.name (names_of set.FormattingEnd) ≡ true → (n : ℕ) (xs ys : List Open)
-        → payers xs ≤ payers ys → payers (record { number = n; namespace = Html; name = tag.name } ∷ xs) ≤ payers ys
-    free tag h n xs ys less = rw (formatting-free tag h) less
+    free : (tag : Tag) → is_among tag.name (names_of set.FormattingEnd) ≡ true → (n : ℕ) (rules : Rules) (xs ys : List Open)
+        → payers xs ≤ payers ys → payers (record { number = n; namespace = Html; name = tag.name; rules = rules } ∷ xs) ≤ payers ys
+    free tag h n rules xs ys less = rw (formatting-free tag h) less
 
 reconstructed-told : (s : State) → are_formatting s.active_formatting ≡ true → IsTold s (reconstruct_active_formatting_elements s)
 unfolding reconstruct_active_formatting_elements

@@ -8,7 +8,7 @@ use Rattle.html_rules.specs.Actions.{act, for_tag, forget_form_elem, frameset_no
 use Rattle.html_rules.specs.Actions.{insert_form_void, keep_text, remove_form_elem, remove_head_elem, set_foster_parenting}
 use Rattle.html_rules.specs.Actions.{set_form_elem, set_ignore_lf, insert_pending_text}
 use Rattle.html_rules.specs.Conditions.{holds}
-use Rattle.html_rules.specs.ForeignContent.{close_foreign, ends_foreign, enter_foreign, foreign_end, pop_foreign}
+use Rattle.html_rules.specs.ForeignContent.{close_foreign, ends_foreign, ends_foreign_in, enter_foreign, foreign_end, pop_foreign}
 use Rattle.html_rules.specs.Formatting.{clear_active_formatting_to_marker, create_formatting_element_for, push_marker}
 use Rattle.html_rules.specs.Names.{Html, MathMl, Svg, Other}
 use Rattle.html_rules.specs.Places.{insert_and_pop_element_for, insert_element_for}
@@ -74,14 +74,14 @@ act-eased kind (When c a) p q t f s l is = eased-either (holds c t s) s (act a t
 act-eased kind Nothing p q t f s l is = eased-same s
 act-eased kind ParseError p q t f s l is = parse_error-eased s is
 act-eased kind InsertElement p q t f s l is = tag-eased insert_element_for kind t f
-    (λ tag k. insert_element-eased Html tag.name tag.attrs tag.had_duplicate_attributes tt (λ n. (plain-of kind tag p k n).root)) s is
+    (λ tag k. insert_element-eased Html tag.name tag.attrs tag.had_duplicate_attributes tt (λ n rules. (plain-of kind tag p k n rules).root)) s is
 act-eased kind InsertVoid p q t f s l is = tag-eased insert_and_pop_element_for kind t f (λ tag k. void-eased tag) s is
 act-eased kind (InsertVoidAs name) p q t f s l is =
     tag-eased (λ tag. insert_and_pop_element_for (record tag { name = name })) kind t f
     (λ tag k. void-eased (record tag { name = name })) s is
 act-eased kind InsertFormVoid p q t f s l is = tag-eased insert_form_void kind t f (λ tag k. form_void-eased tag) s is
 act-eased kind (InsertNew name) p q t f s l is = insert_element-eased Html name [] false tt
-    (λ n. (plain-name name (not_true _ p) n).root) s is
+    (λ n rules. (plain-name name (not_true _ p) n rules).root) s is
 act-eased kind (InsertNewVoid name) p q t f s l is = put_element-eased Html name [] false tt s is
 act-eased kind AppendText p q t f s l is = append_text-eased (text_of t) s is
 act-eased kind AppendReplacement p q t f s l is = append_text-eased (0xFFFD ∷ []) s is
@@ -130,7 +130,7 @@ act-eased kind (EnterForeign MathMl) p q t f s l is = tag-eased (enter_foreign M
 act-eased kind (EnterForeign Svg) p q t f s l is = tag-eased (enter_foreign Svg) kind t f
     (λ tag k. enter_foreign-eased Svg tag tt refl) s is
 act-eased kind (EnterForeign (Other uri)) p q t f s l is = no q
-act-eased kind PopForeign p q t f s l is = pop_until_current-eased ends_foreign s is
+act-eased kind PopForeign p q t f s l is = pop_until_current-eased (ends_foreign_in s) s is
 act-eased kind CloseForeign p q t f s l is = close_by-eased (foreign_end (name_of t) s) s
     (foreign_end-part true (name_of t) s.open_elems) is
 act-eased kind a p q t f s l is = no p

@@ -94,8 +94,8 @@ adopt-eased fe block s left ys t l is there scope e =
           let right = rooted-right s.forest later (block ∷ at.0 ∷ earlier) all in
           let below : AreRooted g earlier = rooted-outside s.forest g block.number earlier moved.outside opened.1.1 apart.0.1 right.1.1 in
           stacked s.forest g later earlier w.copies block at.0
-          (record { number = new; namespace = Html; name = fe.tag.name }) all below
-          (walked-plain left ys block s l) (plain-formatting fe.tag t new).root;
+          (record { number = new; namespace = Html; name = fe.tag.name; rules = s.opts.rules }) all below
+          (walked-plain left ys block s l) (plain-formatting fe.tag t new s.opts.rules).root;
     }
 
 from-eased : (fe : Listed) (s : State) (o : Option Open) → is_among fe.tag.name (names_of set.FormattingEnd) ≡ true

@@ -52,7 +52,7 @@ adopted : (fe : Listed) (block : Open) (w : Walk) (s : State)
     → (let r = remove w.forest w.last_node in
     let f = put r (place_for s.foster_parenting r s.open_elems (current_node (opened_before fe.number s.open_elems))) w.last_node in
     IsStanding (put (reparent_children (with_copy f fe.tag) block.number (node_count f)) (Last block.number) (node_count f))
-    (opened_after block.number s.open_elems ++ (opened_for f fe.tag ∷ block ∷ (w.copies ++ opened_before fe.number s.open_elems)))
+    (opened_after block.number s.open_elems ++ (opened_for s.opts.rules f fe.tag ∷ block ∷ (w.copies ++ opened_before fe.number s.open_elems)))
     (relist fe.number (Element (node_count f) fe.tag) w.copies w.active_formatting))
     → Standing (adopt fe block w s)
 adopted fe block w s h =
@@ -60,7 +60,7 @@ adopted fe block w s h =
     let f : Forest = put r (place_for s.foster_parenting r s.open_elems
     (current_node (opened_before fe.number s.open_elems))) w.last_node in
     regroup (put (reparent_children (with_copy f fe.tag) block.number (node_count f)) (Last block.number) (node_count f))
-    (opened_after block.number s.open_elems) (opened_for f fe.tag ∷ block ∷ w.copies) (opened_before fe.number s.open_elems)
+    (opened_after block.number s.open_elems) (opened_for s.opts.rules f fe.tag ∷ block ∷ w.copies) (opened_before fe.number s.open_elems)
     (relist fe.number (Element (node_count f) fe.tag) w.copies w.active_formatting) h
 
 -- where the last node of a walk is put, with a furthest block
@@ -88,11 +88,11 @@ has-place fe block s left ys is there scope e =
     (later ++ block ∷ earlier) (part-without later block found.0 earlier) all in
     let opened = (opened-right f0 later (block ∷ earlier) start.opened).0 in
     let named = opened.named in
-    let walked = walk-Walked f0 block.number left ys (begun f0 block.number s.active_formatting)
-    (begun-Walked f0 block.number s.active_formatting is.tree is.listed
+    let walked = walk-Walked f0 block.number left ys (begun s.opts.rules f0 block.number s.active_formatting)
+    (begun-Walked s.opts.rules f0 block.number s.active_formatting is.tree is.listed
     (element-IsNode f0 block.number (element_name_of block.namespace block.name) named)
     (element-plain (data_of f0 block.number) (element_name_of block.namespace block.name) named)) in
-    let w : Walk = walk left ys (begun f0 block.number s.active_formatting) in
+    let w : Walk = walk left ys (begun s.opts.rules f0 block.number s.active_formatting) in
     let r : Forest = remove w.forest w.last_node in
     let removed = IsRemoved-remove w.forest w.last_node walked.tree.forest in
     let tree : IsTree r = IsTree-remove w.forest w.last_node walked.tree in
@@ -120,10 +120,10 @@ adopt-Standing : (fe : Listed) (block : Open) (s : State) (left : ℕ) (ys : Lis
     → furthest_block (opened_after fe.number s.open_elems) ≡ Some block → Standing (adopt fe block (walk left ys (begin_walk block s)) s)
 adopt-Standing fe block s left ys is there scope e =
     let h = has-place fe block s left ys is there scope e in
-    let w : Walk = walk left ys (begun s.forest block.number s.active_formatting) in
+    let w : Walk = walk left ys (begun s.opts.rules s.forest block.number s.active_formatting) in
     let place : Place = place_for s.foster_parenting (remove w.forest w.last_node) s.open_elems
     (current_node (opened_before fe.number s.open_elems)) in
-    adopted fe block w s (outside-standing s.forest block (opened_after block.number s.open_elems)
+    adopted fe block w s (outside-standing s.opts.rules s.forest block (opened_after block.number s.open_elems)
     (opened_before fe.number s.open_elems) s.active_formatting left ys fe.number fe.tag place h.start h.at
     h.outer.there h.outer.under h.outer.none)
 
@@ -134,12 +134,12 @@ pub adopt-moved : (fe : Listed) (block : Open) (s : State) (left : ℕ) (ys : Li
     → IsMoved s.forest (adopt fe block (walk left ys (begin_walk block s)) s).forest block.number
 adopt-moved fe block s left ys is there scope e =
     let h = has-place fe block s left ys is there scope e in
-    let w : Walk = walk left ys (begun s.forest block.number s.active_formatting) in
+    let w : Walk = walk left ys (begun s.opts.rules s.forest block.number s.active_formatting) in
     let place : Place = place_for s.foster_parenting (remove w.forest w.last_node) s.open_elems
     (current_node (opened_before fe.number s.open_elems)) in
     let opened = (opened-right s.forest (opened_after block.number s.open_elems)
     (block ∷ opened_before fe.number s.open_elems) h.start.opened).0 in
-    outside-moved s.forest block s.active_formatting left ys fe.tag place is.tree is.listed opened h.at h.outer.there h.outer.under
+    outside-moved s.opts.rules s.forest block s.active_formatting left ys fe.tag place is.tree is.listed opened h.at h.outer.there h.outer.under
 
 cut_at-Standing : (fe : Listed) → Keeps (cut_at fe)
 cut_at-Standing fe s is =

@@ -6,6 +6,7 @@ use Rattle.markup.proofs.Walks.{Above-IsNode}
 use Rattle.html_tokens.specs.declared.tags.Tag.{Tag}
 use Rattle.html_rules.specs.Names.{Html, element_name_of}
 use Rattle.html_rules.specs.State.{Open, Entry}
+use Rattle.html_rules.specs.declared.rules.Rules.{Rules}
 use Rattle.html_rules_laws.specs.Soundness.{AreListed, AreOpened, IsApart, IsClear, IsStanding}
 use Rattle.html_rules_laws.proofs.TreePreserved.AdoptionTurn.{Adopted, AreNewOr, Placed}
 use Rattle.html_rules_laws.proofs.TreePreserved.AdoptionWalk.{AreClear, append-apart, append-clear, append-opened}
@@ -144,14 +145,14 @@ later-apart f0 f g b q copies anc (x ∷ xs) entries tag is made there h a =
         )
 
 -- after a turn: those later than the block, the new element, the block, the copies, and those before the formatting element
-pub turn-IsStanding : (f0 f g : Forest) (block : Open) (q : ℕ) (inner copies anc : List Open) (entries0 entries : List Entry) (tag : Tag)
+pub turn-IsStanding : (rules : Rules) (f0 f g : Forest) (block : Open) (q : ℕ) (inner copies anc : List Open) (entries0 entries : List Entry) (tag : Tag)
     → IsStanding f0 (inner ++ block ∷ anc) entries0 → Placed f0 f block.number q copies entries
     → Adopted f g block.number tag → q < node_count f0 → NoneAbove f0 inner q → (Above f0 block.number q → ⊥)
     → (relisted : List Entry) → AreListed g relisted → above_of g 0 ≡ None
-    → IsStanding g (inner ++ (record { number = node_count f; namespace = Html; name = tag.name } ∷ block ∷ (copies ++ anc))) relisted
-turn-IsStanding f0 f g block q inner copies anc entries0 entries tag is placed made less none none_b relisted listed top =
+    → IsStanding g (inner ++ (record { number = node_count f; namespace = Html; name = tag.name; rules = rules } ∷ block ∷ (copies ++ anc))) relisted
+turn-IsStanding rules f0 f g block q inner copies anc entries0 entries tag is placed made less none none_b relisted listed top =
     let b : ℕ = block.number in
-    let new : Open = record { number = node_count f; namespace = Html; name = tag.name } in
+    let new : Open = record { number = node_count f; namespace = Html; name = tag.name; rules = rules } in
     let rest : List Open = block ∷ anc in
     let all = is.opened in
     let opened_inner = opened-left f0 inner rest all in

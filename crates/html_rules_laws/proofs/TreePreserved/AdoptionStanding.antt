@@ -12,6 +12,7 @@ use Rattle.html_rules.specs.Adoption.{Walk, opened_for, relist, walk, with_copy}
 use Rattle.html_rules.specs.Formatting.{put_after, stands_for}
 use Rattle.html_rules.specs.Names.{Html, element_name_of}
 use Rattle.html_rules.specs.State.{Open, Entry, Element}
+use Rattle.html_rules.specs.declared.rules.Rules.{Rules}
 use Rattle.html_rules_laws.specs.Soundness.{AreListed, IsOpened, IsStanding}
 use Rattle.html_rules_laws.proofs.TreePreserved.AdoptionOrder.{NoneAbove, opened-right, turn-IsStanding}
 use Rattle.html_rules_laws.proofs.TreePreserved.AdoptionTurn.{Adopted, Placed, adopted-Adopted, walked-Placed}
@@ -44,12 +45,12 @@ above-top f a e Above.here = refl
 above-top f a e (Above.further is up) = absurd (cc)
 
 -- the walk before its first element
-abbrev pub begun : Forest → ℕ → List Entry → Walk
-begun f block entries = record { forest = f; active_formatting = entries; copies = []; last_node = block }
+abbrev pub begun : Rules → Forest → ℕ → List Entry → Walk
+begun rules f block entries = record { forest = f; active_formatting = entries; copies = []; last_node = block; rules = rules }
 
-pub begun-Walked : (f : Forest) (b : ℕ) (entries : List Entry) → IsTree f → AreListed f entries → b < node_count f
-    → is_contents (data_of f b) ≡ false → Walked f b (begun f b entries)
-begun-Walked f b entries tree listed there plain = record {
+pub begun-Walked : (rules : Rules) (f : Forest) (b : ℕ) (entries : List Entry) → IsTree f → AreListed f entries → b < node_count f
+    → is_contents (data_of f b) ≡ false → Walked f b (begun rules f b entries)
+begun-Walked rules f b entries tree listed there plain = record {
   tree = tree;
   names = record { names = λ k name e. e; holds = λ k at. at };
   count = omega arith;
@@ -95,20 +96,20 @@ pub record IsMoved (f0 g : Forest) (b : ℕ) : Type 0 where
   pub outside : (a n : ℕ) → n < node_count f0 → (Above f0 b n → ⊥) → Above g a n → Above f0 a n
 
 -- so a turn leaves the tree, where the last node of the walk is put at a place that the block is not above
-pub outside-moved : (f0 : Forest) (block : Open) (entries : List Entry) (left : ℕ) (between : List Open) (tag : Tag)
+pub outside-moved : (rules : Rules) (f0 : Forest) (block : Open) (entries : List Entry) (left : ℕ) (between : List Open) (tag : Tag)
     (place : Place) → IsTree f0 → AreListed f0 entries → IsOpened f0 block
-    → IsPlace (remove (walk left between (begun f0 block.number entries)).forest
-    (walk left between (begun f0 block.number entries)).last_node) place
+    → IsPlace (remove (walk left between (begun rules f0 block.number entries)).forest
+    (walk left between (begun rules f0 block.number entries)).last_node) place
     → parent_at place < node_count f0 → (Above f0 block.number (parent_at place) → ⊥)
-    → let w = walk left between (begun f0 block.number entries) in
+    → let w = walk left between (begun rules f0 block.number entries) in
     let f = put (remove w.forest w.last_node) place w.last_node in
     IsMoved f0 (put (reparent_children (with_copy f tag) block.number (node_count f)) (Last block.number) (node_count f)) block.number
-outside-moved f0 block entries left between tag place tree listed is at less out =
+outside-moved rules f0 block entries left between tag place tree listed is at less out =
     let b : ℕ = block.number in
-    let w : Walk = walk left between (begun f0 b entries) in
+    let w : Walk = walk left between (begun rules f0 b entries) in
     let there : b < node_count f0 = element-IsNode f0 b (element_name_of block.namespace block.name) is.named in
-    let walked = walk-Walked f0 b left between (begun f0 b entries)
-    (begun-Walked f0 b entries tree listed there
+    let walked = walk-Walked f0 b left between (begun rules f0 b entries)
+    (begun-Walked rules f0 b entries tree listed there
     (element-plain (data_of f0 b) (element_name_of block.namespace block.name) is.named)) in
     let placed = walked-Placed f0 b w place walked at less out in
     let f : Forest = put (remove w.forest w.last_node) place w.last_node in
@@ -126,26 +127,26 @@ outside-moved f0 block entries left between tag place tree listed is at less out
 
 -- With a block, elements that were opened after it, and those that were opened before the formatting element: where the last node of the
 -- walk is put at a place whose parent neither the block nor a later element stands above, all that is open after the turn is in order.
-pub outside-standing : (f0 : Forest) (block : Open) (later earlier : List Open) (entries : List Entry) (left : ℕ)
+pub outside-standing : (rules : Rules) (f0 : Forest) (block : Open) (later earlier : List Open) (entries : List Entry) (left : ℕ)
     (between : List Open) (formatting_element : ℕ) (tag : Tag) (place : Place)
     → IsStanding f0 (later ++ block ∷ earlier) entries
-    → IsPlace (remove (walk left between (begun f0 block.number entries)).forest
-    (walk left between (begun f0 block.number entries)).last_node) place
+    → IsPlace (remove (walk left between (begun rules f0 block.number entries)).forest
+    (walk left between (begun rules f0 block.number entries)).last_node) place
     → parent_at place < node_count f0 → (Above f0 block.number (parent_at place) → ⊥) → NoneAbove f0 later (parent_at place)
-    → let w = walk left between (begun f0 block.number entries) in
+    → let w = walk left between (begun rules f0 block.number entries) in
     let f = put (remove w.forest w.last_node) place w.last_node in
     IsStanding (put (reparent_children (with_copy f tag) block.number (node_count f)) (Last block.number) (node_count f))
-    (later ++ (opened_for f tag ∷ block ∷ (w.copies ++ earlier)))
+    (later ++ (opened_for rules f tag ∷ block ∷ (w.copies ++ earlier)))
     (relist formatting_element (Element (node_count f) tag) w.copies w.active_formatting)
-outside-standing f0 block inner anc entries left between formatting_element tag place is at less out none =
+outside-standing rules f0 block inner anc entries left between formatting_element tag place is at less out none =
     let b : ℕ = block.number in
     let q : ℕ = parent_at place in
-    let w : Walk = walk left between (begun f0 b entries) in
+    let w : Walk = walk left between (begun rules f0 b entries) in
     let rest = opened-right f0 inner (block ∷ anc) is.opened in
     let named = rest.0.named in
     let there : b < node_count f0 = element-IsNode f0 b (element_name_of block.namespace block.name) named in
-    let walked = walk-Walked f0 b left between (begun f0 b entries)
-    (begun-Walked f0 b entries is.tree is.listed there
+    let walked = walk-Walked f0 b left between (begun rules f0 b entries)
+    (begun-Walked rules f0 b entries is.tree is.listed there
     (element-plain (data_of f0 b) (element_name_of block.namespace block.name) named)) in
     let placed = walked-Placed f0 b w place walked at less out in
     let f : Forest = put (remove w.forest w.last_node) place w.last_node in
@@ -155,7 +156,7 @@ outside-standing f0 block inner anc entries left between formatting_element tag 
     (element-plain (data_of f b) (element_name_of block.namespace block.name) named_f) in
     let g : Forest = put (reparent_children (with_copy f tag) b (node_count f)) (Last b) (node_count f) in
     let listed = named-listed f g w.active_formatting made.names placed.listed in
-    turn-IsStanding f0 f g block q inner w.copies anc entries w.active_formatting tag is placed made less none out
+    turn-IsStanding rules f0 f g block q inner w.copies anc entries w.active_formatting tag is placed made less none out
     (relist formatting_element (Element (node_count f) tag) w.copies w.active_formatting)
     (relist-listed g formatting_element (node_count f) tag w.copies w.active_formatting made.named listed)
     (stays-on_top f0 f g block q w.copies w.active_formatting tag is.tree is.top rest.0 placed made)

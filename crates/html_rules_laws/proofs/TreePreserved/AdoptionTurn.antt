@@ -15,6 +15,7 @@ use Rattle.html_tokens.specs.declared.tags.Tag.{Tag}
 use Rattle.html_rules.specs.Adoption.{Walk, with_copy}
 use Rattle.html_rules.specs.Names.{Html, element_name_of, flags_of}
 use Rattle.html_rules.specs.State.{Open, Entry, Element, Marker}
+use Rattle.html_rules.specs.declared.rules.Rules.TheVariants.{Html5ever}
 use Rattle.html_rules_laws.specs.Soundness.{AreListed, AreOpened, IsApart, IsClear}
 use Rattle.html_rules_laws.proofs.TreePreserved.AdoptionWalk.{AreNew, Walked, last-out}
 use Rattle.html_rules_laws.proofs.TreePreserved.StandingTrees.{made-Made}
@@ -163,7 +164,7 @@ adopted-Adopted f b tag tree block plain =
     let made : Forest = with_copy f tag in
     let m = IsMade-create_element f (element_name_of Html tag.name) tag.attrs
     (flags_of Html tag.name tag.attrs tag.had_duplicate_attributes) tree.forest in
-    let mm = made-Made f Html tag.name tag.attrs tag.had_duplicate_attributes [] tree tt tt in
+    let mm = made-Made Html5ever f Html tag.name tag.attrs tag.had_duplicate_attributes [] tree tt tt in
     let forest = mm.stays.tree.forest in
     let more : n < node_count made = m.there in
     let there : b < n = block.there in

@@ -15,6 +15,7 @@ use Rattle.html_rules.specs.Choice.{choose}
 use Rattle.html_rules.specs.Formatting.{Listed, stands_for, with_in_place, without_entry}
 use Rattle.html_rules.specs.Names.{Html, element_name_of, flags_of}
 use Rattle.html_rules.specs.State.{Open, Entry, Element, Marker}
+use Rattle.html_rules.specs.declared.rules.Rules.{Rules}
 use Rattle.html_rules_laws.specs.Soundness.{AreListed, AreOpened, IsApart, IsClear, IsOpened}
 use Rattle.html_rules_laws.proofs.TreePreserved.StandingTrees.{made-Made}
 
@@ -153,11 +154,11 @@ only-itself : (f : Forest) (a n : ℕ) → above_of f n ≡ None → Above f a n
 only-itself f a n e Above.here = refl
 only-itself f a n e (Above.further is up) = absurd (cc)
 
-clear-of : (g : Forest) (n : ℕ) (f : Forest) (xs : List Open) → AreOpened f xs
-    → ((x : ℕ) → x < node_count f → Above g x n → ⊥) → AreClear g xs (record { number = n; namespace = Html; name = [] } ∷ [])
-clear-of g n f [] h free = tt
-clear-of g n f (x ∷ xs) h free =
-    ((free x.number (element-IsNode f x.number (element_name_of x.namespace x.name) h.0.named), tt), clear-of g n f xs h.1 free)
+clear-of : (rules : Rules) (g : Forest) (n : ℕ) (f : Forest) (xs : List Open) → AreOpened f xs
+    → ((x : ℕ) → x < node_count f → Above g x n → ⊥) → AreClear g xs (record { number = n; namespace = Html; name = []; rules = rules } ∷ [])
+clear-of rules g n f [] h free = tt
+clear-of rules g n f (x ∷ xs) h free =
+    ((free x.number (element-IsNode f x.number (element_name_of x.namespace x.name) h.0.named), tt), clear-of rules g n f xs h.1 free)
 
 -- only the number of an element counts for what stands above it
 clear-number : (g : Forest) (xs : List Open) (x y : Open) → x.number ≡ y.number → AreClear g xs (x ∷ []) → AreClear g xs (y ∷ [])
@@ -171,10 +172,10 @@ copy-Walked f0 b w listed is =
     let n : ℕ = node_count f in
     let l : ℕ = w.last_node in
     let made : Forest = with_copy f tag in
-    let new : Open = opened_for f tag in
+    let new : Open = opened_for w.rules f tag in
     let m = IsMade-create_element f (element_name_of Html tag.name) tag.attrs
     (flags_of Html tag.name tag.attrs tag.had_duplicate_attributes) is.tree.forest in
-    let mm = made-Made f Html tag.name tag.attrs tag.had_duplicate_attributes w.copies is.tree tt is.opened in
+    let mm = made-Made w.rules f Html tag.name tag.attrs tag.had_duplicate_attributes w.copies is.tree tt is.opened in
     let r : Forest = remove made l in
     let rr = IsRemoved-remove made l mm.stays.tree.forest in
     let less : l < n = is.there in
@@ -217,8 +218,8 @@ copy-Walked f0 b w listed is =
       count = omega arith;
       opened = append-opened g w.copies (new ∷ []) (named-opened f g w.copies step is.opened) (opened_g, tt);
       apart = append-apart g w.copies (new ∷ []) (newer-apart f g w.copies newer is.opened is.apart) (tt, tt)
-          (clear-number g w.copies (record { number = n; namespace = Html; name = [] }) new refl
-          (clear-of g n f w.copies is.opened
+          (clear-number g w.copies (record { number = n; namespace = Html; name = []; rules = w.rules }) new refl
+          (clear-of w.rules g n f w.copies is.opened
           (λ x there up. elim (up_g x n up) [
             | inl old ↦ let same = only-itself made x n alone old in absurd
                 (omega arith)

@@ -20,6 +20,7 @@ use Rattle.html_rules.specs.Shape.{is_at_root}
 use Rattle.html_rules.specs.State.{Open, State, is_in}
 use Rattle.html_rules.specs.Table.{Action, Then, InsertElement, InsertNew, SetHeadElem, SwitchTo}
 use Rattle.html_rules.specs.declared.insertion_mode.InsertionMode.TheVariants as mode
+use Rattle.html_rules.specs.declared.rules.Rules.{Rules}
 use Rattle.html_rules.specs.declared.tag_set.TagSet.TheVariants as set
 use Rattle.html_rules_laws.specs.Soundness.{AreOpened, IsClear, IsOpened}
 use Rattle.html_rules_laws.specs.Upright.{AreRooted, Upright}
@@ -34,10 +35,10 @@ use Rattle.html_rules_laws.proofs.Bools.{no}
 
 -- a head is made, and its pointer names it
 
-head-rootless : (name : List ℕ) → is_among name (names_of set.Head) ≡ true → (n : ℕ)
-    → is_in set.Html (record { number = n; namespace = Html; name = name }) ≡ false
+head-rootless : (name : List ℕ) → is_among name (names_of set.Head) ≡ true → (n : ℕ) (rules : Rules)
+    → is_in set.Html (record { number = n; namespace = Html; name = name; rules = rules }) ≡ false
 unfolding names_of mathml_names_of svg_names_of
-head-rootless name h n = in-apart set.Head set.Html refl (record { number = n; namespace = Html; name = name }) h
+head-rootless name h n rules = in-apart set.Head set.Html refl (record { number = n; namespace = Html; name = name; rules = rules }) h
 
 or_false : (b : Bool) → (b || false) ≡ true → b ≡ true
 or_false true h = refl

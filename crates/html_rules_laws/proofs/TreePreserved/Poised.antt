@@ -23,6 +23,7 @@ use Rattle.html_rules.specs.Table.{PushTemplateMode, SetTemplateMode, PopTemplat
 use Rattle.html_rules.specs.Templates.{attach_shadow_root, insert_template, may_be_shadow_root, number_of}
 use Rattle.html_rules.specs.declared.insertion_mode.InsertionMode.{InsertionMode}
 use Rattle.html_rules.specs.declared.insertion_mode.InsertionMode.TheVariants as mode
+use Rattle.html_rules.specs.declared.rules.Rules.{Rules}
 use Rattle.html_rules.specs.declared.tag_set.TagSet.TheVariants as set
 use Rattle.html_rules_laws.specs.Ready.{are_formatting}
 use Rattle.html_rules_laws.specs.Soundness.{Standing, is_plain_action}
@@ -96,10 +97,10 @@ tame-poised kind a p q t f s h =
 
 -- a template is opened
 
-template-in : (name : List ℕ) → is_among name (names_of set.Template) ≡ true → (n : ℕ)
-    → is_in set.Html (record { number = n; namespace = Html; name = name }) ≡ false
+template-in : (name : List ℕ) → is_among name (names_of set.Template) ≡ true → (n : ℕ) (rules : Rules)
+    → is_in set.Html (record { number = n; namespace = Html; name = name; rules = rules }) ≡ false
 unfolding names_of mathml_names_of svg_names_of
-template-in name h n = in-apart set.Template set.Html refl (record { number = n; namespace = Html; name = name }) h
+template-in name h n rules = in-apart set.Template set.Html refl (record { number = n; namespace = Html; name = name; rules = rules }) h
 
 pub template-eased : (tag : Tag) → is_among tag.name (names_of set.Template) ≡ true → (s : State) → Standing s
     → Eases s (insert_template tag s)

@@ -9,6 +9,7 @@ use Rattle.markup.proofs.Walks.{Above-put}
 use Rattle.html_rules.specs.Names.{Html, element_name_of, flags_of}
 use Rattle.html_rules.specs.Places.{create_root, with_element}
 use Rattle.html_rules.specs.State.{State}
+use Rattle.html_rules.specs.declared.rules.Rules.TheVariants.{Html5ever}
 use Rattle.html_rules_laws.specs.Upright.{AreRooted, IsRooted, Upright}
 use Rattle.html_rules_laws.proofs.TreePreserved.Standing.{above-top, stays-top}
 use Rattle.html_rules_laws.proofs.TreePreserved.StandingSteps.{create_root-Standing}
@@ -26,7 +27,7 @@ root-rooted f attributes tree top a up =
     let flags = flags_of Html (codes "html") attributes false in
     let made : Forest = with_element f Html (codes "html") attributes false in
     let is = IsMade-create_element f (element_name_of Html (codes "html")) attributes flags tree.forest in
-    let new = made-Made f Html (codes "html") attributes false [] tree tt tt in
+    let new = made-Made Html5ever f Html (codes "html") attributes false [] tree tt tt in
     let there = (IsParent-document f tree.forest).there in
     let loose = is.loose 0 there in
     let at = IsPutAt-put made (Last 0) (node_count f) is.is (IsParent-document made new.stays.tree.forest) loose in
@@ -40,8 +41,8 @@ unfolding create_root
 rooted-Upright attributes s e h =
     let f : Forest = s.forest in
     let at = IsParent-document f h.standing.tree.forest in
-    let made = made-Made f Html (codes "html") attributes false s.open_elems h.standing.tree tt h.standing.opened in
-    let whole = put-Made f Html (codes "html") attributes false s.open_elems (Last 0) h.standing.tree tt
+    let made = made-Made s.opts.rules f Html (codes "html") attributes false s.open_elems h.standing.tree tt h.standing.opened in
+    let whole = put-Made s.opts.rules f Html (codes "html") attributes false s.open_elems (Last 0) h.standing.tree tt
     h.standing.opened at (IsParent-document _ made.stays.tree.forest) in
     record {
       standing = create_root-Standing attributes s h.standing;

@@ -22,7 +22,7 @@ use Rattle.html_rules.specs.Actions.{append_in_body, frameset_not_ok_unless_whit
 use Rattle.html_rules.specs.Actions.{set_foster_parenting, set_quirks_mode, insert_pending_text, insert_table_text}
 use Rattle.html_rules.specs.Choice.{choose}
 use Rattle.html_rules.specs.ForeignContent.{ForeignEnd, Dropped, AsInMode, Closed, close_foreign, close_foreign_by}
-use Rattle.html_rules.specs.ForeignContent.{ends_foreign, enter_foreign, foreign_end, foreign_end_from, foreign_start}
+use Rattle.html_rules.specs.ForeignContent.{ends_foreign, ends_foreign_in, enter_foreign, foreign_end, foreign_end_from, foreign_start}
 use Rattle.html_rules.specs.ForeignContent.{foreign_start_at, is_html_element, is_named_any_case, pop_foreign}
 use Rattle.html_rules.specs.Formatting.{reconstruct_active_formatting_elements}
 use Rattle.html_rules.specs.Names.{Namespace, Html, element_name_of}
@@ -180,7 +180,7 @@ remove_from_stack_if-Standing (Some n) s is = remove_from_stack-Standing n s is
 pub push_head-Standing : (s : State) (n : ℕ) → Standing s → element_name (data_of s.forest n) ≡ Some
     (element_name_of Html (codes "head")) → IsClear s.forest n s.open_elems → Standing (push_head (Some n) s)
 push_head-Standing s n is named clear = opened-Standing s.forest
-    (record { number = n; namespace = Html; name = codes "head" }) s.open_elems s.active_formatting
+    (record { number = n; namespace = Html; name = codes "head"; rules = s.opts.rules }) s.open_elems s.active_formatting
     (record { named = named; own = tt }) clear is
 
 -- text of tables
@@ -231,7 +231,7 @@ foreign_start-Standing tag s own is = foreign_start_at-Standing (adjusted_curren
 
 pub pop_foreign-Standing : Keeps pop_foreign
 unfolding pop_foreign
-pop_foreign-Standing s is = pop_until_current-Standing ends_foreign s is
+pop_foreign-Standing s is = pop_until_current-Standing (ends_foreign_in s) s is
 
 -- what an end tag in foreign content leaves is a part of what was open
 abbrev pub LeavesPart : List Open → ForeignEnd → Type 0

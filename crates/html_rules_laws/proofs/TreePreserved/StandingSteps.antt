@@ -160,7 +160,7 @@ pub put_element-Standing : (namespace : Namespace) (name : List ℕ) (attributes
 unfolding put_element
 put_element-Standing namespace name attributes dup own s is =
     changed-Standing s.forest _ s.open_elems s.active_formatting
-    (inserted-Made s.foster_parenting s.forest namespace name attributes dup s.open_elems is.tree own is.opened).stays is
+    (inserted-Made s.opts.rules s.foster_parenting s.forest namespace name attributes dup s.open_elems is.tree own is.opened).stays is
 
 made-Standing : (f g : Forest) (xs : List Open) (entries : List Entry) (new : Open) → Made f g xs new
     → IsStanding f xs entries → IsStanding g (new ∷ xs) entries
@@ -172,14 +172,14 @@ pub insert_element-Standing : (namespace : Namespace) (name : List ℕ) (attribu
 unfolding insert_element
 insert_element-Standing namespace name attributes dup own s is =
     made-Standing s.forest _ s.open_elems s.active_formatting _
-    (inserted-Made s.foster_parenting s.forest namespace name attributes dup s.open_elems is.tree own is.opened) is
+    (inserted-Made s.opts.rules s.foster_parenting s.forest namespace name attributes dup s.open_elems is.tree own is.opened) is
 
 pub open_element-Standing : (namespace : Namespace) (name : List ℕ) (attributes : List Attribute) (dup : Bool)
     → IsOwn namespace → Keeps (open_element namespace name attributes dup)
 unfolding open_element
 open_element-Standing namespace name attributes dup own s is =
     made-Standing s.forest _ s.open_elems s.active_formatting _
-    (made-Made s.forest namespace name attributes dup s.open_elems is.tree own is.opened) is
+    (made-Made s.opts.rules s.forest namespace name attributes dup s.open_elems is.tree own is.opened) is
 
 pub insert_element_for-Standing : (tag : Tag) → Keeps (insert_element_for tag)
 insert_element_for-Standing tag s is = insert_element-Standing Html tag.name tag.attrs tag.had_duplicate_attributes tt s is
@@ -188,9 +188,9 @@ pub create_root-Standing : (attributes : List Attribute) → Keeps (create_root 
 unfolding create_root
 create_root-Standing attributes s is =
     let at = IsParent-document s.forest is.tree.forest in
-    let made = made-Made s.forest Html (codes "html") attributes false s.open_elems is.tree tt is.opened in
+    let made = made-Made s.opts.rules s.forest Html (codes "html") attributes false s.open_elems is.tree tt is.opened in
     made-Standing s.forest _ s.open_elems s.active_formatting _
-    (put-Made s.forest Html (codes "html") attributes false s.open_elems (Last 0) is.tree tt is.opened at
+    (put-Made s.opts.rules s.forest Html (codes "html") attributes false s.open_elems (Last 0) is.tree tt is.opened at
     (IsParent-document _ made.stays.tree.forest)) is
 
 -- formatting elements
@@ -218,7 +218,7 @@ room-listed f tag entries h = choose-listed f (nat_le 3 (count_equal tag entries
 listed-Standing : (tag : Tag) → Keeps (λ s. list_current tag (insert_element_for tag s))
 unfolding insert_element
 listed-Standing tag s is =
-    let made = inserted-Made s.foster_parenting s.forest Html tag.name tag.attrs tag.had_duplicate_attributes
+    let made = inserted-Made s.opts.rules s.foster_parenting s.forest Html tag.name tag.attrs tag.had_duplicate_attributes
     s.open_elems is.tree tt is.opened in
     let standing = insert_element_for-Standing tag s is in
     record {

@@ -24,6 +24,7 @@ use Rattle.html_rules.specs.Places.{foster_place, inside, place_for, with_elemen
 use Rattle.html_rules.specs.Sets.{is_among, mathml_names_of, names_in, names_of, svg_names_of}
 use Rattle.html_rules.specs.Stack.{number_from, root_number}
 use Rattle.html_rules.specs.State.{Open, current_node, current_number, is_in}
+use Rattle.html_rules.specs.declared.rules.Rules.{Rules}
 use Rattle.html_rules.specs.declared.tag_set.TagSet.TheVariants as set
 use Rattle.html_rules_laws.specs.Soundness.{AreOpened, IsClear, IsOpened, IsOwn}
 use Rattle.html_rules_laws.proofs.TreePreserved.Standing.{Stays, stays-opened}
@@ -194,10 +195,10 @@ clear-new f g (x ∷ xs) h above =
     let there = element-IsNode f x.number (element_name_of x.namespace x.name) h.0.named in
     (λ up. not_above-new f x.number there (above (node_count f) x.number there up), clear-new f g xs h.1 above)
 
-pub made-Made : (f : Forest) (namespace : Namespace) (name : List ℕ) (attributes : List Attribute) (dup : Bool)
+pub made-Made : (rules : Rules) (f : Forest) (namespace : Namespace) (name : List ℕ) (attributes : List Attribute) (dup : Bool)
     (xs : List Open) → IsTree f → IsOwn namespace → AreOpened f xs
-    → Made f (with_element f namespace name attributes dup) xs (record { number = node_count f; namespace = namespace; name = name })
-made-Made f namespace name attributes dup xs tree own h =
+    → Made f (with_element f namespace name attributes dup) xs (record { number = node_count f; namespace = namespace; name = name; rules = rules })
+made-Made rules f namespace name attributes dup xs tree own h =
     let flags = flags_of namespace name attributes dup in
     let g : Forest = with_element f namespace name attributes dup in
     let about : NodeData = ElementNode (element_name_of namespace name) attributes flags.template
@@ -216,16 +217,16 @@ made-Made f namespace name attributes dup xs tree own h =
     }
 
 -- an element is made and put at a place that is one before and after it is made
-pub put-Made : (f : Forest) (namespace : Namespace) (name : List ℕ) (attributes : List Attribute) (dup : Bool)
+pub put-Made : (rules : Rules) (f : Forest) (namespace : Namespace) (name : List ℕ) (attributes : List Attribute) (dup : Bool)
     (xs : List Open) (place : Place) → IsTree f → IsOwn namespace → AreOpened f xs
     → IsPlace f place → IsPlace (with_element f namespace name attributes dup) place
     → Made f (put (with_element f namespace name attributes dup) place (node_count f)) xs
-    (record { number = node_count f; namespace = namespace; name = name })
-put-Made f namespace name attributes dup xs place tree own h before after =
+    (record { number = node_count f; namespace = namespace; name = name; rules = rules })
+put-Made rules f namespace name attributes dup xs place tree own h before after =
     let flags = flags_of namespace name attributes dup in
     let g : Forest = with_element f namespace name attributes dup in
     let is = IsMade-create_element f (element_name_of namespace name) attributes flags tree.forest in
-    let made = made-Made f namespace name attributes dup xs tree own h in
+    let made = made-Made rules f namespace name attributes dup xs tree own h in
     let loose = is.loose (parent_at place) (IsParent-place f place tree.forest before).there in
     let at = IsPutAt-put g place (node_count f) is.is after loose in
     let k : Forest = put g place (node_count f) in
@@ -250,16 +251,16 @@ put-Made f namespace name attributes dup xs place tree own h before after =
     }
 
 -- at the appropriate place
-pub inserted-Made : (foster : Bool) (f : Forest) (namespace : Namespace) (name : List ℕ)
+pub inserted-Made : (rules : Rules) (foster : Bool) (f : Forest) (namespace : Namespace) (name : List ℕ)
     (attributes : List Attribute) (dup : Bool) (xs : List Open) → IsTree f → IsOwn namespace → AreOpened f xs
     → Made f (put (with_element f namespace name attributes dup)
     (place_for foster (with_element f namespace name attributes dup) xs (current_node xs)) (node_count f)) xs
-    (record { number = node_count f; namespace = namespace; name = name })
-inserted-Made foster f namespace name attributes dup xs tree own h =
+    (record { number = node_count f; namespace = namespace; name = name; rules = rules })
+inserted-Made rules foster f namespace name attributes dup xs tree own h =
     let g : Forest = with_element f namespace name attributes dup in
     let is = IsMade-create_element f (element_name_of namespace name) attributes (flags_of namespace name attributes dup) tree.forest in
-    let made = made-Made f namespace name attributes dup xs tree own h in
+    let made = made-Made rules f namespace name attributes dup xs tree own h in
     let before : IsPlace f (place_for foster g xs (current_node xs)) = subst (λ place. IsPlace f place)
     (sym (place-same foster f g xs (current_node xs) is.parents)) (current-Place foster f xs tree h) in
-    put-Made f namespace name attributes dup xs (place_for foster g xs (current_node xs)) tree own h before
+    put-Made rules f namespace name attributes dup xs (place_for foster g xs (current_node xs)) tree own h before
     (current-Place foster g xs made.stays.tree (stays-opened f g xs made.stays h))

@@ -27,6 +27,7 @@ use Rattle.html_rules.specs.Stack.{pop_until_current, process_end_tag_in_body, r
 use Rattle.html_rules.specs.Stack.{root_number}
 use Rattle.html_rules.specs.State.{Open, Entry, Element, Marker, State, current_is, is_in, is_named}
 use Rattle.html_rules.specs.Tokens.{is_white}
+use Rattle.html_rules.specs.declared.rules.Rules.{Rules}
 use Rattle.html_rules.specs.declared.tag_set.TagSet.{TagSet}
 use Rattle.html_rules.specs.declared.tag_set.TagSet.TheVariants as set
 use Rattle.html_rules_laws.specs.Ready.{are_formatting}
@@ -202,29 +203,29 @@ pub put_element-eased : (namespace : Namespace) (name : List ℕ) (attributes : 
 unfolding put_element
 put_element-eased namespace name attributes dup own s is =
     fewer-eased s (put_element namespace name attributes dup s) is
-    (inserted-Made s.foster_parenting s.forest namespace name attributes dup s.open_elems is.tree own
+    (inserted-Made s.opts.rules s.foster_parenting s.forest namespace name attributes dup s.open_elems is.tree own
     is.opened).stays (part-same s.open_elems)
 
 -- no `html` has this name
 abbrev pub IsRootless : Namespace → List ℕ → Type 0
-IsRootless namespace name = (n : ℕ) → is_in set.Html (record { number = n; namespace = namespace; name = name }) ≡ false
+IsRootless namespace name = (n : ℕ) (rules : Rules) → is_in set.Html (record { number = n; namespace = namespace; name = name; rules = rules }) ≡ false
 
 pub insert_element-eased : (namespace : Namespace) (name : List ℕ) (attributes : List Attribute) (dup : Bool)
     → IsOwn namespace → IsRootless namespace name → EasesBy (insert_element namespace name attributes dup)
 unfolding insert_element
 insert_element-eased namespace name attributes dup own no_html s is =
     eased-made s (insert_element namespace name attributes dup s)
-    (record { number = node_count s.forest; namespace = namespace; name = name }) is.opened
-    (inserted-Made s.foster_parenting s.forest namespace name attributes dup s.open_elems is.tree own is.opened)
-    refl (no_html (node_count s.forest))
+    (record { number = node_count s.forest; namespace = namespace; name = name; rules = s.opts.rules }) is.opened
+    (inserted-Made s.opts.rules s.foster_parenting s.forest namespace name attributes dup s.open_elems is.tree own is.opened)
+    refl (no_html (node_count s.forest) s.opts.rules)
 
 pub open_element-eased : (namespace : Namespace) (name : List ℕ) (attributes : List Attribute) (dup : Bool)
     → IsOwn namespace → IsRootless namespace name → EasesBy (open_element namespace name attributes dup)
 unfolding open_element
 open_element-eased namespace name attributes dup own no_html s is =
     eased-made s (open_element namespace name attributes dup s)
-    (record { number = node_count s.forest; namespace = namespace; name = name }) is.opened
-    (made-Made s.forest namespace name attributes dup s.open_elems is.tree own is.opened) refl (no_html (node_count s.forest))
+    (record { number = node_count s.forest; namespace = namespace; name = name; rules = s.opts.rules }) is.opened
+    (made-Made s.opts.rules s.forest namespace name attributes dup s.open_elems is.tree own is.opened) refl (no_html (node_count s.forest) s.opts.rules)
 
 pub enter_foreign-eased : (namespace : Namespace) (tag : Tag) → IsOwn namespace → is_html namespace ≡ false
     → EasesBy (enter_foreign namespace tag)
@@ -233,7 +234,7 @@ enter_foreign-eased namespace tag own foreign s is =
     eased-either tag.self_closing s _ _
     (put_element-eased namespace tag.name (adjust_attributes namespace tag.attrs) tag.had_duplicate_attributes own s is)
     (insert_element-eased namespace tag.name (adjust_attributes namespace tag.attrs) tag.had_duplicate_attributes
-    own (λ n. (plain-foreign namespace tag.name foreign n).root) s is)
+    own (λ n rules. (plain-foreign namespace tag.name foreign n rules).root) s is)
 
 pub foreign_start_at-eased : (o : Option Open) (tag : Tag) → IfSome o (λ x. IsOwn x.namespace)
     → IfSome o (λ x. is_html x.namespace ≡ false) → EasesBy (foreign_start_at o tag)
@@ -246,13 +247,13 @@ foreign_start_at-eased (Some x) tag own foreign s is = enter_foreign-eased x.nam
 listed-eased : (tag : Tag) → is_among tag.name (names_of set.FormattingEnd) ≡ true
     → EasesBy (λ s. list_current tag (insert_element_for tag s))
 listed-eased tag h s is =
-    let made = insert_element-eased Html tag.name tag.attrs tag.had_duplicate_attributes tt (λ n. (plain-formatting tag h n).root) s is in
+    let made = insert_element-eased Html tag.name tag.attrs tag.had_duplicate_attributes tt (λ n rules. (plain-formatting tag h n rules).root) s is in
     record { names = made.names; rooted = made.rooted }
 
 pub formatting-eased : (tag : Tag) → is_among tag.name (names_of set.FormattingEnd) ≡ true → EasesBy (create_formatting_element_for tag)
 unfolding create_formatting_element_for insert_element
 formatting-eased tag h s is =
-    let made = insert_element-eased Html tag.name tag.attrs tag.had_duplicate_attributes tt (λ n. (plain-formatting tag h n).root) s is in
+    let made = insert_element-eased Html tag.name tag.attrs tag.had_duplicate_attributes tt (λ n rules. (plain-formatting tag h n rules).root) s is in
     record { names = made.names; rooted = made.rooted }
 
 reopen-eased : (entries : List Entry) → are_formatting entries ≡ true → (s : State) → AreListed s.forest entries

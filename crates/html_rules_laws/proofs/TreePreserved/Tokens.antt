@@ -14,7 +14,7 @@ use Rattle.html_rules.specs.Actions.{set_ignore_lf, set_mode, set_quirks_mode}
 use Rattle.html_rules.specs.Choice.{choose}
 use Rattle.html_rules.specs.Conditions.{is_nonempty}
 use Rattle.html_rules.specs.Doctypes.{doctype_error, quirks_of}
-use Rattle.html_rules.specs.Documents.{Setting, before_document, before_fragment, modes_of_context}
+use Rattle.html_rules.specs.Documents.{Setting, before_document, before_fragment, modes_of_context, form_of_context}
 use Rattle.html_rules.specs.Names.{Html, element_name_of}
 use Rattle.html_rules.specs.Places.{append_doctype_to_document}
 use Rattle.html_rules.specs.Reset.{reset_insertion_mode}
@@ -23,7 +23,7 @@ use Rattle.html_rules.specs.Rules.{is_self_closing, settle, settled_by, turn, wi
 use Rattle.html_rules.specs.Shape.{has_root, is_at_root, is_fit}
 use Rattle.html_rules.specs.Stack.{parse_error}
 use Rattle.html_rules.specs.State.{Open, State, hushed}
-use Rattle.html_rules.specs.Step.{followed_by, after_line_feed, doctype_taken, ended, first_doctype_taken, if_kept, is_barred}
+use Rattle.html_rules.specs.Step.{followed_by, after_line_feed, doctype_taken, ended, first_doctype_taken, if_kept, is_barred, doctype_settled, ends_table_text}
 use Rattle.html_rules.specs.Step.{is_idle, step, taken, taken_by, text_taken, untouched}
 use Rattle.html_rules.specs.declared.insertion_mode.InsertionMode.{InsertionMode}
 use Rattle.html_rules.specs.declared.insertion_mode.InsertionMode.TheVariants as mode
@@ -159,8 +159,8 @@ first-left d s h =
     let one = either-begun (doctype_error d) (parse_error s) s (erred-begun s h) h in
     let two = either-begun s.opts.drop_doctype told (append_doctype_to_document d told) one (put-begun d told one) in
     moved-left mode.BeforeHtml
-    (set_quirks_mode (quirks_of s.opts.iframe_srcdoc d) (if_kept s.opts.drop_doctype d told))
-    (quirks-begun (quirks_of s.opts.iframe_srcdoc d) (if_kept s.opts.drop_doctype d told) two)
+    (set_quirks_mode (quirks_of s.opts.rules s.opts.iframe_srcdoc d) (if_kept s.opts.drop_doctype d told))
+    (quirks-begun (quirks_of s.opts.rules s.opts.iframe_srcdoc d) (if_kept s.opts.drop_doctype d told) two)
 
 erred-left : (s : State) → IsLeft s → IsLeft (parse_error s)
 unfolding parse_error
@@ -172,10 +172,14 @@ doctype-left m d s e h = erred-left s h
 
 -- a token that is taken
 
+doctype_settled-left : (e : Bool) (d : Doctype) (s : State) → MayCome (DoctypeToken d) s → IsLeft (doctype_settled e d s).state
+doctype_settled-left true d s may = (settle-kept (DoctypeToken d) s may).left
+doctype_settled-left false d s may = doctype-left s.mode d s refl (come-kept (DoctypeToken d) s may).left
+
 taken_by-left : (t : Token) (b : Bool) (s : State) → MayCome t s → IsLeft (taken_by b t s).state
 taken_by-left (CharacterTokens text) b s may =
     (text-kept (after_line_feed b text) (untouched s) (come-kept (CharacterTokens text) s may)).left
-taken_by-left (DoctypeToken d) b s may = doctype-left s.mode d s refl (come-kept (DoctypeToken d) s may).left
+taken_by-left (DoctypeToken d) b s may = doctype_settled-left (ends_table_text s.opts.rules s.mode) d s may
 taken_by-left (TagToken tag) b s may = (settle-kept (TagToken tag) s may).left
 taken_by-left (CommentToken text) b s may = (settle-kept (CommentToken text) s may).left
 taken_by-left NullCharacterToken b s may = (settle-kept NullCharacterToken s may).left
@@ -336,7 +340,7 @@ unfolding reset_insertion_mode
 fragment-steady setting context form f tree top own =
     let s : State = record (before_document setting f) {
       context_elem = Some context;
-      form_elem = form;
+      form_elem = form_of_context setting.opts.rules context form;
       template_modes = modes_of_context context;
     } in
     let rooted = rooted-Upright [] s refl

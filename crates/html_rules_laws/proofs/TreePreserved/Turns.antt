@@ -2,6 +2,7 @@
 use Rattle.std.proofs.Common.{◌≡◌, ◌∙◌, ℕ, Bool, true, false, List, [], ◌∷◌, Option, Some, None, refl, sym, ap, subst, true≢false, codes}
 use Rattle.std.specs.Prelude.{◌||◌, ◌&&◌, not}
 use Rattle.std.proofs.lemmas.Bool.{and_parts}
+use Rattle.markup.specs.TreeLaws.{with_errors}
 use Rattle.html_tokens.specs.declared.tags.Tag.{Tag}
 use Rattle.html_tokens.specs.declared.tags.TagKind.{TagKind}
 use Rattle.html_tokens.specs.declared.tags.TagKind.TheVariants.{StartTag, EndTag}
@@ -10,11 +11,11 @@ use Rattle.html_tokens.specs.declared.token.Token.TheVariants.{DoctypeToken, Tag
 use Rattle.html_tokens.specs.declared.token.Token.TheVariants.{NullCharacterToken, EOFToken, ParseError as ErrorToken}
 use Rattle.html_rules.specs.Actions.{act, set_mode}
 use Rattle.html_rules.specs.Choice.{choose}
-use Rattle.html_rules.specs.ForeignContent.{ends_foreign, foreign_start, is_end_tag, is_foreign, is_html_element, is_start_tag, pop_foreign}
+use Rattle.html_rules.specs.ForeignContent.{ends_foreign, ends_foreign_in, foreign_start, is_end_tag, is_foreign, is_html_element, is_start_tag, pop_foreign}
 use Rattle.html_rules.specs.Modes.Foreign.{in_foreign_content}
 use Rattle.html_rules.specs.Places.{create_root}
 use Rattle.html_rules.specs.Rules.{Again, Turn, concluded, first_fit, most_modes, rows, turn, turn_by_row, using_rules_for}
-use Rattle.html_rules.specs.Sets.{is_among, mathml_names_of, names_of, svg_names_of}
+use Rattle.html_rules.specs.Sets.{by_rules, is_among, mathml_names_of, names_of, svg_names_of}
 use Rattle.html_rules.specs.Shape.{is_at_root}
 use Rattle.html_rules.specs.Stack.{left_from, parse_error, pop_until_current}
 use Rattle.html_rules.specs.State.{Open, State, adjusted_by, adjusted_current_node, current_number, is_in}
@@ -216,19 +217,20 @@ abbrev foreign_row : InsertionMode → Kind → Row → Bool
 foreign_row m kind r = foreign_ends m kind r.does r.ends
 
 -- the root stays
-root-stays : (xs : List Open) → is_at_root xs ≡ true → is_at_root (left_from ends_foreign xs) ≡ true
-root-stays [] h = h
-root-stays (x ∷ xs) h = by (is_html_element x) (html-root x h) where
+root-stays : (s : State) (xs : List Open) → is_at_root xs ≡ true → is_at_root (left_from (ends_foreign_in s) xs) ≡ true
+root-stays s [] h = h
+root-stays s (x ∷ xs) h = by (is_html_element x) (html-root x h) where
   by : (b : Bool) → b ≡ true
-      → is_at_root (choose (b || is_in set.MathmlTextIntegrationPoint x || is_in set.SvgHtmlIntegrationPoint x)
-      (λ _. x ∷ xs) (λ _. left_from ends_foreign xs)) ≡ true
+      → is_at_root (choose ((b || is_in set.MathmlTextIntegrationPoint x || is_in set.SvgHtmlIntegrationPoint x)
+      || (by_rules s.opts.rules false (is_in set.AnnotationXml x) && s.answers.integration_point (with_errors 0 s.forest) x.number))
+      (λ _. x ∷ xs) (λ _. left_from (ends_foreign_in s) xs)) ≡ true
   by true e = h
   by false e = no e
 
 pub popped-root : (a : Action) → is_pop a ≡ true → (t : Token) (s : State) → is_at_root s.open_elems ≡ true
     → is_at_root (act a t s).open_elems ≡ true
 unfolding pop_foreign pop_until_current parse_error
-popped-root (Then ParseError PopForeign) h t s root = root-stays s.open_elems root
+popped-root (Then ParseError PopForeign) h t s root = root-stays (parse_error s) s.open_elems root
 popped-root ParseError h t s root = root
 popped-root a h t s root = no h
 
