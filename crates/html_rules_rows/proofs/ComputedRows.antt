@@ -42,6 +42,7 @@ use Rattle.html_rules_rows.specs.RowsOfFramesets.{AreFramesetRowsRead}
 use Rattle.html_rules_rows.specs.RowsOfHeads.{AreHeadRowsRead}
 use Rattle.html_rules_rows.specs.RowsOfPages.{ArePageRowsRead}
 use Rattle.html_rules_rows.specs.RowsOfQuietPages.{AreQuietRowsRead}
+use Rattle.html_rules_rows.specs.RowsOfRules.{AreRuledRowsRead}
 use Rattle.html_rules_rows.specs.RowsOfSettings.{AreSettingRowsRead, AreQuirksRowsRead}
 use Rattle.html_rules_rows.specs.RowsOfTables.{AreTableRowsRead}
 use Rattle.html_rules_rows.specs.RowsOfTemplates.{AreTemplateRowsRead}
@@ -64,6 +65,7 @@ pub rows_are_read :
     × AreEncodingRowsRead
     × AreTokenRowsRead
     × AreQuietRowsRead
+    × AreRuledRowsRead
 unfolding reading_from value_from clean_from html_namespace set_mode save_mode restore_mode push_template_mode
     pop_template_mode set_template_mode set_quirks_mode frameset_not_ok frameset_not_ok_unless_white set_ignore_lf
     set_foster_parenting set_head_elem push_head_elem remove_head_elem set_form_elem forget_form_elem
@@ -102,4 +104,5 @@ rows_are_read = (
     ((refl, refl), (refl, refl), (refl, refl), (refl, refl), (refl, refl)),
   ),
   refl,
+  (refl, refl, refl, refl, refl, refl),
 )

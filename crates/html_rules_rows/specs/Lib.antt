@@ -15,3 +15,4 @@ pub mod RowsOfTables
 pub mod RowsOfTemplates
 pub mod RowsOfTokens
 pub mod Trace
+pub mod RowsOfRules

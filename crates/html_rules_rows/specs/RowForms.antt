@@ -9,6 +9,7 @@ use Rattle.html_tokens.specs.Sink.{Refusal}
 use Rattle.html_tokens.specs.declared.options.TokenizerOpts.{TokenizerOpts}
 use Rattle.html_rules.specs.Documents.{Setting, document}
 use Rattle.html_rules.specs.State.{State}
+use Rattle.html_rules.specs.declared.rules.Rules.TheVariants.{Html5ever}
 
 -- the nodes of a forest as they are written
 abbrev pub written_nodes : Forest → List ℕ → List ℕ
@@ -24,7 +25,7 @@ default_options = record { exact_errors = false; discard_bom = true; initial_sta
 -- every option as it is by default; the sink keeps where HTML may stand in `annotation-xml`, and has no shadow trees
 abbrev pub default_setting : Setting
 default_setting = record {
-  opts = record { scripting_enabled = true; iframe_srcdoc = false; drop_doctype = false };
+  opts = record { scripting_enabled = true; iframe_srcdoc = false; drop_doctype = false; rules = Html5ever };
   quirks_mode = NoQuirks;
   answers = record {
     integration_point = λ f n. integration_point_of (data_of f n);

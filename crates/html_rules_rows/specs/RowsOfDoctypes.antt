@@ -5,6 +5,7 @@ use Rattle.html_tokens.specs.declared.token.Doctype.{Doctype}
 use Rattle.markup.specs.declared.quirks.QuirksMode.{QuirksMode}
 use Rattle.markup.specs.declared.quirks.QuirksMode.TheVariants.{Quirks, LimitedQuirks, NoQuirks}
 use Rattle.html_rules.specs.Doctypes.{doctype_error, quirks_of}
+use Rattle.html_rules.specs.declared.rules.Rules.TheVariants.{Html5ever}
 
 -- a doctype, whether it is an error, and the mode that it sets
 pub record DoctypeRow : Type 0 where
@@ -61,4 +62,4 @@ doctype_rows =
 abbrev pub AreDoctypeRowsRead : Type 0
 AreDoctypeRowsRead =
     (map (λ r. doctype_error r.doctype) doctype_rows ≡ map (λ r. r.error) doctype_rows)
-    × (map (λ r. quirks_of false r.doctype) doctype_rows ≡ map (λ r. r.quirks) doctype_rows)
+    × (map (λ r. quirks_of Html5ever false r.doctype) doctype_rows ≡ map (λ r. r.quirks) doctype_rows)

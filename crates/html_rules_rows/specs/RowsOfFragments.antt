@@ -4,7 +4,7 @@ use Rattle.std.specs.Prelude.{◌≡◌, ℕ, true, false, List, [], ◌∷◌, 
 use Rattle.markup.specs.Forest.{Forest, children_of, empty_forest, node_count}
 use Rattle.html_tokens.specs.RowForms.{five}
 use Rattle.html_tokens.specs.Sink.{Refusal}
-use Rattle.html_rules.specs.Documents.{fragment}
+use Rattle.html_rules.specs.Documents.{Setting, fragment}
 use Rattle.html_rules.specs.Names.{Namespace, Html, MathMl, Svg, Other}
 use Rattle.html_rules.specs.Places.{with_element}
 use Rattle.html_rules.specs.State.{State}
@@ -17,7 +17,7 @@ pub record FragmentRow : Type 0 where
   pub input : List ℕ
   pub output : List ℕ
 
-abbrev in_html : String → String → String → FragmentRow
+abbrev pub in_html : String → String → String → FragmentRow
 in_html context input output = record { namespace = Html; context = codes context; input = codes input; output = codes output }
 
 abbrev in_other : Namespace → String → String → String → FragmentRow
@@ -37,11 +37,14 @@ abbrev inner_by : ℕ → Result State Refusal → List ℕ
 inner_by root (Ok s) = written_nodes s.forest (children_of s.forest root)
 inner_by root (Err refusal) = codes "refused"
 
-abbrev read_fragment : FragmentRow → List ℕ
-read_fragment r =
+abbrev pub read_fragment_by : Setting → FragmentRow → List ℕ
+read_fragment_by setting r =
     let f = with_context r in
-    inner_by (node_count f) (fragment five default_options default_setting
-    (record { number = 1; namespace = r.namespace; name = r.context }) None true f r.input)
+    inner_by (node_count f) (fragment five default_options setting
+    (record { number = 1; namespace = r.namespace; name = r.context; rules = setting.opts.rules }) None true f r.input)
+
+abbrev read_fragment : FragmentRow → List ℕ
+read_fragment r = read_fragment_by default_setting r
 
 abbrev pub fragment_rows : List FragmentRow
 fragment_rows =

@@ -18,6 +18,7 @@ use Rattle.html_rules.specs.Step.{ended, step, taken}
 use Rattle.html_rules.specs.declared.insertion_mode.InsertionMode.{InsertionMode}
 use Rattle.html_rules.specs.declared.insertion_mode.InsertionMode.TheVariants.{InBody, InHead, AfterHead, InRow, InCell}
 use Rattle.html_rules.specs.declared.insertion_mode.InsertionMode.TheVariants.{InTable, InTemplate, Text as TextMode}
+use Rattle.html_rules.specs.declared.rules.Rules.TheVariants.{Html5ever}
 use Rattle.html_rules_rows.specs.RowForms.{default_setting}
 
 abbrev fresh : State
@@ -64,7 +65,7 @@ refuses s = answers s (text "" ∷ text "a" ∷ start "p" [] ∷ comment "c" ∷
     Err Unfit ∷ Err Unfit ∷ Err Unfit ∷ []
 
 -- html, and in it elements of these names, opened one after the other
-abbrev opened : List (List ℕ) → State → State
+abbrev pub opened : List (List ℕ) → State → State
 opened [] s = s
 opened (name ∷ names) s = opened names (insert_phantom name s)
 
@@ -91,7 +92,7 @@ names_of s = map (λ x. x.name) s.open_elems
 abbrev pub AreUnmetArmsMeant : Type 0
 AreUnmetArmsMeant =
     ((process_end_tag_in_body (codes "b")
-    (record fresh { open_elems = record { number = 0; namespace = Html; name = codes "x" } ∷ [] })).forest.errors ≡ 1)
+    (record fresh { open_elems = record { number = 0; namespace = Html; name = codes "x"; rules = Html5ever } ∷ [] })).forest.errors ≡ 1)
     × (foster_place (open_element Html (codes "table") [] false (standing InTable (codes "div" ∷ []))).forest 1
     (open_element Html (codes "table") [] false (standing InTable (codes "div" ∷ []))).open_elems ≡ Last 2)
     × (names_of (settle (end "tbody" []) (standing InRow (codes "table" ∷ codes "tbody" ∷ []))).state ≡

@@ -14,6 +14,7 @@ ghost use Rattle.html_rules_rows.specs.RowsOfDoctypes.{AreDoctypeRowsRead};
 ghost use Rattle.html_rules_rows.specs.RowsOfEncodings.{AreEncodingRowsRead};
 ghost use Rattle.html_rules_rows.specs.RowsOfTokens.{AreTokenRowsRead};
 ghost use Rattle.html_rules_rows.specs.RowsOfQuietPages.{AreQuietRowsRead};
+ghost use Rattle.html_rules_rows.specs.RowsOfRules.{AreRuledRowsRead};
 
 /// Whole pages, read as the rows say.
 pub fn page_rows()
@@ -93,4 +94,9 @@ pub fn token_rows()
 /// Pages that are read quietly, and others, read as the rows say.
 pub fn quiet_rows()
     ensures { AreQuietRowsRead }
+{}
+
+/// Texts that html5ever's rules and the Standard's read otherwise, read as the rows say.
+pub fn ruled_rows()
+    ensures { AreRuledRowsRead }
 {}
