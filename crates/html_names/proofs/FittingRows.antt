@@ -145,6 +145,11 @@ html-fits set.Textarea = refl
 html-fits set.Title = refl
 html-fits set.Tr = refl
 html-fits set.Xmp = refl
+html-fits set.StandardDefaultScope = refl
+html-fits set.StandardListItemScope = refl
+html-fits set.StandardButtonScope = refl
+html-fits set.StandardSpecialTag = refl
+html-fits set.StandardBodyEnd = refl
 
 mathml-fits : (s : TagSet) → rows_fit (number_of s) (mathml_names_of s) names (map mathml_row (range_with_len 0 626)) ≡ true
 unfolding number_of mathml_names_of names is_same rows_fit
@@ -245,6 +250,11 @@ mathml-fits set.Textarea = refl
 mathml-fits set.Title = refl
 mathml-fits set.Tr = refl
 mathml-fits set.Xmp = refl
+mathml-fits set.StandardDefaultScope = refl
+mathml-fits set.StandardListItemScope = refl
+mathml-fits set.StandardButtonScope = refl
+mathml-fits set.StandardSpecialTag = refl
+mathml-fits set.StandardBodyEnd = refl
 
 svg-fits : (s : TagSet) → rows_fit (number_of s) (svg_names_of s) names (map svg_row (range_with_len 0 626)) ≡ true
 unfolding number_of svg_names_of names is_same rows_fit
@@ -345,6 +355,11 @@ svg-fits set.Textarea = refl
 svg-fits set.Title = refl
 svg-fits set.Tr = refl
 svg-fits set.Xmp = refl
+svg-fits set.StandardDefaultScope = refl
+svg-fits set.StandardListItemScope = refl
+svg-fits set.StandardButtonScope = refl
+svg-fits set.StandardSpecialTag = refl
+svg-fits set.StandardBodyEnd = refl
 
 pub html-row : (k : ℕ) → k < length names → (s : TagSet) → has_set (html_row k) s ≡ is_among (get_or names k []) (names_of s)
 unfolding html_row

@@ -8,6 +8,7 @@ use Rattle.markup.specs.KnownNames.{IsNameAt, names}
 use Rattle.markup.specs.declared.known_names.KnownName.{KnownName}
 use Rattle.html_rules.specs.Names.{Namespace, namespace_of}
 use Rattle.html_rules.specs.State.{named_in}
+use Rattle.html_rules.specs.declared.rules.Rules.{Rules}
 use Rattle.html_names.specs.Classes.{IsClassOf, IsKnownAs, kind_of}
 use Rattle.html_names.specs.ElementNames.{FitsForm, Holds, IsRareForm, named_by, space_of}
 use Rattle.html_names.specs.declared.element_class.ElementClass.{ElementClass}
@@ -33,16 +34,16 @@ rare-fits MathMl known (Rare rare) uri name is which form = tt
 rare-fits Svg known (Rare rare) uri name is which form = tt
 rare-fits Other known (Rare rare) uri name is which form = tt
 
-rare-same : (kind : ElementNamespace) (form : NameForm) (uri name : List ℕ) → IsRareForm form uri name
-    → named_by kind form ≡ record { namespace = namespace_of uri; name = name }
-rare-same kind (Known k) uri name form = absurd form
-rare-same kind (Rare rare) uri name form = rw (form.0, form.1) refl
+rare-same : (rules : Rules) (kind : ElementNamespace) (form : NameForm) (uri name : List ℕ) → IsRareForm form uri name
+    → named_by rules kind form ≡ record { namespace = namespace_of uri; name = name; rules = rules }
+rare-same rules kind (Known k) uri name form = absurd form
+rare-same rules kind (Rare rare) uri name form = rw (form.0, form.1) refl
 
-pub rare-holds : (class : ElementClass) (form : NameForm) (uri name : List ℕ)
+pub rare-holds : (rules : Rules) (class : ElementClass) (form : NameForm) (uri name : List ℕ)
     → IsClassOf (namespace_of uri) name class → (class.namespace ≡ Other) ⊎ (class.known ≡ None)
-    → IsRareForm form uri name → Holds class.namespace form (namespace_of uri) name
-rare-holds class form uri name is which held = record {
-  same = rare-same class.namespace form uri name held;
+    → IsRareForm form uri name → Holds rules class.namespace form (namespace_of uri) name
+rare-holds rules class form uri name is which held = record {
+  same = rare-same rules class.namespace form uri name held;
   fits = rare-fits class.namespace class.known form uri name is.known which held;
 }
 
@@ -53,9 +54,9 @@ space-back Namespace.Svg kind e h = ap space_of (sym e)
 space-back (Namespace.Other uri) kind e h = absurd (h (sym e))
 
 -- a known name of HTML, MathML or SVG
-pub known-holds : (class : ElementClass) (known : KnownName) (space : Namespace) (name : List ℕ)
-    → IsClassOf space name class → class.known ≡ Some known → (class.namespace ≡ Other → ⊥) → Holds class.namespace (Known known) space name
-known-holds class known space name is some own =
+pub known-holds : (rules : Rules) (class : ElementClass) (known : KnownName) (space : Namespace) (name : List ℕ)
+    → IsClassOf space name class → class.known ≡ Some known → (class.namespace ≡ Other → ⊥) → Holds rules class.namespace (Known known) space name
+known-holds rules class known space name is some own =
     let at : IsNameAt known.place name = subst (λ (k : Option KnownName). IsKnownAs k name) some is.known in
     record {
       same = rw (space-back space class.namespace is.kind own, at.there) refl;

@@ -1,6 +1,9 @@
 pub mod SetNumbers
 pub mod FittingRows
 pub mod UnknownNames
+mod SmallNumbers
+pub mod BitsOfSets
+pub mod StandardBits
 mod KindsOfSpaces
 pub mod RowsOfSets
 pub mod AnyCase

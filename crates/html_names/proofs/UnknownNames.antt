@@ -110,6 +110,11 @@ html-known set.Textarea = refl
 html-known set.Title = refl
 html-known set.Tr = refl
 html-known set.Xmp = refl
+html-known set.StandardDefaultScope = refl
+html-known set.StandardListItemScope = refl
+html-known set.StandardButtonScope = refl
+html-known set.StandardSpecialTag = refl
+html-known set.StandardBodyEnd = refl
 
 mathml-known : (s : TagSet) → list_all (λ member. list_any (bytes_eq member) names) (mathml_names_of s) ≡ true
 unfolding mathml_names_of names
@@ -210,6 +215,11 @@ mathml-known set.Textarea = refl
 mathml-known set.Title = refl
 mathml-known set.Tr = refl
 mathml-known set.Xmp = refl
+mathml-known set.StandardDefaultScope = refl
+mathml-known set.StandardListItemScope = refl
+mathml-known set.StandardButtonScope = refl
+mathml-known set.StandardSpecialTag = refl
+mathml-known set.StandardBodyEnd = refl
 
 svg-known : (s : TagSet) → list_all (λ member. list_any (bytes_eq member) names) (svg_names_of s) ≡ true
 unfolding svg_names_of names
@@ -310,6 +320,11 @@ svg-known set.Textarea = refl
 svg-known set.Title = refl
 svg-known set.Tr = refl
 svg-known set.Xmp = refl
+svg-known set.StandardDefaultScope = refl
+svg-known set.StandardListItemScope = refl
+svg-known set.StandardButtonScope = refl
+svg-known set.StandardSpecialTag = refl
+svg-known set.StandardBodyEnd = refl
 
 known : (space : Namespace) (s : TagSet) → list_all (λ member. list_any (bytes_eq member) names) (names_in space s) ≡ true
 known Html s = html-known s

@@ -5,7 +5,8 @@ use Rattle.std.specs.Str.{bytes_eq}
 use Rattle.markup.specs.KnownNames.{IsNameAt, names}
 use Rattle.markup.specs.declared.known_names.KnownName.{KnownName}
 use Rattle.html_rules.specs.Names.{Namespace}
-use Rattle.html_rules.specs.Sets.{is_among, names_in}
+use Rattle.html_rules.specs.Sets.{is_among, names_in, set_by}
+use Rattle.html_rules.specs.declared.rules.Rules.{Rules}
 use Rattle.html_rules.specs.declared.tag_set.TagSet.{TagSet}
 use Rattle.html_names.specs.SetBits.{has_set}
 use Rattle.html_names.specs.declared.element_class.ElementClass.{ElementClass}
@@ -22,6 +23,10 @@ kind_of (Namespace.Other uri) = Other
 -- bits say of each set whether an element is in it
 pub record IsRowOf (namespace : Namespace) (name : List ℕ) (sets : ℕ) : Type 0 where
   pub each : (set : TagSet) → has_set sets set ≡ is_among name (names_in namespace set)
+
+-- the same of an open element, of the sets that the rules ask for
+pub record IsRowBy (rules : Rules) (namespace : Namespace) (name : List ℕ) (sets : ℕ) : Type 0 where
+  pub each : (set : TagSet) → has_set sets set ≡ is_among name (names_in namespace (set_by rules set))
 
 -- what is known of a text as a name
 abbrev pub IsKnownAs : Option KnownName → List ℕ → Type 0

@@ -4,7 +4,8 @@ use Rattle.std.specs.List.{list_any}
 use Rattle.std.specs.Str.{bytes_eq}
 use Rattle.markup.specs.KnownNames.{names}
 use Rattle.html_rules.specs.Names.{Namespace, namespace_of}
-use Rattle.html_names.specs.Classes.{IsRowOf, kind_of}
+use Rattle.html_rules.specs.declared.rules.Rules.{Rules}
+use Rattle.html_names.specs.Classes.{IsRowBy, kind_of}
 use Rattle.html_names.specs.declared.element_class.ElementNamespace.{ElementNamespace}
 use Rattle.html_names.specs.declared.element_class.ElementNamespace.TheVariants.{Html, MathMl, Svg, Other}
 use Rattle.html_names.specs.declared.element_name.NameForm.{NameForm}
@@ -13,6 +14,7 @@ use Rattle.html_names.specs.declared.element_name.NameForm.TheVariants.{Known, R
 pub record Named : Type 0 where
   pub namespace : Namespace
   pub name : List ℕ
+  pub rules : Rules
 
 -- the namespace of a kind that is no other
 abbrev pub space_of : ElementNamespace → Namespace
@@ -22,9 +24,16 @@ space_of Svg = Namespace.Svg
 space_of Other = Namespace.Other []
 
 -- what a name is held as
-abbrev pub named_by : ElementNamespace → NameForm → Named
-named_by kind (Known known) = record { namespace = space_of kind; name = slice_index_or names known.place [] }
-named_by kind (Rare rare) = record { namespace = namespace_of rare.value.namespace; name = rare.value.name }
+abbrev pub space_by : ElementNamespace → NameForm → Namespace
+space_by kind (Known known) = space_of kind
+space_by kind (Rare rare) = namespace_of rare.value.namespace
+
+abbrev pub name_by : NameForm → List ℕ
+name_by (Known known) = slice_index_or names known.place []
+name_by (Rare rare) = rare.value.name
+
+abbrev pub named_by : Rules → ElementNamespace → NameForm → Named
+named_by rules kind form = record { namespace = space_by kind form; name = name_by form; rules = rules }
 
 -- a known name is in the table, and of a namespace that is known; another name of HTML is not known
 abbrev pub FitsForm : ElementNamespace → NameForm → Type 0
@@ -33,9 +42,9 @@ FitsForm Html (Rare rare) = list_any (bytes_eq rare.value.name) names ≡ false
 FitsForm kind (Rare rare) = ⊤
 
 -- what is held fits the name
-pub record IsFormed (kind : ElementNamespace) (sets : ℕ) (form : NameForm) : Type 0 where
-  pub same : kind_of (named_by kind form).namespace ≡ kind
-  pub row : IsRowOf (named_by kind form).namespace (named_by kind form).name sets
+pub record IsFormed (rules : Rules) (kind : ElementNamespace) (sets : ℕ) (form : NameForm) : Type 0 where
+  pub same : kind_of (named_by rules kind form).namespace ≡ kind
+  pub row : IsRowBy rules (named_by rules kind form).namespace (named_by rules kind form).name sets
   pub fits : FitsForm kind form
 
 -- a name is held with its namespace
@@ -44,6 +53,6 @@ IsRareForm (Known known) uri name = ⊥
 IsRareForm (Rare rare) uri name = (rare.value.namespace ≡ uri) × (rare.value.name ≡ name)
 
 -- what is held is a name of a class
-pub record Holds (kind : ElementNamespace) (form : NameForm) (space : Namespace) (name : List ℕ) : Type 0 where
-  pub same : named_by kind form ≡ record { namespace = space; name = name }
+pub record Holds (rules : Rules) (kind : ElementNamespace) (form : NameForm) (space : Namespace) (name : List ℕ) : Type 0 where
+  pub same : named_by rules kind form ≡ record { namespace = space; name = name; rules = rules }
   pub fits : FitsForm kind form

@@ -103,6 +103,11 @@ number_of set.Textarea = 93
 number_of set.Title = 94
 number_of set.Tr = 95
 number_of set.Xmp = 96
+number_of set.StandardDefaultScope = 97
+number_of set.StandardListItemScope = 98
+number_of set.StandardButtonScope = 99
+number_of set.StandardSpecialTag = 100
+number_of set.StandardBodyEnd = 101
 
 -- whether the bits have that of a set
 abbrev pub has_set : ℕ → TagSet → Bool

@@ -5,9 +5,10 @@ ghost use Rattle.std.specs.Str.{chars};
 ghost use Rattle.markup.specs.Plain.{is_plain};
 ghost use Rattle.html_tokens.specs.Characters.{begins_any_case};
 ghost use Rattle.html_rules.specs.Doctypes.{begins_with_one, doctype_error, is_allowed, is_given, is_quirky, lowered};
-ghost use Rattle.html_rules.specs.Doctypes.{quirks_of, quirks_of_identifiers, quirky_public_prefixes};
+ghost use Rattle.html_rules.specs.Doctypes.{is_quirky_by, quirks_of, quirks_of_identifiers, quirky_public_prefixes};
 
 use crate::any_case;
+use html_rules::Rules;
 use html_tokens::Doctype;
 use markup::{QuirksMode, Text};
 
@@ -68,6 +69,9 @@ const QUIRKY_PUBLIC_PREFIXES: [&str; 54] = [
     "-//webtechs//dtd mozilla html//",
     "-//webtechs//dtd mozilla html 2.0//",
 ];
+
+/// What only the Standard lists.
+const STANDARD_PREFIXES: [&str; 1] = ["+//silmaril//dtd html pro v0r11 19970101//"];
 
 const XHTML_PREFIXES: [&str; 2] = [
     "-//w3c//dtd xhtml 1.0 frameset//",
@@ -222,11 +226,25 @@ fn is_quirky(public_id: &Option<Text>, system_id: &Option<Text>) -> bool
     are_quirky(public_id, system_id) || begins_quirky(public_id)
 }
 
-/// The mode by the identifiers.
-fn quirks_of_identifiers(public_id: &Option<Text>, system_id: &Option<Text>) -> QuirksMode
-    ensures { result ≡ quirks_of_identifiers (lowered public_id.now) (lowered system_id.now) }
+/// Whether only the Standard's rules set quirks mode by a public identifier.
+fn is_quirky_by(rules: Rules, public_id: &Option<Text>) -> bool
+    ensures { result ≡ is_quirky_by rules (lowered public_id.now) }
 {
-    if is_quirky(public_id, system_id) {
+    match rules {
+        Rules::Html5ever => false,
+        Rules::Standard => begins_with_one(public_id, &STANDARD_PREFIXES),
+    }
+}
+
+/// The mode by the identifiers.
+fn quirks_of_identifiers(
+    rules: Rules,
+    public_id: &Option<Text>,
+    system_id: &Option<Text>,
+) -> QuirksMode
+    ensures { result ≡ quirks_of_identifiers rules (lowered public_id.now) (lowered system_id.now) }
+{
+    if is_quirky(public_id, system_id) || is_quirky_by(rules, public_id) {
         QuirksMode::Quirks
     } else if begins_with_one(public_id, &XHTML_PREFIXES) {
         QuirksMode::LimitedQuirks
@@ -242,23 +260,27 @@ fn quirks_of_identifiers(public_id: &Option<Text>, system_id: &Option<Text>) -> 
 
 /// The mode that a doctype sets, in the document of an `iframe` with `srcdoc` or in another.
 #[tactic(auto, unfolding(html_rules::specs::Doctypes::quirks_of))]
-fn quirks_of(doctype: &Doctype, iframe_srcdoc: bool) -> QuirksMode
-    ensures { result ≡ quirks_of iframe_srcdoc doctype.now }
+fn quirks_of(rules: Rules, doctype: &Doctype, iframe_srcdoc: bool) -> QuirksMode
+    ensures { result ≡ quirks_of rules iframe_srcdoc doctype.now }
 {
     if doctype.force_quirks || !is_given(&doctype.name, "html") {
         QuirksMode::Quirks
     } else if iframe_srcdoc {
         QuirksMode::NoQuirks
     } else {
-        quirks_of_identifiers(&doctype.public_id, &doctype.system_id)
+        quirks_of_identifiers(rules, &doctype.public_id, &doctype.system_id)
     }
 }
 
 /// Whether a doctype is a parse error, and the quirks mode that it sets; the document of an `iframe` with `srcdoc` is in no quirks mode by
 /// its identifiers. It takes no memory: identifiers are compared in any case as they are.
-pub fn doctype_error_and_quirks(doctype: &Doctype, iframe_srcdoc: bool) -> (bool, QuirksMode)
+pub fn doctype_error_and_quirks(
+    rules: Rules,
+    doctype: &Doctype,
+    iframe_srcdoc: bool,
+) -> (bool, QuirksMode)
     ensures error { result.0 ≡ doctype_error doctype.now }
-    ensures quirks { result.1 ≡ quirks_of iframe_srcdoc doctype.now }
+    ensures quirks { result.1 ≡ quirks_of rules iframe_srcdoc doctype.now }
 {
-    (is_error(doctype), quirks_of(doctype, iframe_srcdoc))
+    (is_error(doctype), quirks_of(rules, doctype, iframe_srcdoc))
 }

@@ -8,14 +8,17 @@ ghost use Rattle.markup.specs.Namespaces.{name_of};
 ghost use Rattle.markup.specs.KnownNames.{IsNameAt, names};
 ghost use Rattle.html_rules.specs.Names.{Html, is_html, namespace_of};
 ghost use Rattle.html_names.specs.declared.element_class.ElementNamespace.TheVariants as kind;
-ghost use Rattle.html_rules.specs.Sets.{is_among, names_in};
+ghost use Rattle.html_rules.specs.declared.rules.Rules.{Rules};
+ghost use Rattle.html_rules.specs.declared.rules.Rules.TheVariants as rules;
+ghost use Rattle.html_rules.specs.Sets.{is_among, names_in, set_by};
 ghost use Rattle.html_rules.specs.State.{named_in};
-ghost use Rattle.html_names.specs.Classes.{IsClassOf, IsRowOf, kind_of};
+ghost use Rattle.html_names.specs.Classes.{IsClassOf, IsRowBy, kind_of};
 ghost use Rattle.html_names.specs.ElementNames.{FitsForm, Holds, IsRareForm, named_by, space_of};
 
 use crate::any_case::are_same_any_case;
 use crate::element_class::{ElementClass, ElementNamespace};
-use html_rules::TagSet;
+use crate::rule_sets::sets_by;
+use html_rules::{Rules, TagSet};
 use markup::{KnownName, KnownNamespace, LocalName, Namespace, ParseFault};
 use std::alloc::Global;
 use std::marker::Model;
@@ -37,6 +40,7 @@ pub(crate) enum NameForm {
 /// The namespace and the name of an element, with what is known of them. A contract sees the two.
 #[derive(Debug, Drop)]
 pub struct ElementName {
+    rules: Rules,
     namespace: ElementNamespace,
     sets: u128,
     form: NameForm,
@@ -47,9 +51,9 @@ impl Model for ElementName {
 
     ghost Value = { Named };
 
-    ghost view = { λ e. named_by e.namespace e.form };
+    ghost view = { λ e. named_by e.rules e.namespace e.form };
 
-    ghost invariant = { λ e. IsFormed e.namespace e.sets e.form };
+    ghost invariant = { λ e. IsFormed e.rules e.namespace e.sets e.form };
 }
 
 /// The namespace of a kind; none, where it is none of the three.
@@ -85,7 +89,7 @@ fn form_of(
     name: &LocalName,
 ) -> Result<NameForm, ParseFault>
     requires { IsClassOf (namespace_of namespace.now) name.now class }
-    ensures ok { IfOk result (λ form. Holds class.namespace form (namespace_of namespace.now) name.now) }
+    ensures ok { IfOk result (λ form. (rules : Rules) → Holds rules class.namespace form (namespace_of namespace.now) name.now) }
     ensures fault { IfErr result (λ fault. fault ≡ Memory) }
 {
     match (class.namespace, class.known) {
@@ -99,7 +103,7 @@ fn form_of(
 fn is_same(form: &NameForm, class: ElementClass, name: &LocalName) -> bool
     requires of { IsClassOf Html name.now class }
     requires fits { FitsForm kind.Html form.now }
-    ensures { result ≡ bytes_eq (named_by kind.Html form.now).name name.now }
+    ensures { result ≡ bytes_eq (named_by rules.Html5ever kind.Html form.now).name name.now }
 {
     match (form, class.known) {
         (NameForm::Known(own), Some(other)) => own.place == other.place,
@@ -115,47 +119,57 @@ impl ElementName {
     /// The name of an element of any namespace. A known name of HTML, MathML or SVG takes no memory.
     pub fn new(
         alloc: Global,
+        rules: Rules,
         namespace: &Namespace,
         name: &LocalName,
     ) -> Result<ElementName, ParseFault>
-        ensures ok { IfOk result (λ made. made ≡ record { namespace = namespace_of namespace.now; name = name.now }) }
+        ensures ok { IfOk result (λ made. made ≡ record { namespace = namespace_of namespace.now; name = name.now; rules = rules }) }
         ensures fault { IfErr result (λ fault. fault ≡ Memory) }
     {
         let class = ElementClass::named(namespace, name);
-        ElementName::with_class(alloc, class, namespace, name)
+        ElementName::with_class(alloc, rules, class, namespace, name)
     }
 
     /// The same for a name that comes with its class, so that it is not looked up.
     pub fn with_class(
         alloc: Global,
+        rules: Rules,
         class: ElementClass,
         namespace: &Namespace,
         name: &LocalName,
     ) -> Result<ElementName, ParseFault>
         requires { IsClassOf (namespace_of namespace.now) name.now class }
-        ensures ok { IfOk result (λ made. made ≡ record { namespace = namespace_of namespace.now; name = name.now }) }
+        ensures ok { IfOk result (λ made. made ≡ record { namespace = namespace_of namespace.now; name = name.now; rules = rules }) }
         ensures fault { IfErr result (λ fault. fault ≡ Memory) }
     {
         let form = form_of(alloc, class, namespace, name)?;
         Ok(ElementName {
+            rules,
             namespace: class.namespace,
-            sets: class.sets,
+            sets: sets_by(rules, class.sets),
             form,
         })
     }
 
     /// Whether the element is in a set of names.
     pub fn is_in(&self, set: TagSet) -> bool
-        ensures { result ≡ is_among self.now.name (names_in self.now.namespace set) }
+        ensures { result ≡ is_among self.now.name (names_in self.now.namespace (set_by self.now.rules set)) }
     {
         self.sets >> (set as u32) & 1 == 1
     }
 
     /// A bit for each set of names, as in [`ElementClass`].
     pub fn sets(&self) -> u128
-        ensures { IsRowOf self.now.namespace self.now.name result }
+        ensures { IsRowBy self.now.rules self.now.namespace self.now.name result }
     {
         self.sets
+    }
+
+    /// The rules by whose sets it is asked.
+    pub fn rules(&self) -> Rules
+        ensures { result ≡ self.now.rules }
+    {
+        self.rules
     }
 
     /// The kind of the namespace.

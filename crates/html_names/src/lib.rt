@@ -10,6 +10,7 @@ pub mod element_class;
 pub mod element_name;
 mod encodings;
 mod renames;
+mod rule_sets;
 mod set_rows;
 
 pub use any_case::equals_any_case;
