@@ -49,6 +49,7 @@ condition_of (condition.Not' r a) = rules.Not (condition_of a)
 condition_of (condition.Both' r a q b) = rules.Both (condition_of a) (condition_of b)
 condition_of condition.ScriptingEnabled = rules.ScriptingEnabled
 condition_of condition.IframeSrcdoc = rules.IframeSrcdoc
+condition_of condition.ByStandard = rules.ByStandard
 condition_of condition.InFragment = rules.InFragment
 condition_of (condition.ContextIs a) = rules.ContextIs a
 condition_of condition.InQuirksMode = rules.InQuirksMode

@@ -104,6 +104,8 @@ pub enum Condition {
     ScriptingEnabled,
     /// The document is that of an `iframe` with `srcdoc`.
     IframeSrcdoc,
+    /// The Standard's rules hold, not html5ever's.
+    ByStandard,
     /// A fragment is parsed.
     InFragment,
     /// A fragment is parsed whose context is such an element.

@@ -17,9 +17,9 @@ use crate::table::Class::{
 };
 use crate::table::Conclusion::{Acknowledged, Done, PlainText, RawText, Reprocess, Using};
 use crate::table::Condition::{
-    AListed, Both, ContextIs, CurrentIs, CurrentIsToken, FormElemInScope, FormElemIsCurrent,
-    FramesetOk, HasFormElem, HasTemplateModes, InQuirksMode, InScope, Not, ScriptingEnabled,
-    SecondIsBody, TemplateOpen, TokenInScope, TypeHidden,
+    AListed, Both, ByStandard, ContextIs, CurrentIs, CurrentIsToken, FormElemInScope,
+    FormElemIsCurrent, FramesetOk, HasFormElem, HasTemplateModes, InQuirksMode, InScope, Not,
+    ScriptingEnabled, SecondIsBody, TemplateOpen, TokenInScope, TypeHidden,
 };
 use crate::table::{Foreign, Implied, Row, row, then};
 use html_rules::{InsertionMode, TagSet};
@@ -211,6 +211,7 @@ const FORMATTING: &[Row] = &[
         [Reconstruct, InsertVoid, FramesetNotOk],
         Acknowledged
     ),
+    row!(StartTags(TagSet::Input), if Both(&ByStandard, &ContextIs(TagSet::Select)), [ParseError], Done),
     row!(
         StartTags(TagSet::Input),
         [
@@ -388,21 +389,21 @@ fn blocks() -> &'static [Row]
 
 /// Formatting elements, objects, tables, void elements and raw text.
 fn formatting() -> &'static [Row]
-    ensures { rows_of result.now ≡ take 19 (drop 39 in_body) }
+    ensures { rows_of result.now ≡ take 20 (drop 39 in_body) }
 {
     FORMATTING
 }
 
 /// `select`, `ruby`, foreign content, and parts of tables.
 fn content() -> &'static [Row]
-    ensures { rows_of result.now ≡ take 14 (drop 58 in_body) }
+    ensures { rows_of result.now ≡ take 14 (drop 59 in_body) }
 {
     CONTENT
 }
 
 /// Any other tag, and what is left.
 fn rest() -> &'static [Row]
-    ensures { rows_of result.now ≡ drop 72 in_body }
+    ensures { rows_of result.now ≡ drop 73 in_body }
 {
     REST
 }
@@ -415,11 +416,11 @@ pub(crate) fn row_at(place: usize) -> Option<&'static Row>
         structure().get(place)
     } else if place < 39 {
         blocks().get(place - 17)
-    } else if place < 58 {
+    } else if place < 59 {
         formatting().get(place - 39)
-    } else if place < 72 {
-        content().get(place - 58)
+    } else if place < 73 {
+        content().get(place - 59)
     } else {
-        rest().get(place - 72)
+        rest().get(place - 73)
     }
 }

@@ -15,22 +15,22 @@ returns-then-place-lt39 c =
     ∙ get-part 22 17 in_body (c.args.place - 17) c.args.place
     (omega (arith, c.if-place-lt17.false, c.if-place-lt39.true)) (omega (arith, c.if-place-lt17.false))
 
-pub returns-then-place-lt58 : goal.returns-then-place-lt58
-returns-then-place-lt58 c =
-    got c.formatting.result.now (take 19 (drop 39 in_body)) (c.args.place - 39) c.get-then-place-lt58.result
-    c.get-then-place-lt58.ensures.lookup c.formatting.ensures
-    ∙ get-part 19 39 in_body (c.args.place - 39) c.args.place
-    (omega (arith, c.if-place-lt39.false, c.if-place-lt58.true)) (omega (arith, c.if-place-lt39.false))
+pub returns-then-place-lt59 : goal.returns-then-place-lt59
+returns-then-place-lt59 c =
+    got c.formatting.result.now (take 20 (drop 39 in_body)) (c.args.place - 39) c.get-then-place-lt59.result
+    c.get-then-place-lt59.ensures.lookup c.formatting.ensures
+    ∙ get-part 20 39 in_body (c.args.place - 39) c.args.place
+    (omega (arith, c.if-place-lt39.false, c.if-place-lt59.true)) (omega (arith, c.if-place-lt39.false))
 
-pub returns-then-place-lt72 : goal.returns-then-place-lt72
-returns-then-place-lt72 c =
-    got c.content.result.now (take 14 (drop 58 in_body)) (c.args.place - 58) c.get-then-place-lt72.result
-    c.get-then-place-lt72.ensures.lookup c.content.ensures
-    ∙ get-part 14 58 in_body (c.args.place - 58) c.args.place
-    (omega (arith, c.if-place-lt58.false, c.if-place-lt72.true)) (omega (arith, c.if-place-lt58.false))
+pub returns-then-place-lt73 : goal.returns-then-place-lt73
+returns-then-place-lt73 c =
+    got c.content.result.now (take 14 (drop 59 in_body)) (c.args.place - 59) c.get-then-place-lt73.result
+    c.get-then-place-lt73.ensures.lookup c.content.ensures
+    ∙ get-part 14 59 in_body (c.args.place - 59) c.args.place
+    (omega (arith, c.if-place-lt59.false, c.if-place-lt73.true)) (omega (arith, c.if-place-lt59.false))
 
-pub returns-else-place-lt72 : goal.returns-else-place-lt72
-returns-else-place-lt72 c =
-    got c.rest.result.now (drop 72 in_body) (c.args.place - 72) c.get-else-place-lt72.result
-    c.get-else-place-lt72.ensures.lookup c.rest.ensures
-    ∙ get-drop 72 in_body (c.args.place - 72) c.args.place (omega (arith, c.if-place-lt72.false))
+pub returns-else-place-lt73 : goal.returns-else-place-lt73
+returns-else-place-lt73 c =
+    got c.rest.result.now (drop 73 in_body) (c.args.place - 73) c.get-else-place-lt73.result
+    c.get-else-place-lt73.ensures.lookup c.rest.ensures
+    ∙ get-drop 73 in_body (c.args.place - 73) c.args.place (omega (arith, c.if-place-lt73.false))
