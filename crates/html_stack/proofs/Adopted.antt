@@ -222,7 +222,7 @@ walk-keeps f0 b n (suc left) (x ∷ xs) w is less ne =
 copy-count : (o : Option Listed) (w : Walk) → length (copy_if o w).copies ≤ length w.copies + 1
 copy-count None w = omega arith
 copy-count (Some l) w = omega
-    (arith, length-append w.copies (record { number = node_count w.forest; namespace = Html; name = l.tag.name } ∷ []))
+    (arith, length-append w.copies (record { number = node_count w.forest; namespace = Html; name = l.tag.name; rules = w.rules } ∷ []))
 
 pub walk-count : (left : ℕ) (xs : List Open) (w : Walk) → length (walk left xs w).copies ≤ length w.copies + length xs
 walk-count left [] w = omega arith

@@ -1,6 +1,6 @@
 -- What turns of the adoption agency come to, case by case, and one after the other.
 use Rattle.std.proofs.Common.{◌≡◌, ◌∙◌, ℕ, suc, ◌+◌, ◌<◌, ◌≤◌, Bool, true, false, List, [], ◌∷◌, ◌++◌, length, take, drop}
-use Rattle.std.proofs.Common.{get_or, Option, Some, None, Result, Ok, Err, refl, sym, ap, subst, arith, codes, add-one, eq-eqb}
+use Rattle.std.proofs.Common.{get_or, Option, Some, None, Result, Ok, Err, refl, sym, ap, ap₂, subst, arith, codes, add-one, eq-eqb}
 use Rattle.std.proofs.Common.{eqb-true, ne_eqb, true≢false}
 use Rattle.std.specs.Prelude.{◌&&◌, ◌||◌, nat_eq, not, is_some, slice_range, IfOk, MatchOption, OnErr}
 use Rattle.std.specs.List.{list_any}
@@ -20,6 +20,7 @@ use Rattle.html_rules.specs.Names.{Html, element_name_of}
 use Rattle.html_rules.specs.Stack.{expect_to_close, finds_generic, generate_implied_end_except, in_scope, is_open, parse_error}
 use Rattle.html_rules.specs.Stack.{pop, pop_until, process_end_tag_in_body, remove_from_stack, without_current, without_number}
 use Rattle.html_rules.specs.State.{Entry, Element, Marker, Open, State, current_is, current_number, is_in, is_named}
+use Rattle.html_rules.specs.declared.rules.Rules.{Rules}
 use Rattle.html_rules.specs.declared.tag_set.TagSet.TheVariants as set
 use Rattle.html_rules_laws.specs.Soundness.{AreListed, IsStanding}
 use Rattle.html_rules_laws.proofs.TreePreserved.AdoptionAgency.{turn-Standing}
@@ -92,17 +93,17 @@ told-state fe s f xs entries = by (current_is (is_number fe.number) xs) where
   by true = refl
   by false = refl
 
-pub turn-closed : (foster : Bool) (f : Forest) (xs : List Open) (entries : List Entry) (fe : Listed)
+pub turn-closed : (foster : Bool) (rules : Rules) (f : Forest) (xs : List Open) (entries : List Entry) (fe : Listed)
     → listed_as fe.number entries ≡ Some fe → is_open fe.number xs ≡ false
-    → IsTurnOf foster fe.number false f xs entries (add_error f) xs (without_entry fe.number entries)
+    → IsTurnOf foster rules fe.number false f xs entries (add_error f) xs (without_entry fe.number entries)
 unfolding parse_error
-turn-closed foster f xs entries fe listed closed name s on = rw (listed, closed) refl
+turn-closed foster rules f xs entries fe listed closed name s on by = rw (listed, closed) refl
 
-pub turn-bounded : (foster : Bool) (f : Forest) (xs : List Open) (entries : List Entry) (fe : Listed)
+pub turn-bounded : (foster : Bool) (rules : Rules) (f : Forest) (xs : List Open) (entries : List Entry) (fe : Listed)
     → listed_as fe.number entries ≡ Some fe → is_open fe.number xs ≡ true → in_scope set.DefaultScope (is_number fe.number) xs ≡ false
-    → IsTurnOf foster fe.number false f xs entries (add_error f) xs entries
+    → IsTurnOf foster rules fe.number false f xs entries (add_error f) xs entries
 unfolding parse_error
-turn-bounded foster f xs entries fe listed there scope name s on = rw (listed, there, scope) refl
+turn-bounded foster rules f xs entries fe listed there scope name s on by = rw (listed, there, scope) refl
 
 -- an element that is open, and in scope
 turn-open : (fe : Listed) (f : Forest) (xs : List Open) (entries : List Entry) (name : List ℕ) (s : State)
@@ -112,23 +113,23 @@ turn-open : (fe : Listed) (f : Forest) (xs : List Open) (entries : List Entry) (
 turn-open fe f xs entries name s listed there scope = rw (listed, there, scope)
     (ap (adopt_from fe (furthest_block (opened_after fe.number xs))) (sym (told-state fe s f xs entries)))
 
-pub turn-cut : (foster : Bool) (f : Forest) (xs ys : List Open) (entries : List Entry) (fe : Listed)
+pub turn-cut : (foster : Bool) (rules : Rules) (f : Forest) (xs ys : List Open) (entries : List Entry) (fe : Listed)
     → listed_as fe.number entries ≡ Some fe → is_open fe.number xs ≡ true → in_scope set.DefaultScope (is_number fe.number) xs ≡ true
     → furthest_block (opened_after fe.number xs) ≡ None → ys ≡ opened_before fe.number xs
-    → IsTurnOf foster fe.number false f xs entries (told fe.number xs f) ys (without_entry fe.number entries)
-turn-cut foster f xs ys entries fe listed there scope none left name s on =
+    → IsTurnOf foster rules fe.number false f xs entries (told fe.number xs f) ys (without_entry fe.number entries)
+turn-cut foster rules f xs ys entries fe listed there scope none left name s on by =
     ap (λ zs. came_to false (with_all s (told fe.number xs f) zs (without_entry fe.number entries))) left
     ∙ sym (turn-open fe f xs entries name s listed there scope
     ∙ ap (λ o. adopt_from fe o (with_all s (told fe.number xs f) xs entries)) none)
 
-pub turn-adopt : (foster : Bool) (f g : Forest) (xs ys : List Open) (entries others : List Entry) (fe : Listed)
+pub turn-adopt : (foster : Bool) (rules : Rules) (f g : Forest) (xs ys : List Open) (entries others : List Entry) (fe : Listed)
     (block : Open) → listed_as fe.number entries ≡ Some fe → is_open fe.number xs ≡ true → in_scope set.DefaultScope
     (is_number fe.number) xs ≡ true
     → furthest_block (opened_after fe.number xs) ≡ Some block
-    → ((s : State) → s.foster_parenting ≡ foster → with_all s g ys others ≡ turned (with_all s (told fe.number xs f) xs entries) fe block)
-    → IsTurnOf foster fe.number true f xs entries g ys others
-turn-adopt foster f g xs ys entries others fe block listed there scope some made name s on =
-    ap (came_to true) (made s on)
+    → ((s : State) → s.foster_parenting ≡ foster → s.opts.rules ≡ rules → with_all s g ys others ≡ turned (with_all s (told fe.number xs f) xs entries) fe block)
+    → IsTurnOf foster rules fe.number true f xs entries g ys others
+turn-adopt foster rules f g xs ys entries others fe block listed there scope some made name s on by =
+    ap (came_to true) (made s on by)
     ∙ sym (turn-open fe f xs entries name s listed there scope
     ∙ ap (λ o. adopt_from fe o (with_all s (told fe.number xs f) xs entries)) some)
 
@@ -197,13 +198,13 @@ told-stands n f xs entries is = by (current_is (is_number n) xs) where
 -- a turn with the entry of an element is a turn for its name
 pub turn-named : (foster : Bool) (name : List ℕ) (goes_on : Bool) (old new : Stacked) (f g : Forest) (fe : Listed)
     → last_named name old.active_formatting ≡ Some fe → listed_as fe.number old.active_formatting ≡ Some fe
-    → new.template_modes ≡ old.template_modes → IsTurnOf foster fe.number goes_on f old.open_elems
+    → new.template_modes ≡ old.template_modes → new.rules ≡ old.rules → IsTurnOf foster old.rules fe.number goes_on f old.open_elems
     old.active_formatting g new.open_elems new.active_formatting
     → (s : State) → s.foster_parenting ≡ foster → came_to goes_on (joined s new g) ≡ adoption_turn name (joined s old f)
 unfolding adoption_turn
-turn-named foster name goes_on old new f g fe found newest same turn s on =
-    ap (λ modes. came_to goes_on (joined s (record new { template_modes = modes }) g)) same
-    ∙ turn name (record s { template_modes = old.template_modes }) on
+turn-named foster name goes_on old new f g fe found newest same by turn s on =
+    ap₂ (λ modes rules. came_to goes_on (joined s (record new { template_modes = modes; rules = rules }) g)) same by
+    ∙ turn name (record s { template_modes = old.template_modes; opts = record s.opts { rules = old.rules } }) on refl
     ∙ ap (λ o. adopt_listed o name (joined s old f)) (newest ∙ sym found)
 
 pub turn-unnamed : (name : List ℕ) (s : State) (old : Stacked) (f : Forest) (t : State)
@@ -290,24 +291,24 @@ agency-turns name s found = rw (← found) refl
 
 -- the element of the newest entry is the current node: both leave
 turn-newest : (name : List ℕ) (s : State) (f : Forest) (x : Open) (xs : List Open) (tag : Tag) (entries : List Entry)
-    (modes : List InsertionMode) → bytes_eq tag.name name ≡ true → nat_eq x.number x.number ≡ true
-    → came_to false (joined s (record { open_elems = xs; active_formatting = entries; template_modes = modes }) f) ≡ adoption_turn name
-    (joined s (record { open_elems = x ∷ xs; active_formatting = Element x.number tag ∷ entries; template_modes = modes }) f)
+    (modes : List InsertionMode) (rules : Rules) → bytes_eq tag.name name ≡ true → nat_eq x.number x.number ≡ true
+    → came_to false (joined s (record { open_elems = xs; active_formatting = entries; template_modes = modes; rules = rules }) f) ≡ adoption_turn name
+    (joined s (record { open_elems = x ∷ xs; active_formatting = Element x.number tag ∷ entries; template_modes = modes; rules = rules }) f)
 unfolding adoption_turn
-turn-newest name s f x xs tag entries modes named same = rw (named, same, same) refl
+turn-newest name s f x xs tag entries modes rules named same = rw (named, same, same) refl
 
 agency-newest : (name : List ℕ) (s : State) (f : Forest) (x : Open) (xs : List Open) (tag : Tag) (entries : List Entry)
-    (modes : List InsertionMode) → bytes_eq tag.name name ≡ true
-    → joined s (record { open_elems = xs; active_formatting = entries; template_modes = modes }) f ≡ adoption_agency name
-    (joined s (record { open_elems = x ∷ xs; active_formatting = Element x.number tag ∷ entries; template_modes = modes }) f)
-agency-newest name s f x xs tag entries modes named =
-    let old : Stacked = record { open_elems = x ∷ xs; active_formatting = Element x.number tag ∷ entries; template_modes = modes } in
+    (modes : List InsertionMode) (rules : Rules) → bytes_eq tag.name name ≡ true
+    → joined s (record { open_elems = xs; active_formatting = entries; template_modes = modes; rules = rules }) f ≡ adoption_agency name
+    (joined s (record { open_elems = x ∷ xs; active_formatting = Element x.number tag ∷ entries; template_modes = modes; rules = rules }) f)
+agency-newest name s f x xs tag entries modes rules named =
+    let old : Stacked = record { open_elems = x ∷ xs; active_formatting = Element x.number tag ∷ entries; template_modes = modes; rules = rules } in
     let before : State = joined s old f in
     let same : nat_eq x.number x.number ≡ true = eq-eqb x.number x.number refl in
     let listed : false ≡ (current_is (is_named name) (x ∷ xs)
     && not (is_listed x.number (Element x.number tag ∷ entries))) = rw same (sym (and-false (is_named name x))) in
-    turns-end 7 name before (joined s (record { open_elems = xs; active_formatting = entries; template_modes = modes }) f)
-    (turn-newest name s f x xs tag entries modes named same)
+    turns-end 7 name before (joined s (record { open_elems = xs; active_formatting = entries; template_modes = modes; rules = rules }) f)
+    (turn-newest name s f x xs tag entries modes rules named same)
     ∙ agency-turns name before listed
   where
     and-false : (b : Bool) → (b && false) ≡ false
@@ -319,20 +320,21 @@ pub agency-current : (name : List ℕ) (s : State) (f : Forest) (old : Stacked) 
       open_elems = without_current old.open_elems;
       active_formatting = older_entries old.active_formatting;
     }) f ≡ adoption_agency name (joined s old f)
-agency-current name s f old is = by old.open_elems old.active_formatting old.template_modes is where
-  by : (xs : List Open) (entries : List Entry) (modes : List InsertionMode) → IsCurrentNewest name xs entries
+agency-current name s f old is = by old.open_elems old.active_formatting old.template_modes old.rules is where
+  by : (xs : List Open) (entries : List Entry) (modes : List InsertionMode) (rules : Rules) → IsCurrentNewest name xs entries
       → joined s (record {
         open_elems = without_current xs;
         active_formatting = older_entries entries;
         template_modes = modes;
-      }) f ≡ adoption_agency name (joined s (record { open_elems = xs; active_formatting = entries; template_modes = modes }) f)
-  by [] entries modes is = absurd is
-  by (x ∷ xs) [] modes is = absurd is
-  by (x ∷ xs) (Marker ∷ entries) modes is = absurd is
-  by (x ∷ xs) (Element n tag ∷ entries) modes is =
-      subst (λ m. joined s (record { open_elems = xs; active_formatting = entries; template_modes = modes }) f ≡ adoption_agency name
-      (joined s (record { open_elems = x ∷ xs; active_formatting = Element m tag ∷ entries; template_modes = modes }) f))
-      (sym is.0) (agency-newest name s f x xs tag entries modes is.1)
+        rules = rules;
+      }) f ≡ adoption_agency name (joined s (record { open_elems = xs; active_formatting = entries; template_modes = modes; rules = rules }) f)
+  by [] entries modes rules is = absurd is
+  by (x ∷ xs) [] modes rules is = absurd is
+  by (x ∷ xs) (Marker ∷ entries) modes rules is = absurd is
+  by (x ∷ xs) (Element n tag ∷ entries) modes rules is =
+      subst (λ m. joined s (record { open_elems = xs; active_formatting = entries; template_modes = modes; rules = rules }) f ≡ adoption_agency name
+      (joined s (record { open_elems = x ∷ xs; active_formatting = Element m tag ∷ entries; template_modes = modes; rules = rules }) f))
+      (sym is.0) (agency-newest name s f x xs tag entries modes rules is.1)
 
 pub misnested-none : (s : State) → last_named (codes "a") s.active_formatting ≡ None → s ≡ handle_misnested_a_tags s
 unfolding handle_misnested_a_tags

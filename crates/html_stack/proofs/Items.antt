@@ -1,5 +1,5 @@
 -- Items are HTML elements of known names.
-use Rattle.std.proofs.Common.{◌≡◌, ◌∙◌, ℕ, ◌<◌, true, false, List, [], Option, Some, None, length, get_or, refl, sym, ap}
+use Rattle.std.proofs.Common.{◌≡◌, ◌∙◌, ℕ, ◌<◌, true, false, List, [], Option, Some, None, length, get_or, refl, sym, ap, subst}
 use Rattle.std.specs.Prelude.{IfNone, IfSome, MatchOption}
 use Rattle.std.specs.List.{list_any}
 use Rattle.std.specs.Str.{bytes_eq}
@@ -26,6 +26,8 @@ pub item-known : (items : TagSet) (x : Open) (found : Option (List ℕ)) (o : Op
     → MatchOption o (found ≡ None) (λ known. (known.place < length names) × (found ≡ Some (get_or names known.place [])))
 item-known items x found (Some known) some none of is e = (some.1.within, e ∙ ap Some (sym some.1.there))
 item-known items x found None some none of is e =
-    let html : x.namespace ≡ Html = html-of items x.namespace x.name of is in
-    let out : is_in items x ≡ false = unknown-among x.namespace x.name items (none html) in
+    let among : is_among x.name (names_in x.namespace items) ≡ true =
+    subst (λ these. is_among x.name (names_in x.namespace these) ≡ true) (of.same x.rules) is in
+    let html : x.namespace ≡ Html = html-of items x.namespace x.name of among in
+    let out : is_among x.name (names_in x.namespace items) ≡ false = unknown-among x.namespace x.name items (none html) in
     absurd cc

@@ -26,6 +26,8 @@ use Rattle.html_rules.specs.Places.{open_element, place_for, put_element}
 use Rattle.html_rules.specs.Sets.{is_among, mathml_names_of, names_in, names_of, svg_names_of}
 use Rattle.html_rules.specs.Stack.{number_from, root_number}
 use Rattle.html_rules.specs.State.{Entry, Open, State, current_is, current_node, current_number, is_in}
+use Rattle.html_rules.specs.declared.rules.Rules.{Rules}
+use Rattle.html_rules.specs.declared.rules.Rules.TheVariants.{Html5ever}
 use Rattle.html_rules.specs.declared.tag_set.TagSet.TheVariants as set
 use Rattle.html_rules_laws.specs.Soundness.{AreOpened, IsOpened, IsOwn, IsStanding}
 use Rattle.html_rules_laws.proofs.TreePreserved.Standing.{IsPart, Stays, changed-Standing, gone, opened-Standing, part-opened, part-same}
@@ -171,7 +173,7 @@ put-at node point f e tree at =
     let space : Namespace = namespace_of e.namespace in
     let is = IsMade-create_element f (element_name_of space e.name) e.attrs
     (flags_of space e.name e.attrs e.had_duplicate_attributes) tree.forest in
-    let made = made-Made f space e.name e.attrs e.had_duplicate_attributes [] tree (own-of e.namespace) tt in
+    let made = made-Made Html5ever f space e.name e.attrs e.had_duplicate_attributes [] tree (own-of e.namespace) tt in
     let more : node_count f < node_count g = is.there in
     let parent : IsParent f (parent_at (place_at node f point)) = IsParent-place f (place_at node f point)
     tree.forest (point-Place node f point at) in
@@ -190,15 +192,15 @@ pub tag-made : (f g : Forest) (class : ElementClass) (tag : Tag) (flags : Elemen
 tag-made f g class tag flags name attributes seen made named listed flagged = rw (html-back, made, flagged, named, listed) refl
 
 -- and that is put there
-pub put-Point : {H : Type 0} (node : H → ℕ) (point : InsertionPoint H) (f : Forest) (e : NewElement)
-    (xs : List Open) → IsTree f → IsPoint node f point → AreOpened f xs → Made f (with_put node point f e) xs (opened_as f e)
-put-Point node point f e xs tree at h =
+pub put-Point : {H : Type 0} (rules : Rules) (node : H → ℕ) (point : InsertionPoint H) (f : Forest) (e : NewElement)
+    (xs : List Open) → IsTree f → IsPoint node f point → AreOpened f xs → Made f (with_put node point f e) xs (opened_as rules f e)
+put-Point rules node point f e xs tree at h =
     let g : Forest = with_made f e in
     let space : Namespace = namespace_of e.namespace in
     let is = IsMade-create_element f (element_name_of space e.name) e.attrs
     (flags_of space e.name e.attrs e.had_duplicate_attributes) tree.forest in
     let put = put-at node point f e tree at in
-    put-Made f space e.name e.attrs e.had_duplicate_attributes xs (place_at node g point) tree (own-of e.namespace) h
+    put-Made rules f space e.name e.attrs e.had_duplicate_attributes xs (place_at node g point) tree (own-of e.namespace) h
     (subst (λ place. IsPlace f place) (sym (place-parents node f g point is.parents)) (point-Place node f point at))
     (point-Place node g point put.place)
 
@@ -207,34 +209,34 @@ leaves-stays f g is xs entries h = changed-Standing f g xs entries is h
 
 pub leaves-made : {H : Type 0} (node : H → ℕ) (point : InsertionPoint H) (f : Forest) (e : NewElement) → IsTree f
     → IsPoint node f point → LeavesStanding f (with_put node point f e)
-leaves-made node point f e tree at = leaves-stays f (with_put node point f e) (put-Point node point f e [] tree at tt).stays
+leaves-made node point f e tree at = leaves-stays f (with_put node point f e) (put-Point Html5ever node point f e [] tree at tt).stays
 
-pub opens-Standing : {H : Type 0} (node : H → ℕ) (point : InsertionPoint H) (f : Forest) (e : NewElement)
+pub opens-Standing : {H : Type 0} (rules : Rules) (node : H → ℕ) (point : InsertionPoint H) (f : Forest) (e : NewElement)
     (xs : List Open) (entries : List Entry) → IsPoint node f point → IsStanding f xs entries
-    → IsStanding (with_put node point f e) (opened_as f e ∷ xs) entries
-opens-Standing node point f e xs entries at is =
-    let made = put-Point node point f e xs is.tree at is.opened in
-    opened-Standing (with_put node point f e) (opened_as f e) xs entries made.opened made.clear
+    → IsStanding (with_put node point f e) (opened_as rules f e ∷ xs) entries
+opens-Standing rules node point f e xs entries at is =
+    let made = put-Point rules node point f e xs is.tree at is.opened in
+    opened-Standing (with_put node point f e) (opened_as rules f e) xs entries made.opened made.clear
     (changed-Standing f (with_put node point f e) xs entries made.stays is)
 
-made-Point : (f : Forest) (e : NewElement) (xs : List Open) → IsTree f → AreOpened f xs → Made f (with_made f e) xs (opened_as f e)
-made-Point f e xs tree h = made-Made f (namespace_of e.namespace) e.name e.attrs e.had_duplicate_attributes xs tree (own-of e.namespace) h
+made-Point : (rules : Rules) (f : Forest) (e : NewElement) (xs : List Open) → IsTree f → AreOpened f xs → Made f (with_made f e) xs (opened_as rules f e)
+made-Point rules f e xs tree h = made-Made rules f (namespace_of e.namespace) e.name e.attrs e.had_duplicate_attributes xs tree (own-of e.namespace) h
 
 -- an element that is made, and opened without being put anywhere
 pub leaves-new : (f : Forest) (e : NewElement) → IsTree f → LeavesStanding f (with_made f e)
-leaves-new f e tree = leaves-stays f (with_made f e) (made-Point f e [] tree tt).stays
+leaves-new f e tree = leaves-stays f (with_made f e) (made-Point Html5ever f e [] tree tt).stays
 
-pub opens-new : (f : Forest) (e : NewElement) (xs : List Open) (entries : List Entry) → IsStanding f xs entries
-    → IsStanding (with_made f e) (opened_as f e ∷ xs) entries
-opens-new f e xs entries is =
-    let made = made-Point f e xs is.tree is.opened in
-    opened-Standing (with_made f e) (opened_as f e) xs entries made.opened made.clear
+pub opens-new : (rules : Rules) (f : Forest) (e : NewElement) (xs : List Open) (entries : List Entry) → IsStanding f xs entries
+    → IsStanding (with_made f e) (opened_as rules f e ∷ xs) entries
+opens-new rules f e xs entries is =
+    let made = made-Point rules f e xs is.tree is.opened in
+    opened-Standing (with_made f e) (opened_as rules f e) xs entries made.opened made.clear
     (changed-Standing f (with_made f e) xs entries made.stays is)
 
 -- steps
 
 pub open-step : (s : State) (stack stack' : Stacked) (f g : Forest) (e : NewElement) → stack' ≡ record stack
-    { open_elems = opened_as f e ∷ stack.open_elems } → g ≡ with_made f e
+    { open_elems = opened_as stack.rules f e ∷ stack.open_elems } → g ≡ with_made f e
     → joined s stack' g ≡ open_element (namespace_of e.namespace) e.name e.attrs e.had_duplicate_attributes (joined s stack f)
 unfolding open_element
 open-step s stack stack' f g e opened made = rw (opened, made) refl
@@ -242,7 +244,7 @@ open-step s stack stack' f g e opened made = rw (opened, made) refl
 pub root-step : {H : Type 0} (node : H → ℕ) (s : State) (stack stack' : Stacked) (f g : Forest) (document : H)
     (attributes : List Attribute) (e : NewElement)
     → IsFor Html (codes "html") attributes false e → node document ≡ 0 → stack' ≡ record stack
-    { open_elems = opened_as f e ∷ stack.open_elems } → g ≡ with_put node (LastChild document) f e
+    { open_elems = opened_as stack.rules f e ∷ stack.open_elems } → g ≡ with_put node (LastChild document) f e
     → joined s stack' g ≡ create_root attributes (joined s stack f)
 unfolding create_root
 root-step node s stack stack' f g document attributes e of is opened made =
@@ -250,7 +252,7 @@ root-step node s stack stack' f g document attributes e of is opened made =
 
 pub push-step : {H : Type 0} (node : H → ℕ) (s : State) (stack stack' : Stacked) (f g : Forest) (point : InsertionPoint H) (e : NewElement)
     → place_at node (with_made f e) point ≡ place_for s.foster_parenting (with_made f e) stack.open_elems (current_node stack.open_elems)
-    → stack' ≡ record stack { open_elems = opened_as f e ∷ stack.open_elems } → g ≡ with_put node point f e
+    → stack' ≡ record stack { open_elems = opened_as stack.rules f e ∷ stack.open_elems } → g ≡ with_put node point f e
     → joined s stack' g ≡ inserted Push e (joined s stack f)
 unfolding insert_element
 push-step node s stack stack' f g point e place opened made = rw (opened, made, place) refl

@@ -20,6 +20,7 @@ use Rattle.html_rules.specs.Formatting.{Listed, put_after, without_entry}
 use Rattle.html_rules.specs.Names.{element_name_of}
 use Rattle.html_rules.specs.Places.{place_for}
 use Rattle.html_rules.specs.State.{Entry, Element, Open, State, current_node}
+use Rattle.html_rules.specs.declared.rules.Rules.{Rules}
 use Rattle.html_rules_laws.specs.Soundness.{AreOpened, IsApart, IsOpened, IsStanding}
 use Rattle.html_rules_laws.proofs.TreePreserved.AdoptionAgency.{has-place}
 use Rattle.html_rules_laws.proofs.TreePreserved.AdoptionOrder.{NoneAbove, named-opened}
@@ -33,7 +34,7 @@ use Rattle.html_stack.specs.declared.entries.OpenElement.{OpenElement}
 use Rattle.html_stack.proofs.Adopted.{NoneIs, after-place, apart-take, before-place, between-places, found-at, placed-Standing}
 use Rattle.html_stack.proofs.Newest.{or-left, or-right, split-at}
 use Rattle.html_stack.proofs.StackEdits.{newest-open}
-use Rattle.html_stack.proofs.States.{some_state}
+use Rattle.html_stack.proofs.States.{state_by}
 use Rattle.html_stack.proofs.Points.{opened-at}
 use Rattle.html_stack.proofs.Walked.{opened-Walked, walked-Standing}
 use Rattle.html_stack.proofs.Wrapped.{stays-removed}
@@ -74,15 +75,15 @@ pub record IsAdoption {H : Type 0} (node : H → ℕ) (f0 : Forest) (xs : List (
       (parent_at (place_for foster (remove w.forest w.last_node) (opens_of node xs) (current_node (opens_of node (take from xs)))))
 
 pub adoption : {H : Type 0} (node : H → ℕ) (f0 : Forest) (xs : List (OpenElement H)) (entries : List Entry)
-    (from to : ℕ) (d : OpenElement H) (foster : Bool) (tag : Tag) (w : Walk)
+    (from to : ℕ) (d : OpenElement H) (foster : Bool) (rules : Rules) (tag : Tag) (w : Walk)
     → IsStanding f0 (opens_of node xs) entries → from < to → to < length xs → IsTurn node xs entries from to tag d
-    → w ≡ walk 3 (opens_of node (slice_range xs (from + 1) to)) (begun f0 (node (get_or xs to d).handle) entries)
+    → w ≡ walk 3 (opens_of node (slice_range xs (from + 1) to)) (begun rules f0 (node (get_or xs to d).handle) entries)
     → IsAdoption node f0 xs entries from to d foster w
-adoption {H} node f0 xs entries from to d foster tag w is order within turn e =
+adoption {H} node f0 xs entries from to d foster rules tag w is order within turn e =
     let ys : List Open = opens_of node (slice_range xs (from + 1) to) in
     let n : ℕ = node (get_or xs from d).handle in
     let block : Open = open_of node (get_or xs to d) in
-    let s : State = with_all (some_state foster) f0 (opens_of node xs) entries in
+    let s : State = with_all (state_by rules foster) f0 (opens_of node xs) entries in
     let found = found-at f0 node xs from d is.apart (omega arith) in
     let found_b = found-at f0 node xs to d is.apart within in
     let named = opened-index f0 node xs to d is.opened within in
@@ -94,25 +95,25 @@ adoption {H} node f0 xs entries from to d foster tag w is order within turn e =
       named = named;
       standing = is;
       within = within;
-      walked = walk-Walked f0 block.number 3 ys (begun f0 block.number entries) (opened-Walked f0 block entries is.tree is.listed named);
-      at = subst (λ zs. IsPlace (remove (walk 3 ys (begun f0 block.number entries)).forest
-          (walk 3 ys (begun f0 block.number entries)).last_node)
-          (place_for foster (remove (walk 3 ys (begun f0 block.number entries)).forest
-          (walk 3 ys (begun f0 block.number entries)).last_node) (opens_of node xs) (current_node zs))) before h.at;
+      walked = walk-Walked f0 block.number 3 ys (begun rules f0 block.number entries) (opened-Walked rules f0 block entries is.tree is.listed named);
+      at = subst (λ zs. IsPlace (remove (walk 3 ys (begun rules f0 block.number entries)).forest
+          (walk 3 ys (begun rules f0 block.number entries)).last_node)
+          (place_for foster (remove (walk 3 ys (begun rules f0 block.number entries)).forest
+          (walk 3 ys (begun rules f0 block.number entries)).last_node) (opens_of node xs) (current_node zs))) before h.at;
       there = subst (λ zs. parent_at
-          (place_for foster (remove (walk 3 ys (begun f0 block.number entries)).forest
-          (walk 3 ys (begun f0 block.number entries)).last_node) (opens_of node xs) (current_node zs)) <
+          (place_for foster (remove (walk 3 ys (begun rules f0 block.number entries)).forest
+          (walk 3 ys (begun rules f0 block.number entries)).last_node) (opens_of node xs) (current_node zs)) <
           node_count f0) before h.outer.there;
       out = subst (λ zs. Above f0 block.number
-          (parent_at (place_for foster (remove (walk 3 ys (begun f0 block.number entries)).forest
-          (walk 3 ys (begun f0 block.number entries)).last_node) (opens_of node xs) (current_node zs))) → ⊥) before h.outer.under;
+          (parent_at (place_for foster (remove (walk 3 ys (begun rules f0 block.number entries)).forest
+          (walk 3 ys (begun rules f0 block.number entries)).last_node) (opens_of node xs) (current_node zs))) → ⊥) before h.outer.under;
       none = subst (λ us. NoneAbove f0 us
-          (parent_at (place_for foster (remove (walk 3 ys (begun f0 block.number entries)).forest
-          (walk 3 ys (begun f0 block.number entries)).last_node) (opens_of node xs)
+          (parent_at (place_for foster (remove (walk 3 ys (begun rules f0 block.number entries)).forest
+          (walk 3 ys (begun rules f0 block.number entries)).last_node) (opens_of node xs)
           (current_node (opens_of node (take from xs)))))) after
           (subst (λ zs. NoneAbove f0 (opened_after block.number (opens_of node xs))
-          (parent_at (place_for foster (remove (walk 3 ys (begun f0 block.number entries)).forest
-          (walk 3 ys (begun f0 block.number entries)).last_node) (opens_of node xs) (current_node zs)))) before h.outer.none);
+          (parent_at (place_for foster (remove (walk 3 ys (begun rules f0 block.number entries)).forest
+          (walk 3 ys (begun rules f0 block.number entries)).last_node) (opens_of node xs) (current_node zs)))) before h.outer.none);
     })
 
 module _ {H : Type 0} (node : H → ℕ) (f0 : Forest) (xs : List (OpenElement H)) (entries : List Entry) (from to : ℕ)
@@ -283,20 +284,20 @@ copies-new f0 f n (x ∷ xs) less h = ((λ same. let late = h.0.0 in absurd (ome
 
 -- the turn of the rules
 pub turned-is : {H : Type 0} (node : H → ℕ) (f0 : Forest) (xs : List (OpenElement H)) (entries : List Entry)
-    (from to : ℕ) (d : OpenElement H) (foster : Bool) (tag : Tag) (w : Walk) (s : State) (g1 g3 : Forest)
+    (from to : ℕ) (d : OpenElement H) (foster : Bool) (rules : Rules) (tag : Tag) (w : Walk) (s : State) (g1 g3 : Forest)
     (opens : List Open) (others : List Entry)
-    → IsStanding f0 (opens_of node xs) entries → from < to → to < length xs → s.foster_parenting ≡ foster
-    → w ≡ walk 3 (opens_of node (slice_range xs (from + 1) to)) (begun f0 (node (get_or xs to d).handle) entries)
+    → IsStanding f0 (opens_of node xs) entries → from < to → to < length xs → s.foster_parenting ≡ foster → s.opts.rules ≡ rules
+    → w ≡ walk 3 (opens_of node (slice_range xs (from + 1) to)) (begun rules f0 (node (get_or xs to d).handle) entries)
     → g1 ≡ put (remove w.forest w.last_node) (place_for foster (remove w.forest w.last_node) (opens_of node xs)
     (current_node (opens_of node (take from xs)))) w.last_node
     → g3 ≡ put (reparent_children (with_copy g1 tag) (node (get_or xs to d).handle) (node_count g1))
     (Last (node (get_or xs to d).handle)) (node_count g1)
     → others ≡ relist (node (get_or xs from d).handle) (Element (node_count g1) tag) w.copies w.active_formatting
-    → opens ≡ opens_of node (drop (suc to) xs) ++ (opened_for g1 tag ∷ open_of node (get_or xs to d) ∷ w.copies)
+    → opens ≡ opens_of node (drop (suc to) xs) ++ (opened_for rules g1 tag ∷ open_of node (get_or xs to d) ∷ w.copies)
     ++ opens_of node (take from xs)
     → with_all s g3 opens others ≡ turned (with_all s f0 (opens_of node xs) entries)
     (record { number = node (get_or xs from d).handle; tag = tag }) (open_of node (get_or xs to d))
-turned-is {H} node f0 xs entries from to d foster tag w s g1 g3 opens others is order within on e put_is forest_is others_is opens_is =
+turned-is {H} node f0 xs entries from to d foster rules tag w s g1 g3 opens others is order within on by e put_is forest_is others_is opens_is =
     let n : ℕ = node (get_or xs from d).handle in
     let block : Open = open_of node (get_or xs to d) in
     let t : State = with_all s f0 (opens_of node xs) entries in
@@ -305,7 +306,8 @@ turned-is {H} node f0 xs entries from to d foster tag w s g1 g3 opens others is 
     let after = after-place node block.number xs to d (found-at f0 node xs to d is.apart within) in
     let r : Forest = remove w.forest w.last_node in
     let walked : w ≡ walk 3 (between fe block t) (begin_walk block t) = e
-    ∙ ap (λ ys. walk 3 ys (begun f0 block.number entries)) (sym (between-places f0 node xs from to d is.apart order within)) in
+    ∙ ap (λ ys. walk 3 ys (begun rules f0 block.number entries)) (sym (between-places f0 node xs from to d is.apart order within))
+    ∙ ap (λ r. walk 3 (between fe block t) (begun r f0 block.number entries)) (sym by) in
     let placed : g1 ≡ put r (place_for s.foster_parenting r (opens_of node xs)
     (current_node (opened_before n (opens_of node xs)))) w.last_node =
     put_is
@@ -315,14 +317,17 @@ turned-is {H} node f0 xs entries from to d foster tag w s g1 g3 opens others is 
     ∙ ap (λ h. put (reparent_children (with_copy h tag) block.number (node_count h)) (Last block.number) (node_count h)) placed in
     let b : opens ≡ (adopt fe block w t).open_elems =
     opens_is
-    ∙ ap (λ h. opens_of node (drop (suc to) xs) ++ (opened_for h tag ∷ block ∷ w.copies) ++ opens_of node (take from xs)) placed
-    ∙ ap (λ zs. zs ++ (opened_for
+    ∙ ap (λ h. opens_of node (drop (suc to) xs) ++ (opened_for rules h tag ∷ block ∷ w.copies) ++ opens_of node (take from xs)) placed
+    ∙ ap (λ zs. zs ++ (opened_for rules
     (put r (place_for s.foster_parenting r (opens_of node xs)
     (current_node (opened_before n (opens_of node xs)))) w.last_node) tag ∷ block ∷ w.copies)
     ++ opens_of node (take from xs)) (sym after)
     ∙ ap (λ zs. opened_after block.number (opens_of node xs)
-    ++ (opened_for (put r (place_for s.foster_parenting r (opens_of node xs)
-    (current_node (opened_before n (opens_of node xs)))) w.last_node) tag ∷ block ∷ w.copies) ++ zs) (sym before) in
+    ++ (opened_for rules (put r (place_for s.foster_parenting r (opens_of node xs)
+    (current_node (opened_before n (opens_of node xs)))) w.last_node) tag ∷ block ∷ w.copies) ++ zs) (sym before)
+    ∙ ap (λ rules. opened_after block.number (opens_of node xs)
+    ++ (opened_for rules (put r (place_for s.foster_parenting r (opens_of node xs)
+    (current_node (opened_before n (opens_of node xs)))) w.last_node) tag ∷ block ∷ w.copies) ++ opened_before n (opens_of node xs)) (sym by) in
     let c : others ≡ (adopt fe block w t).active_formatting = others_is
     ∙ ap (λ h. relist n (Element (node_count h) tag) w.copies w.active_formatting) placed in
     let all : with_all s g3 opens others ≡ adopt fe block w t = λ j. with_all s (a j) (b j) (c j) in

@@ -14,6 +14,7 @@ use Rattle.html_rules.specs.Names.{Html, element_name_of, namespace_of}
 use Rattle.html_names.specs.ElementNames.{Named}
 use Rattle.html_rules.specs.Places.{with_element}
 use Rattle.html_rules.specs.State.{Entry, Element, Open}
+use Rattle.html_rules.specs.declared.rules.Rules.{Rules}
 use Rattle.html_rules_laws.specs.Soundness.{AreListed, IsOpened, IsStanding}
 use Rattle.html_rules_laws.proofs.TreePreserved.AdoptionStanding.{begun, begun-Walked, element-plain, not_above_document}
 use Rattle.html_rules_laws.proofs.TreePreserved.AdoptionWalk.{Walked, walk-Walked}
@@ -90,10 +91,11 @@ pub copied : {H : Type 0} (node : H → ℕ) (f g : Forest) (items : List (Forma
     (tag : Tag) (copies copies' : Copies H) (new : OpenElement H)
     → IsNewest (entry_of node) (stands_for n) items i → get_or items i held.Marker ≡ held.Element handle tag
     → g ≡ put (remove (with_copy f tag) (node copies.last)) (Last (node_count f)) (node copies.last)
-    → open_of node new ≡ opened_for f tag → copies'.elements.items ≡ copies.elements.items ++ new ∷ [] → copies'.last ≡ new.handle
+    → open_of node new ≡ opened_for copies.rules f tag → copies'.elements.items ≡ copies.elements.items ++ new ∷ [] → copies'.last ≡ new.handle
+    → copies'.rules ≡ copies.rules
     → walk_of node g (set items i (renamed new.handle (get_or items i held.Marker))) copies' ≡ copy_if
     (listed_as n (entries_of node items)) (walk_of node f items copies)
-copied node f g items i n handle tag copies copies' new is here forest opened more last =
+copied node f g items i n handle tag copies copies' new is here forest opened more last ruled =
     let w : Walk = walk_of node f items copies in
     let listed : Listed = record { number = node handle; tag = tag } in
     let named : node new.handle ≡ node_count f = ap (λ (x : Open). x.number) opened in
@@ -106,6 +108,7 @@ copied node f g items i n handle tag copies copies' new is here forest opened mo
       copies = (ap (map (open_of node)) more ∙ map-append (open_of node) copies.elements.items (new ∷ [])
           ∙ ap (λ o. map (open_of node) copies.elements.items ++ o ∷ []) opened) j;
       last_node = (ap node last ∙ named) j;
+      rules = ruled j;
     } in
     step ∙ sym said
 
@@ -131,14 +134,15 @@ walked-Standing f0 block w xs entries named is h =
         absurd (Above-child w.forest is.tree.forest 0 0 itself Above.here)
 
 -- a new element is opened under its own name
-pub opened-as : {H : Type 0} (node : H → ℕ) (handle : H) (name : Named) (f : Forest) (tag : Tag) (e : NewElement)
-    → node handle ≡ node_count f → name ≡ record { namespace = namespace_of e.namespace; name = e.name }
+pub opened-as : {H : Type 0} (node : H → ℕ) (handle : H) (name : Named) (rules : Rules) (f : Forest) (tag : Tag) (e : NewElement)
+    → node handle ≡ node_count f → name ≡ record { namespace = namespace_of e.namespace; name = e.name; rules = rules }
     → IsFor Html tag.name tag.attrs tag.had_duplicate_attributes e
-    → open_of node (record { handle = handle; name = name }) ≡ opened_for f tag
-opened-as node handle name f tag e named is for_tag = λ j. record {
+    → open_of node (record { handle = handle; name = name }) ≡ opened_for rules f tag
+opened-as node handle name rules f tag e named is for_tag = λ j. record {
   number = named j;
   namespace = (ap (λ (v : Named). v.namespace) is ∙ for_tag.in_namespace) j;
   name = (ap (λ (v : Named). v.name) is ∙ for_tag.named) j;
+  rules = ap (λ (v : Named). v.rules) is j;
 }
 
 -- one element of the walk
@@ -173,9 +177,9 @@ walked-in f0 b x w w' e is = subst (λ v. Walked f0 b v) (sym e) (walk-Walked f0
 pub walked-Movable : (f0 : Forest) (b : ℕ) (w : Walk) → Walked f0 b w → IsMovable w.forest w.last_node
 walked-Movable f0 b w is = record { tree = is.tree; there = is.there; plain = is.plain }
 
-pub opened-Walked : (f : Forest) (block : Open) (entries : List Entry) → IsTree f → AreListed f entries
-    → IsOpened f block → Walked f block.number (begun f block.number entries)
-opened-Walked f block entries tree listed named =
-    begun-Walked f block.number entries tree listed
+pub opened-Walked : (rules : Rules) (f : Forest) (block : Open) (entries : List Entry) → IsTree f → AreListed f entries
+    → IsOpened f block → Walked f block.number (begun rules f block.number entries)
+opened-Walked rules f block entries tree listed named =
+    begun-Walked rules f block.number entries tree listed
     (element-IsNode f block.number (element_name_of block.namespace block.name) named.named)
     (element-plain (data_of f block.number) (element_name_of block.namespace block.name) named.named)

@@ -9,6 +9,7 @@ use Rattle.markup.proofs.Forests.{IsMade-create_element, IsRemoved-remove}
 use Rattle.markup.proofs.PutTexts.{IsParent-element, element-IsNode}
 use Rattle.markup.proofs.Reparented.{IsReparented-reparent_children}
 use Rattle.markup.proofs.Trees.{IsTree-remove, IsTree-reparent_children}
+use Rattle.html_rules.specs.declared.rules.Rules.TheVariants.{Html5ever}
 use Rattle.html_rules_laws.proofs.TreePreserved.AdoptionTurn.{child-not_above, only-itself}
 use Rattle.markup.proofs.Walks.{Above-IsNode, Above-less, Above-moved, Above-moved_free}
 use Rattle.markup.specs.declared.names.QualName.{QualName}
@@ -83,7 +84,7 @@ pub fresh : (f : Forest) (e : NewElement) (n : ℕ) → IsTree f → n < node_co
 fresh f e n tree less =
     let m = IsMade-create_element f (element_name_of (namespace_of e.namespace) e.name) e.attrs
     (flags_of (namespace_of e.namespace) e.name e.attrs e.had_duplicate_attributes) tree.forest in
-    let mm = made-Made f (namespace_of e.namespace) e.name e.attrs e.had_duplicate_attributes [] tree (own-of e.namespace) tt in
+    let mm = made-Made Html5ever f (namespace_of e.namespace) e.name e.attrs e.had_duplicate_attributes [] tree (own-of e.namespace) tt in
     record {
       stays = mm.stays;
       there = m.there;

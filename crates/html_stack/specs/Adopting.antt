@@ -7,6 +7,7 @@ use Rattle.html_rules.specs.Adoption.{Turned, Walk, adopt, adopt_listed, begin_w
 use Rattle.html_rules.specs.Adoption.{listed_as, opened_after, walk}
 use Rattle.html_rules.specs.Choice.{choose}
 use Rattle.html_rules.specs.Stack.{in_scope}
+use Rattle.html_rules.specs.declared.rules.Rules.{Rules}
 use Rattle.html_rules.specs.declared.tag_set.TagSet.TheVariants as set
 use Rattle.html_tokens.specs.declared.tags.Tag.{Tag}
 use Rattle.html_rules.specs.Formatting.{Listed, last_named, put_after, with_in_place, without_entry}
@@ -23,6 +24,7 @@ use Rattle.html_stack.specs.declared.inserting.new_element.NewElement.{NewElemen
 -- what the walk has come to
 abbrev pub walk_of : {H : Type 0} → (H → ℕ) → Forest → List (FormatEntry H) → Copies H → Walk
 walk_of node f entries copies = record {
+  rules = copies.rules;
   forest = f;
   active_formatting = entries_of node entries;
   copies = map (open_of node) copies.elements.items;
@@ -96,6 +98,6 @@ abbrev pub came_to : Bool → State → Turned
 came_to goes_on s = record { state = s; goes_on = goes_on }
 
 -- what a turn makes of a tree, open elements and a list, with the entry of an element
-abbrev pub IsTurnOf : Bool → ℕ → Bool → Forest → List Open → List Entry → Forest → List Open → List Entry → Type 0
-IsTurnOf foster n goes_on f xs entries g ys others = (name : List ℕ) (s : State) → s.foster_parenting ≡ foster
+abbrev pub IsTurnOf : Bool → Rules → ℕ → Bool → Forest → List Open → List Entry → Forest → List Open → List Entry → Type 0
+IsTurnOf foster rules n goes_on f xs entries g ys others = (name : List ℕ) (s : State) → s.foster_parenting ≡ foster → s.opts.rules ≡ rules
     → came_to goes_on (with_all s g ys others) ≡ adopt_listed (listed_as n entries) name (with_all s f xs entries)

@@ -10,6 +10,7 @@ use Rattle.html_names.specs.declared.element_class.ElementClass.{ElementClass}
 use Rattle.html_rules.specs.Names.{Namespace, namespace_of}
 use Rattle.html_rules.specs.Places.{insert_element, put_element, with_element}
 use Rattle.html_rules.specs.State.{Entry, Open, State, current_node}
+use Rattle.html_rules.specs.declared.rules.Rules.{Rules}
 use Rattle.html_rules_laws.specs.Soundness.{IsOpened, IsStanding}
 use Rattle.html_stack.specs.Stacks.{open_of}
 use Rattle.html_stack.specs.declared.entries.InsertionPoint.{InsertionPoint}
@@ -84,8 +85,8 @@ abbrev pub with_put : {H : Type 0} → (H → ℕ) → InsertionPoint H → Fore
 with_put node point f e = put (with_made f e) (place_at node (with_made f e) point) (node_count f)
 
 -- the element, once it is open
-abbrev pub opened_as : Forest → NewElement → Open
-opened_as f e = record { number = node_count f; namespace = namespace_of e.namespace; name = e.name }
+abbrev pub opened_as : Rules → Forest → NewElement → Open
+opened_as rules f e = record { number = node_count f; namespace = namespace_of e.namespace; name = e.name; rules = rules }
 
 -- the step that inserts an element, and opens it or not
 abbrev pub inserted : PushFlag → NewElement → State → State

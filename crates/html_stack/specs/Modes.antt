@@ -24,4 +24,4 @@ MayAsk s x None = (before : Unit {0} → InsertionMode) → mode_of s x before �
 MayAsk s x (Some mode) = (before : Unit {0} → InsertionMode) → mode_of s x before ≡ mode
 
 abbrev pub named_open : ℕ → Named → Open
-named_open number name = record { number = number; namespace = name.namespace; name = name.name }
+named_open number name = record { number = number; namespace = name.namespace; name = name.name; rules = name.rules }

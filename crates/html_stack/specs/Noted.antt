@@ -8,7 +8,7 @@ use Rattle.std.specs.Cmp.Lexicographic.{slice_cmp}
 use Rattle.std.specs.Ordering.{nat_cmp}
 use Rattle.std.specs.Str.{bytes_eq}
 use Rattle.html_rules.specs.Names.{is_html}
-use Rattle.html_rules.specs.Sets.{is_among, names_in}
+use Rattle.html_rules.specs.Sets.{is_among, names_in, set_by}
 use Rattle.html_rules.specs.State.{Open}
 use Rattle.html_rules.specs.declared.tag_set.TagSet.{TagSet}
 use Rattle.html_rules.specs.declared.tag_set.TagSet.TheVariants as set
@@ -23,7 +23,7 @@ use Rattle.html_stack.specs.declared.signs.Signs.{Signs}
 use Rattle.html_stack.specs.declared.tops.Tops.{Tops}
 
 abbrev pub is_of : TagSet → Named → Bool
-is_of set x = is_among x.name (names_in x.namespace set)
+is_of set x = is_among x.name (names_in x.namespace (set_by x.rules set))
 
 -- whether an element may ask for an insertion mode
 abbrev pub asks_mode : Named → Bool
@@ -149,7 +149,7 @@ abbrev pub is_foreign_named : List ℕ → Named → Bool
 is_foreign_named name x = not (is_html x.namespace) && named_any_case name x
 
 abbrev pub known_as : Open → Named
-known_as x = record { namespace = x.namespace; name = x.name }
+known_as x = record { namespace = x.namespace; name = x.name; rules = x.rules }
 
 -- what is left of open elements where some of the newest leave, of which none passes
 pub record IsBeyond (p : Named → Bool) (rest xs : List Open) : Type 0 where

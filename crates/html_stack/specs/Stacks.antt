@@ -3,6 +3,7 @@ use Rattle.std.specs.Prelude.{◌≡◌, ℕ, Bool, true, false, List, map, reve
 use Rattle.markup.specs.Forest.{Forest}
 use Rattle.html_rules.specs.State.{Open, Entry, State, Element as Listed, Marker as Mark}
 use Rattle.html_rules.specs.declared.insertion_mode.InsertionMode.{InsertionMode}
+use Rattle.html_rules.specs.declared.rules.Rules.{Rules}
 use Rattle.html_rules_laws.specs.Soundness.{IsStanding}
 use Rattle.html_stack.specs.declared.entries.OpenElement.{OpenElement}
 use Rattle.html_stack.specs.declared.entries.FormatEntry.{FormatEntry}
@@ -13,9 +14,11 @@ pub record Stacked : Type 0 where
   pub open_elems : List Open
   pub active_formatting : List Entry
   pub template_modes : List InsertionMode
+  -- the rules by whose sets open elements are asked
+  pub rules : Rules
 
 abbrev pub open_of : {H : Type 0} → (H → ℕ) → OpenElement H → Open
-open_of node x = record { number = node x.handle; namespace = x.name.namespace; name = x.name.name }
+open_of node x = record { number = node x.handle; namespace = x.name.namespace; name = x.name.name; rules = x.name.rules }
 
 abbrev pub entry_of : {H : Type 0} → (H → ℕ) → FormatEntry H → Entry
 entry_of node (Element handle tag) = Listed (node handle) tag
@@ -40,6 +43,7 @@ joined s stack f = record s {
   open_elems = stack.open_elems;
   active_formatting = stack.active_formatting;
   template_modes = stack.template_modes;
+  opts = record s.opts { rules = stack.rules };
 }
 
 -- what a step of the rules does to a state is done to a stack and its tree

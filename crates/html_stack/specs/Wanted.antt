@@ -3,8 +3,9 @@ use Rattle.std.specs.Prelude.{◌≡◌, ◌<◌, Bool, false, ◌&&◌, [], len
 use Rattle.markup.specs.KnownNames.{names}
 use Rattle.html_rules.specs.ForeignContent.{ends_foreign}
 use Rattle.html_rules.specs.Names.{Html}
-use Rattle.html_rules.specs.Sets.{mathml_names_of, svg_names_of}
+use Rattle.html_rules.specs.Sets.{mathml_names_of, set_by, svg_names_of}
 use Rattle.html_rules.specs.State.{Open, is_in, is_named}
+use Rattle.html_rules.specs.declared.rules.Rules.{Rules}
 use Rattle.html_rules.specs.declared.tag_set.TagSet.{TagSet}
 use Rattle.html_names.specs.Classes.{IsClassOf}
 use Rattle.html_stack.specs.declared.wanted.Wanted.{Wanted}
@@ -32,3 +33,5 @@ closes implied except x = is_in implied x && not (except x)
 pub record IsOfHtml (set : TagSet) : Type 0 where
   pub no_mathml : mathml_names_of set ≡ []
   pub no_svg : svg_names_of set ≡ []
+  -- and the same by all rules
+  pub same : (rules : Rules) → set_by rules set ≡ set

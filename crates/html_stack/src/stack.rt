@@ -9,7 +9,7 @@ use crate::signs::Sign;
 use crate::wanted::Wanted;
 use crate::{resetting, walks};
 use html_names::{ElementClass, ElementName};
-use html_rules::{InsertionMode, TagSet};
+use html_rules::{InsertionMode, Rules, TagSet};
 use html_tokens::Tag;
 use markup::{LocalName, ParseFault, TreeSink};
 use std::alloc::Global;
@@ -22,6 +22,7 @@ pub struct Stack<Sink: TreeSink> {
     pub(crate) open_elems: Vec<OpenElement<Sink::Handle>>,
     pub(crate) active_formatting: Vec<FormatEntry<Sink::Handle>>,
     template_modes: Vec<InsertionMode>,
+    rules: Rules,
     // What is noted of the open elements, where they are many.
     pub(crate) depths: Depths,
 }
@@ -37,6 +38,7 @@ impl<Sink: TreeSink> Model for Stack<Sink> {
       open_elems = opens_of Sink.node s.open_elems.items;
       active_formatting = entries_of Sink.node s.active_formatting.items;
       template_modes = reverse s.template_modes.items;
+      rules = s.rules;
     } };
 
     ghost invariant = { λ s. IsNoted (named s.open_elems.items) s.depths };
@@ -49,7 +51,8 @@ impl<Sink: TreeSink> Stack<Sink> {
     ghost use Rattle.html_rules.specs.Reset.{current_template_mode, reset_insertion_mode};
     ghost use Rattle.html_rules.specs.State.{State};
     ghost use Rattle.html_stack.specs.Modes.{IsContext};
-    ghost use Rattle.html_rules.specs.ForeignContent.{ends_foreign};
+    ghost use Rattle.markup.specs.TreeLaws.{with_errors};
+    ghost use Rattle.html_stack.specs.ForeignEnds.{ends_foreign_by};
     ghost use Rattle.html_rules.specs.Formatting.{after_marker};
     ghost use Rattle.html_rules.specs.Stack.{finds_generic, in_scope, left_below, left_by_implied, left_from, nothing, without_current};
     ghost use Rattle.html_rules_laws.specs.Soundness.{AreOpened};
@@ -61,15 +64,23 @@ impl<Sink: TreeSink> Stack<Sink> {
     ghost use Rattle.html_stack.specs.Noted.{IsBeyond, bears};
 
     /// Nothing is open or listed. The lists grow in the memory of `alloc`.
-    pub fn new(alloc: Global) -> Stack<Sink>
-        ensures { result ≡ record { open_elems = []; active_formatting = []; template_modes = [] } }
+    pub fn new(alloc: Global, rules: Rules) -> Stack<Sink>
+        ensures { result ≡ record { open_elems = []; active_formatting = []; template_modes = []; rules = rules } }
     {
         Stack {
             open_elems: Vec::new(alloc),
             active_formatting: Vec::new(alloc),
             template_modes: Vec::new(alloc),
+            rules,
             depths: Depths::new(alloc),
         }
+    }
+
+    /// The rules by whose sets open elements are asked.
+    pub fn rules(&self) -> Rules
+        ensures { result ≡ self.now.rules }
+    {
+        self.rules
     }
 
     /// What the lists grow in.
@@ -222,14 +233,35 @@ impl<Sink: TreeSink> Stack<Sink> {
         self.open_elems.truncate(left);
     }
 
+    /// Whether foreign content ends at the current node. By the Standard, HTML may stand in some of MathML's `annotation-xml`.
+    fn ends_foreign(&self, sink: &Sink) -> bool
+        requires { AreOpened (Sink.forest sink.now) self.now.open_elems }
+        ensures { result ≡ current_is (ends_foreign_by self.now.rules (Sink.integration_point (with_errors 0 (Sink.forest sink.now))))
+            self.now.open_elems }
+    {
+        if self.current_is(Wanted::EndsForeign) {
+            return true;
+        }
+        match (self.rules, self.open_elems.last()) {
+            (Rules::Standard, Some(element)) => {
+                element.name.is_in(TagSet::AnnotationXml)
+                    && sink.is_mathml_annotation_xml_integration_point(&element.handle)
+            }
+            _ => false,
+        }
+    }
+
     /// Elements are popped until foreign content ends: until the current node is HTML's, or HTML may stand in it (HTML Standard, section
     /// 13.2.6.5). The sink is told of each.
     pub fn pop_foreign(&mut self, sink: &mut Sink)
         requires { AreOpened (Sink.forest sink.old) self.old.open_elems }
-        ensures left { self.new ≡ record self.old { open_elems = left_from ends_foreign self.old.open_elems } }
+        ensures left { self.new ≡ record self.old {
+          open_elems = left_from (ends_foreign_by self.old.rules
+              (Sink.integration_point (with_errors 0 (Sink.forest sink.old)))) self.old.open_elems;
+        } }
         ensures same { Sink.forest sink.new ≡ Sink.forest sink.old }
     {
-        while !self.open_elems.is_empty() && !self.current_is(Wanted::EndsForeign) {
+        while !self.open_elems.is_empty() && !self.ends_foreign(sink) {
             drop(self.pop(sink));
         }
     }

@@ -7,6 +7,7 @@ ghost use Rattle.html_stack.specs.Inserting.{context_of};
 use crate::inserting::{attribute, insert, insert_template, is_written, started, tag};
 use crate::stack::{self, name_of};
 use html_forest::{Forest, NodeId};
+use html_rules::Rules;
 use html_stack::{ElementClass, OpenElement, Stack, TokenShape};
 use markup::{Attributes, KnownNamespace, LocalName, Namespace, ParseFault, Text, TreeSink};
 use std::alloc::Global;
@@ -343,7 +344,7 @@ fn close_in(
     name: &str,
 ) -> Result<(bool, bool, usize), ParseFault> {
     let mut forest = Forest::new(alloc)?;
-    let mut stack = Stack::new(alloc);
+    let mut stack = Stack::new(alloc, Rules::Html5ever);
     open_foreign(alloc, &mut forest, &mut stack, elements)?;
     close(alloc, &mut stack, name)
 }

@@ -3,6 +3,7 @@ ghost use Rattle.std.specs.Prelude.{IfOk};
 ghost use Rattle.html_rules_laws.specs.Soundness.{IsStanding};
 
 use html_forest::{Forest, ForestNode};
+use html_rules::Rules;
 use html_serialize::{SerializeOpts, serialize};
 use html_stack::{ElementClass, NewElement, Stack, TagSet};
 use html_tokens::{Doctype, Tag, TagKind};
@@ -77,7 +78,7 @@ pub(crate) fn started(alloc: Global) -> Result<(Forest, Stack<Forest>), ParseFau
     ensures { IfOk result (λ made. IsStanding made.0 made.1.open_elems made.1.active_formatting) }
 {
     let mut forest = Forest::new(alloc)?;
-    let mut stack = Stack::new(alloc);
+    let mut stack = Stack::new(alloc, Rules::Html5ever);
     stack.create_root(&mut forest, Attributes::new(alloc))?;
     Ok((forest, stack))
 }

@@ -4,6 +4,7 @@ ghost use Rattle.html_rules_laws.specs.Soundness.{IsStanding};
 
 use crate::inserting::tag;
 use html_forest::Forest;
+use html_rules::Rules;
 use html_stack::{
     ElementClass, ElementName, InsertionMode, NewElement, OpenElement, Stack, TagSet,
 };
@@ -17,7 +18,12 @@ pub(crate) fn name_of(
     name: &str,
 ) -> Result<ElementName, ParseFault> {
     let local = LocalName::from_str(alloc, name)?;
-    ElementName::new(alloc, &Namespace::from_known(namespace), &local)
+    ElementName::new(
+        alloc,
+        Rules::Html5ever,
+        &Namespace::from_known(namespace),
+        &local,
+    )
 }
 
 /// A new node of the forest, opened as an element of this name.
@@ -48,7 +54,7 @@ fn open_each(
 
 // HTML elements of these names are open.
 fn opened(alloc: Global, forest: &mut Forest, names: &[&str]) -> Result<Stack<Forest>, ParseFault> {
-    let mut stack = Stack::new(alloc);
+    let mut stack = Stack::new(alloc, Rules::Html5ever);
     open_each(alloc, forest, &mut stack, names)?;
     Ok(stack)
 }
@@ -276,7 +282,7 @@ fn are_stacked(stack: &mut Stack<Forest>) -> Result<bool, ParseFault> {
 }
 
 fn are_modes_stacked(alloc: Global) -> Result<bool, ParseFault> {
-    let mut stack: Stack<Forest> = Stack::new(alloc);
+    let mut stack: Stack<Forest> = Stack::new(alloc, Rules::Html5ever);
     are_stacked(&mut stack)
 }
 
@@ -459,7 +465,7 @@ fn end(
 // What the end tag leaves open, and how many errors there are.
 fn ended(alloc: Global, open: &str, tag: &str) -> Result<(usize, u64), ParseFault> {
     let mut forest = Forest::new(alloc)?;
-    let mut stack = Stack::new(alloc);
+    let mut stack = Stack::new(alloc, Rules::Html5ever);
     end(alloc, &mut forest, &mut stack, open, tag)?;
     Ok((stack.open_elems().len(), forest.error_count()))
 }

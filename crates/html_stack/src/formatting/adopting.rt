@@ -13,6 +13,7 @@ use crate::formatting::copies::{copy_between, copy_under};
 use crate::formatting::listing::relist;
 use crate::formatting::moves::restack;
 use crate::formatting::placing::{place_before, put_last};
+use html_rules::Rules;
 use html_tokens::Tag;
 use markup::{ParseFault, TreeSink};
 use std::alloc::Global;
@@ -34,6 +35,7 @@ fn first_of<Handle: Copy>(copies: &[OpenElement<Handle>]) -> Option<Handle>
 /// rules have it. Of the stack nothing is copied but handles.
 pub(crate) fn adopt<Sink: TreeSink>(
     alloc: Global,
+    rules: Rules,
     sink: &mut Sink,
     elements: &mut Vec<OpenElement<Sink::Handle>>,
     entries: &mut Vec<FormatEntry<Sink::Handle>>,
@@ -47,7 +49,7 @@ pub(crate) fn adopt<Sink: TreeSink>(
     requires standing { IsStanding (Sink.forest sink.old) (opens_of Sink.node elements.old.items) (entries_of Sink.node entries.old.items) }
     requires turn { (d : OpenElement Sink.Handle) → IsTurn Sink.node elements.old.items
         (entries_of Sink.node entries.old.items) from to tag d }
-    ensures ok { OnOk result ((s : State) (d : OpenElement Sink.Handle) → s.foster_parenting ≡ foster
+    ensures ok { OnOk result ((s : State) (d : OpenElement Sink.Handle) → s.foster_parenting ≡ foster → s.opts.rules ≡ rules
         → with_all s (Sink.forest sink.new) (opens_of Sink.node elements.new.items)
         (entries_of Sink.node entries.new.items) ≡ turned
         (with_all s (Sink.forest sink.old) (opens_of Sink.node elements.old.items)
@@ -64,6 +66,7 @@ pub(crate) fn adopt<Sink: TreeSink>(
     let block = elements[to].handle;
     let copies = copy_between(
         alloc,
+        rules,
         sink,
         entries,
         &elements.as_slice()[from + 1..to],
@@ -71,7 +74,7 @@ pub(crate) fn adopt<Sink: TreeSink>(
     )?;
     let point = place_before(sink, elements.as_slice(), from, foster);
     put_last(sink, point, copies.last)?;
-    let copy = copy_under(alloc, sink, tag, &block)?;
+    let copy = copy_under(alloc, rules, sink, tag, &block)?;
     let first = first_of(copies.elements.as_slice());
     relist(sink, entries, &formatting_element, copy.handle, first);
     restack(elements, from, to, copies.elements, copy);

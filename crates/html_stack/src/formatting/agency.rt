@@ -70,6 +70,7 @@ impl<Sink: TreeSink> Stack<Sink> {
         ensures grows { node_count (Sink.forest sink.old) ≤ node_count (Sink.forest sink.new) }
         ensures fault { IfErr result (λ fault. fault ≡ Memory) }
     {
+        let rules = self.rules();
         let Some(formatting) = formatting_element::<Sink>(self.active_formatting.as_slice(), name)
         else {
             self.process_end_tag_in_body(sink, class, name);
@@ -83,6 +84,7 @@ impl<Sink: TreeSink> Stack<Sink> {
             &mut self.active_formatting,
             formatting,
             foster,
+            rules,
         )
     }
 

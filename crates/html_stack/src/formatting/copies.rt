@@ -15,6 +15,7 @@ use crate::formatting::opening::tag_at;
 use crate::formatting::{listing, positions};
 use crate::inserting::new_element::NewElement;
 use html_names::ElementClass;
+use html_rules::Rules;
 use html_tokens::Tag;
 use markup::{NodeOrText, ParseFault, TreeSink};
 use std::alloc::Global;
@@ -26,6 +27,8 @@ pub(crate) struct Copies<Handle> {
     pub(crate) elements: Vec<OpenElement<Handle>>,
     /// The last copy, or the furthest block.
     pub(crate) last: Handle,
+    /// The rules by whose sets they are asked.
+    pub(crate) rules: Rules,
 }
 
 /// Makes an element that takes a node as its child.
@@ -51,12 +54,13 @@ fn wrap<Sink: TreeSink>(
 /// Makes the element that a tag makes, which takes a node as its child, to be opened.
 fn copy_over<Sink: TreeSink>(
     alloc: Global,
+    rules: Rules,
     sink: &mut Sink,
     tag: Tag,
     last: &Sink::Handle,
 ) -> Result<OpenElement<Sink::Handle>, ParseFault>
     requires { IsMovable (Sink.forest sink.old) (Sink.node last.now) }
-    ensures opened { IfOk result (λ copy. open_of Sink.node copy ≡ opened_for (Sink.forest sink.old) tag) }
+    ensures opened { IfOk result (λ copy. open_of Sink.node copy ≡ opened_for rules (Sink.forest sink.old) tag) }
     ensures ok { OnOk result (Sink.forest sink.new ≡ put
         (remove (with_copy (Sink.forest sink.old) tag) (Sink.node last.now))
         (Last (node_count (Sink.forest sink.old))) (Sink.node last.now)) }
@@ -65,7 +69,7 @@ fn copy_over<Sink: TreeSink>(
     ensures fault { IfErr result (λ fault. fault ≡ Memory) }
 {
     let element = NewElement::for_tag(ElementClass::html(&tag.name), tag);
-    let name = element.open_name(alloc)?;
+    let name = element.open_name(alloc, rules)?;
     let handle = wrap(sink, element, last)?;
     Ok(OpenElement { handle, name })
 }
@@ -94,7 +98,7 @@ fn copy_node<Sink: TreeSink>(
     let Some(tag) = tag_at(alloc, entries.as_slice(), place)? else {
         return Ok(());
     };
-    let copy = copy_over(alloc, sink, tag, &copies.last)?;
+    let copy = copy_over(alloc, copies.rules, sink, tag, &copies.last)?;
     let handle = copy.handle;
     listing::rename(entries, place, handle);
     copies.elements.push_reserved(copy);
@@ -106,6 +110,7 @@ fn copy_node<Sink: TreeSink>(
 /// by copies, where they are listed, and the others leave the list.
 pub(crate) fn copy_between<Sink: TreeSink>(
     alloc: Global,
+    rules: Rules,
     sink: &mut Sink,
     entries: &mut Vec<FormatEntry<Sink::Handle>>,
     elements: &[OpenElement<Sink::Handle>],
@@ -121,6 +126,7 @@ pub(crate) fn copy_between<Sink: TreeSink>(
           active_formatting = entries_of Sink.node entries.old.items;
           copies = [];
           last_node = Sink.node block.now.handle;
+          rules = rules;
         })) }
     ensures kept { OnErr result (KeepsStanding (Sink.forest sink.old) (entries_of Sink.node entries.old.items)
         (Sink.forest sink.new) (entries_of Sink.node entries.new.items)) }
@@ -130,6 +136,7 @@ pub(crate) fn copy_between<Sink: TreeSink>(
     let mut copies = Copies {
         elements: Vec::new(alloc),
         last: block.handle,
+        rules,
     };
     let mut left: usize = 3;
     let mut i = elements.len();
@@ -170,13 +177,14 @@ fn adopt_children<Sink: TreeSink>(
 /// Makes the element that a tag makes, which takes the children of a node and becomes its only child, to be opened.
 pub(crate) fn copy_under<Sink: TreeSink>(
     alloc: Global,
+    rules: Rules,
     sink: &mut Sink,
     tag: Tag,
     block: &Sink::Handle,
 ) -> Result<OpenElement<Sink::Handle>, ParseFault>
     requires block { IsMovable (Sink.forest sink.old) (Sink.node block.now) }
     requires parent { IsParent (Sink.forest sink.old) (Sink.node block.now) }
-    ensures opened { IfOk result (λ copy. open_of Sink.node copy ≡ opened_for (Sink.forest sink.old) tag) }
+    ensures opened { IfOk result (λ copy. open_of Sink.node copy ≡ opened_for rules (Sink.forest sink.old) tag) }
     ensures ok { OnOk result (Sink.forest sink.new ≡ put (reparent_children (with_copy (Sink.forest sink.old) tag)
         (Sink.node block.now) (node_count (Sink.forest sink.old))) (Last (Sink.node block.now)) (node_count (Sink.forest sink.old))) }
     ensures kept { OnErr result (LeavesStanding (Sink.forest sink.old) (Sink.forest sink.new)) }
@@ -184,7 +192,7 @@ pub(crate) fn copy_under<Sink: TreeSink>(
     ensures fault { IfErr result (λ fault. fault ≡ Memory) }
 {
     let element = NewElement::for_tag(ElementClass::html(&tag.name), tag);
-    let name = element.open_name(alloc)?;
+    let name = element.open_name(alloc, rules)?;
     let handle = adopt_children(sink, element, block)?;
     Ok(OpenElement { handle, name })
 }

@@ -22,7 +22,7 @@ use crate::formatting::listing::unlist;
 use crate::formatting::opening::tag_at;
 use crate::formatting::positions::{furthest_block, last_named, on_stack};
 use crate::inserting::walks::has_open;
-use html_rules::TagSet;
+use html_rules::{Rules, TagSet};
 use markup::{LocalName, ParseFault, TreeSink};
 use std::alloc::Global;
 use std::borrow::CowStr;
@@ -101,12 +101,13 @@ fn turn_open<Sink: TreeSink>(
     formatting: FormattingElement<Sink::Handle>,
     from: usize,
     foster: bool,
+    rules: Rules,
 ) -> Result<bool, ParseFault>
     requires listed { (tag : Tag) × IsListedAt Sink.node entries.old.items formatting.place formatting.node tag }
     requires opened { IsNewest (open_of Sink.node) (is_number (Sink.node formatting.node)) elements.old.items from }
     requires scope { in_scope DefaultScope (is_number (Sink.node formatting.node)) (opens_of Sink.node elements.old.items) ≡ true }
     requires standing { IsStanding (Sink.forest sink.old) (opens_of Sink.node elements.old.items) (entries_of Sink.node entries.old.items) }
-    ensures ok { IfOk result (λ goes_on. IsTurnOf foster (Sink.node formatting.node) goes_on (Sink.forest sink.old)
+    ensures ok { IfOk result (λ goes_on. IsTurnOf foster rules (Sink.node formatting.node) goes_on (Sink.forest sink.old)
         (opens_of Sink.node elements.old.items) (entries_of Sink.node entries.old.items) (Sink.forest sink.new)
         (opens_of Sink.node elements.new.items) (entries_of Sink.node entries.new.items)) }
     ensures kept { OnErr result (IsStanding (Sink.forest sink.new) (opens_of Sink.node elements.new.items)
@@ -126,6 +127,7 @@ fn turn_open<Sink: TreeSink>(
     };
     adopt(
         alloc,
+        rules,
         sink,
         elements,
         entries,
@@ -148,13 +150,14 @@ fn turn_placed<Sink: TreeSink>(
     formatting: FormattingElement<Sink::Handle>,
     place: Option<usize>,
     foster: bool,
+    rules: Rules,
 ) -> Result<bool, ParseFault>
     requires listed { (tag : Tag) × IsListedAt Sink.node entries.old.items formatting.place formatting.node tag }
     requires place { MatchOption place
         (is_open (Sink.node formatting.node) (opens_of Sink.node elements.old.items) ≡ false)
         (IsNewest (open_of Sink.node) (is_number (Sink.node formatting.node)) elements.old.items) }
     requires standing { IsStanding (Sink.forest sink.old) (opens_of Sink.node elements.old.items) (entries_of Sink.node entries.old.items) }
-    ensures ok { IfOk result (λ goes_on. IsTurnOf foster (Sink.node formatting.node) goes_on (Sink.forest sink.old)
+    ensures ok { IfOk result (λ goes_on. IsTurnOf foster rules (Sink.node formatting.node) goes_on (Sink.forest sink.old)
         (opens_of Sink.node elements.old.items) (entries_of Sink.node entries.old.items) (Sink.forest sink.new)
         (opens_of Sink.node elements.new.items) (entries_of Sink.node entries.new.items)) }
     ensures kept { OnErr result (IsStanding (Sink.forest sink.new) (opens_of Sink.node elements.new.items)
@@ -173,7 +176,9 @@ fn turn_placed<Sink: TreeSink>(
         sink.parse_error(CowStr::Borrowed("the formatting element that ends is not in scope"));
         return Ok(false);
     }
-    turn_open(alloc, sink, elements, entries, formatting, from, foster)
+    turn_open(
+        alloc, sink, elements, entries, formatting, from, foster, rules,
+    )
 }
 
 /// The place of a listed element among the open elements, of which notes are kept, if it is open.
@@ -208,11 +213,12 @@ pub(crate) fn turn_listed<Sink: TreeSink>(
     entries: &mut Vec<FormatEntry<Sink::Handle>>,
     formatting: FormattingElement<Sink::Handle>,
     foster: bool,
+    rules: Rules,
 ) -> Result<bool, ParseFault>
     requires listed { (tag : Tag) × IsListedAt Sink.node entries.old.items formatting.place formatting.node tag }
     requires noted { IsNoted (named elements.old.items) depths.old }
     requires standing { IsStanding (Sink.forest sink.old) (opens_of Sink.node elements.old.items) (entries_of Sink.node entries.old.items) }
-    ensures ok { IfOk result (λ goes_on. IsTurnOf foster (Sink.node formatting.node) goes_on (Sink.forest sink.old)
+    ensures ok { IfOk result (λ goes_on. IsTurnOf foster rules (Sink.node formatting.node) goes_on (Sink.forest sink.old)
         (opens_of Sink.node elements.old.items) (entries_of Sink.node entries.old.items) (Sink.forest sink.new)
         (opens_of Sink.node elements.new.items) (entries_of Sink.node entries.new.items)) }
     ensures kept { OnErr result (IsStanding (Sink.forest sink.new) (opens_of Sink.node elements.new.items)
@@ -230,7 +236,9 @@ pub(crate) fn turn_listed<Sink: TreeSink>(
         formatting,
     );
     depths.cut_to(place);
-    let goes_on = turn_placed(alloc, sink, elements, entries, formatting, place, foster);
+    let goes_on = turn_placed(
+        alloc, sink, elements, entries, formatting, place, foster, rules,
+    );
     depths.follow(alloc, elements.as_slice());
     goes_on
 }

@@ -155,12 +155,12 @@ impl<Sink: TreeSink> Stack<Sink> {
         ensures named { MakesNext Sink.node (Sink.forest sink.old) result }
         ensures ok { OnOk result (Sink.forest sink.new ≡ with_put Sink.node point (Sink.forest sink.old) element) }
         ensures opened { OnOk result
-            (self.new ≡ record self.old { open_elems = opened_as (Sink.forest sink.old) element ∷ self.old.open_elems }) }
+            (self.new ≡ record self.old { open_elems = opened_as self.old.rules (Sink.forest sink.old) element ∷ self.old.open_elems }) }
         ensures kept { StandsIn (Sink.forest sink.new) self.new }
         ensures grows { node_count (Sink.forest sink.old) ≤ node_count (Sink.forest sink.new) }
         ensures fault { IfErr result (λ fault. fault ≡ Memory) }
     {
-        let name = element.open_name(self.allocator())?;
+        let name = element.open_name(self.allocator(), self.rules())?;
         let handle = put_element(sink, element, point, owner)?;
         self.push(OpenElement { handle, name })?;
         Ok(handle)
@@ -213,13 +213,19 @@ impl<Sink: TreeSink> Stack<Sink> {
         ensures named { MakesNext Sink.node (Sink.forest sink.old) result }
         ensures ok { OnOk result (Sink.forest sink.new ≡ with_put Sink.node point (Sink.forest sink.old) (element_for class.now tag.old)) }
         ensures opened { OnOk result (self.new ≡ record self.old
-            { open_elems = opened_as (Sink.forest sink.old) (element_for class.now tag.old) ∷ self.old.open_elems }) }
+            { open_elems = opened_as self.old.rules (Sink.forest sink.old) (element_for class.now tag.old) ∷ self.old.open_elems }) }
         ensures kept { StandsIn (Sink.forest sink.new) self.new }
         ensures grows { node_count (Sink.forest sink.old) ≤ node_count (Sink.forest sink.new) }
         ensures fault { IfErr result (λ fault. fault ≡ Memory) }
     {
         let html = Namespace::from_known(KnownNamespace::Html);
-        let name = ElementName::with_class(self.allocator(), *class, &html, &tag.name)?;
+        let name = ElementName::with_class(
+            self.allocator(),
+            self.rules(),
+            *class,
+            &html,
+            &tag.name,
+        )?;
         let handle = put_tag(sink, class, tag, point, owner)?;
         self.push(OpenElement { handle, name })?;
         Ok(handle)

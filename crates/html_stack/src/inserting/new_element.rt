@@ -8,6 +8,7 @@ ghost use Rattle.html_stack.specs.Inserting.{IsFor, IsNew, MakesNext, with_made}
 
 use crate::inserting::creating;
 use html_names::{ElementClass, ElementName, ElementNamespace};
+use html_rules::Rules;
 use html_tokens::Tag;
 use markup::{Attributes, KnownNamespace, LocalName, Namespace, ParseFault, QualName, TreeSink};
 use std::alloc::Global;
@@ -74,12 +75,12 @@ impl NewElement {
     }
 
     /// The name of the element, once it is open. It is copied where it is not known.
-    pub(crate) fn open_name(&self, alloc: Global) -> Result<ElementName, ParseFault>
+    pub(crate) fn open_name(&self, alloc: Global, rules: Rules) -> Result<ElementName, ParseFault>
         requires { IsNew self.now }
-        ensures ok { IfOk result (λ name. name ≡ record { namespace = namespace_of self.now.namespace; name = self.now.name }) }
+        ensures ok { IfOk result (λ name. name ≡ record { namespace = namespace_of self.now.namespace; name = self.now.name; rules = rules }) }
         ensures fault { IfErr result (λ fault. fault ≡ Memory) }
     {
-        ElementName::with_class(alloc, self.class, &self.namespace, &self.name)
+        ElementName::with_class(alloc, rules, self.class, &self.namespace, &self.name)
     }
 
     /// Makes the element, which stands nowhere yet. On [`ParseFault::Memory`], the only fault, the tree is as it was.

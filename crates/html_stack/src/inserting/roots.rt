@@ -80,7 +80,7 @@ impl<Sink: TreeSink> Stack<Sink> {
         ensures grows { node_count (Sink.forest sink.old) ≤ node_count (Sink.forest sink.new) }
         ensures fault { IfErr result (λ fault. fault ≡ Memory) }
     {
-        let name = element.open_name(self.allocator())?;
+        let name = element.open_name(self.allocator(), self.rules())?;
         let handle = element.create(sink)?;
         self.push(OpenElement { handle, name })?;
         Ok(handle)

@@ -39,12 +39,12 @@ place_before-point-requires-clause-opened g c =
     let es = entries_of node c.args.entries.now.items in
     let d = c.index-3.result.now in
     let w : Walk = walk_of node f1 c.copy_between.new.entries.items c.in_ok-copies.copies in
-    let e : w ≡ walk 3 (opens_of node (slice_range xs (c.args.from + 1) c.args.to)) (begun f0 (node (get_or xs c.args.to d).handle) es) =
+    let e : w ≡ walk 3 (opens_of node (slice_range xs (c.args.from + 1) c.args.to)) (begun c.args.rules f0 (node (get_or xs c.args.to d).handle) es) =
     (rw c.as_slice.ensures.value at c.in_ok-copies.ensures.ok)
     ∙ ap (λ x. walk 3 (opens_of node (slice_range xs (c.args.from + 1) c.args.to))
-    (begun f0 (node (handle_of x)) es)) c.index-3.ensures in
+    (begun c.args.rules f0 (node (handle_of x)) es)) c.index-3.ensures in
     let a : IsAdoption node f0 xs es c.args.from c.args.to d c.args.foster w = adoption node f0 xs es c.args.from
-    c.args.to d c.args.foster c.args.tag w c.requires.standing c.requires.order c.requires.within (c.requires.turn d) e in
+    c.args.to d c.args.foster c.args.rules c.args.tag w c.requires.standing c.requires.order c.requires.within (c.requires.turn d) e in
     let still = still-opened node f0 xs es c.args.from c.args.to d c.args.foster w a in
     rw c.as_slice-2.ensures.value still
 
@@ -57,12 +57,12 @@ put_last-requires-clause-node g c =
     let es = entries_of node c.args.entries.now.items in
     let d = c.index-3.result.now in
     let w : Walk = walk_of node f1 c.copy_between.new.entries.items c.in_ok-copies.copies in
-    let e : w ≡ walk 3 (opens_of node (slice_range xs (c.args.from + 1) c.args.to)) (begun f0 (node (get_or xs c.args.to d).handle) es) =
+    let e : w ≡ walk 3 (opens_of node (slice_range xs (c.args.from + 1) c.args.to)) (begun c.args.rules f0 (node (get_or xs c.args.to d).handle) es) =
     (rw c.as_slice.ensures.value at c.in_ok-copies.ensures.ok)
     ∙ ap (λ x. walk 3 (opens_of node (slice_range xs (c.args.from + 1) c.args.to))
-    (begun f0 (node (handle_of x)) es)) c.index-3.ensures in
+    (begun c.args.rules f0 (node (handle_of x)) es)) c.index-3.ensures in
     let a : IsAdoption node f0 xs es c.args.from c.args.to d c.args.foster w = adoption node f0 xs es c.args.from
-    c.args.to d c.args.foster c.args.tag w c.requires.standing c.requires.order c.requires.within (c.requires.turn d) e in
+    c.args.to d c.args.foster c.args.rules c.args.tag w c.requires.standing c.requires.order c.requires.within (c.requires.turn d) e in
     let there = a.walked.there in
     rw c.place_before-point.ensures.same there
 
@@ -75,12 +75,12 @@ put_last-requires-clause-point g c =
     let es = entries_of node c.args.entries.now.items in
     let d = c.index-3.result.now in
     let w : Walk = walk_of node f1 c.copy_between.new.entries.items c.in_ok-copies.copies in
-    let e : w ≡ walk 3 (opens_of node (slice_range xs (c.args.from + 1) c.args.to)) (begun f0 (node (get_or xs c.args.to d).handle) es) =
+    let e : w ≡ walk 3 (opens_of node (slice_range xs (c.args.from + 1) c.args.to)) (begun c.args.rules f0 (node (get_or xs c.args.to d).handle) es) =
     (rw c.as_slice.ensures.value at c.in_ok-copies.ensures.ok)
     ∙ ap (λ x. walk 3 (opens_of node (slice_range xs (c.args.from + 1) c.args.to))
-    (begun f0 (node (handle_of x)) es)) c.index-3.ensures in
+    (begun c.args.rules f0 (node (handle_of x)) es)) c.index-3.ensures in
     let a : IsAdoption node f0 xs es c.args.from c.args.to d c.args.foster w = adoption node f0 xs es c.args.from
-    c.args.to d c.args.foster c.args.tag w c.requires.standing c.requires.order c.requires.within (c.requires.turn d) e in
+    c.args.to d c.args.foster c.args.rules c.args.tag w c.requires.standing c.requires.order c.requires.within (c.requires.turn d) e in
     let opened = removed-opened node f0 xs es c.args.from c.args.to d c.args.foster w a in
     let tree = removed-tree node f0 xs es c.args.from c.args.to d c.args.foster w a in
     let point = c.place_before-point.ensures.is_point (remove f1 (node c.in_ok-copies.copies.last)) tree
@@ -96,12 +96,12 @@ put_last-requires-clause-loose g c =
     let es = entries_of node c.args.entries.now.items in
     let d = c.index-3.result.now in
     let w : Walk = walk_of node f1 c.copy_between.new.entries.items c.in_ok-copies.copies in
-    let e : w ≡ walk 3 (opens_of node (slice_range xs (c.args.from + 1) c.args.to)) (begun f0 (node (get_or xs c.args.to d).handle) es) =
+    let e : w ≡ walk 3 (opens_of node (slice_range xs (c.args.from + 1) c.args.to)) (begun c.args.rules f0 (node (get_or xs c.args.to d).handle) es) =
     (rw c.as_slice.ensures.value at c.in_ok-copies.ensures.ok)
     ∙ ap (λ x. walk 3 (opens_of node (slice_range xs (c.args.from + 1) c.args.to))
-    (begun f0 (node (handle_of x)) es)) c.index-3.ensures in
+    (begun c.args.rules f0 (node (handle_of x)) es)) c.index-3.ensures in
     let a : IsAdoption node f0 xs es c.args.from c.args.to d c.args.foster w = adoption node f0 xs es c.args.from
-    c.args.to d c.args.foster c.args.tag w c.requires.standing c.requires.order c.requires.within (c.requires.turn d) e in
+    c.args.to d c.args.foster c.args.rules c.args.tag w c.requires.standing c.requires.order c.requires.within (c.requires.turn d) e in
     let pl = rw c.as_slice-2.ensures.value at (c.place_before-point.ensures.place (remove f1 (node c.in_ok-copies.copies.last))) in
     let loose = last-loose node f0 xs es c.args.from c.args.to d c.args.foster w a in
     rw (c.place_before-point.ensures.same, pl) loose
@@ -115,12 +115,12 @@ returns-in_err-put_last-clause-kept g c =
     let es = entries_of node c.args.entries.now.items in
     let d = c.index-3.result.now in
     let w : Walk = walk_of node f1 c.copy_between.new.entries.items c.in_ok-copies.copies in
-    let e : w ≡ walk 3 (opens_of node (slice_range xs (c.args.from + 1) c.args.to)) (begun f0 (node (get_or xs c.args.to d).handle) es) =
+    let e : w ≡ walk 3 (opens_of node (slice_range xs (c.args.from + 1) c.args.to)) (begun c.args.rules f0 (node (get_or xs c.args.to d).handle) es) =
     (rw c.as_slice.ensures.value at c.in_ok-copies.ensures.ok)
     ∙ ap (λ x. walk 3 (opens_of node (slice_range xs (c.args.from + 1) c.args.to))
-    (begun f0 (node (handle_of x)) es)) c.index-3.ensures in
+    (begun c.args.rules f0 (node (handle_of x)) es)) c.index-3.ensures in
     let a : IsAdoption node f0 xs es c.args.from c.args.to d c.args.foster w = adoption node f0 xs es c.args.from
-    c.args.to d c.args.foster c.args.tag w c.requires.standing c.requires.order c.requires.within (c.requires.turn d) e in
+    c.args.to d c.args.foster c.args.rules c.args.tag w c.requires.standing c.requires.order c.requires.within (c.requires.turn d) e in
     let stands = removed-stands node f0 xs es c.args.from c.args.to d c.args.foster w a in
     on-err c.from_residual-in_err-put_last.result (rw (c.in_err-put_last.ensures.err, c.place_before-point.ensures.same) stands)
 
@@ -133,12 +133,12 @@ copy_under-requires-clause-block g c =
     let es = entries_of node c.args.entries.now.items in
     let d = c.index-3.result.now in
     let w : Walk = walk_of node f1 c.copy_between.new.entries.items c.in_ok-copies.copies in
-    let e : w ≡ walk 3 (opens_of node (slice_range xs (c.args.from + 1) c.args.to)) (begun f0 (node (get_or xs c.args.to d).handle) es) =
+    let e : w ≡ walk 3 (opens_of node (slice_range xs (c.args.from + 1) c.args.to)) (begun c.args.rules f0 (node (get_or xs c.args.to d).handle) es) =
     (rw c.as_slice.ensures.value at c.in_ok-copies.ensures.ok)
     ∙ ap (λ x. walk 3 (opens_of node (slice_range xs (c.args.from + 1) c.args.to))
-    (begun f0 (node (handle_of x)) es)) c.index-3.ensures in
+    (begun c.args.rules f0 (node (handle_of x)) es)) c.index-3.ensures in
     let a : IsAdoption node f0 xs es c.args.from c.args.to d c.args.foster w = adoption node f0 xs es c.args.from
-    c.args.to d c.args.foster c.args.tag w c.requires.standing c.requires.order c.requires.within (c.requires.turn d) e in
+    c.args.to d c.args.foster c.args.rules c.args.tag w c.requires.standing c.requires.order c.requires.within (c.requires.turn d) e in
     let pl = rw c.as_slice-2.ensures.value at (c.place_before-point.ensures.place (remove f1 (node c.in_ok-copies.copies.last))) in
     let block : c.index-2.result.now ≡ get_or xs c.args.to d = c.index-2.ensures
     ∙ get_or_default xs c.args.to c.index-2.result.now d c.requires.within in
@@ -154,12 +154,12 @@ copy_under-requires-clause-parent g c =
     let es = entries_of node c.args.entries.now.items in
     let d = c.index-3.result.now in
     let w : Walk = walk_of node f1 c.copy_between.new.entries.items c.in_ok-copies.copies in
-    let e : w ≡ walk 3 (opens_of node (slice_range xs (c.args.from + 1) c.args.to)) (begun f0 (node (get_or xs c.args.to d).handle) es) =
+    let e : w ≡ walk 3 (opens_of node (slice_range xs (c.args.from + 1) c.args.to)) (begun c.args.rules f0 (node (get_or xs c.args.to d).handle) es) =
     (rw c.as_slice.ensures.value at c.in_ok-copies.ensures.ok)
     ∙ ap (λ x. walk 3 (opens_of node (slice_range xs (c.args.from + 1) c.args.to))
-    (begun f0 (node (handle_of x)) es)) c.index-3.ensures in
+    (begun c.args.rules f0 (node (handle_of x)) es)) c.index-3.ensures in
     let a : IsAdoption node f0 xs es c.args.from c.args.to d c.args.foster w = adoption node f0 xs es c.args.from
-    c.args.to d c.args.foster c.args.tag w c.requires.standing c.requires.order c.requires.within (c.requires.turn d) e in
+    c.args.to d c.args.foster c.args.rules c.args.tag w c.requires.standing c.requires.order c.requires.within (c.requires.turn d) e in
     let pl = rw c.as_slice-2.ensures.value at (c.place_before-point.ensures.place (remove f1 (node c.in_ok-copies.copies.last))) in
     let block : c.index-2.result.now ≡ get_or xs c.args.to d = c.index-2.ensures
     ∙ get_or_default xs c.args.to c.index-2.result.now d c.requires.within in
@@ -175,12 +175,12 @@ returns-in_err-copy-clause-kept g c =
     let es = entries_of node c.args.entries.now.items in
     let d = c.index-3.result.now in
     let w : Walk = walk_of node f1 c.copy_between.new.entries.items c.in_ok-copies.copies in
-    let e : w ≡ walk 3 (opens_of node (slice_range xs (c.args.from + 1) c.args.to)) (begun f0 (node (get_or xs c.args.to d).handle) es) =
+    let e : w ≡ walk 3 (opens_of node (slice_range xs (c.args.from + 1) c.args.to)) (begun c.args.rules f0 (node (get_or xs c.args.to d).handle) es) =
     (rw c.as_slice.ensures.value at c.in_ok-copies.ensures.ok)
     ∙ ap (λ x. walk 3 (opens_of node (slice_range xs (c.args.from + 1) c.args.to))
-    (begun f0 (node (handle_of x)) es)) c.index-3.ensures in
+    (begun c.args.rules f0 (node (handle_of x)) es)) c.index-3.ensures in
     let a : IsAdoption node f0 xs es c.args.from c.args.to d c.args.foster w = adoption node f0 xs es c.args.from
-    c.args.to d c.args.foster c.args.tag w c.requires.standing c.requires.order c.requires.within (c.requires.turn d) e in
+    c.args.to d c.args.foster c.args.rules c.args.tag w c.requires.standing c.requires.order c.requires.within (c.requires.turn d) e in
     let pl = rw c.as_slice-2.ensures.value at (c.place_before-point.ensures.place (remove f1 (node c.in_ok-copies.copies.last))) in
     let stands = placed-stands node f0 xs es c.args.from c.args.to d c.args.foster w a in
     let now : IsStanding (g.Sink.TreeSink.forest c.put_last.new.sink) (opens_of node xs)
@@ -198,37 +198,37 @@ restack-requires-clause-room g c =
     let es = entries_of node c.args.entries.now.items in
     let d = c.index-3.result.now in
     let w : Walk = walk_of node f1 c.copy_between.new.entries.items c.in_ok-copies.copies in
-    let e : w ≡ walk 3 (opens_of node (slice_range xs (c.args.from + 1) c.args.to)) (begun f0 (node (get_or xs c.args.to d).handle) es) =
+    let e : w ≡ walk 3 (opens_of node (slice_range xs (c.args.from + 1) c.args.to)) (begun c.args.rules f0 (node (get_or xs c.args.to d).handle) es) =
     (rw c.as_slice.ensures.value at c.in_ok-copies.ensures.ok)
     ∙ ap (λ x. walk 3 (opens_of node (slice_range xs (c.args.from + 1) c.args.to))
-    (begun f0 (node (handle_of x)) es)) c.index-3.ensures in
+    (begun c.args.rules f0 (node (handle_of x)) es)) c.index-3.ensures in
     let a : IsAdoption node f0 xs es c.args.from c.args.to d c.args.foster w = adoption node f0 xs es c.args.from
-    c.args.to d c.args.foster c.args.tag w c.requires.standing c.requires.order c.requires.within (c.requires.turn d) e in
+    c.args.to d c.args.foster c.args.rules c.args.tag w c.requires.standing c.requires.order c.requires.within (c.requires.turn d) e in
     let ys = slice_range xs (c.args.from + 1) c.args.to in
     let count : length w.copies ≡ length c.in_ok-copies.copies.elements.items =
     length-map c.in_ok-copies.copies.elements.items (open_of node) in
-    let some = walk-count 3 (opens_of node ys) (begun f0 (node (handle_of (get_or xs c.args.to d))) es) in
+    let some = walk-count 3 (opens_of node ys) (begun c.args.rules f0 (node (handle_of (get_or xs c.args.to d))) es) in
     let same : length w.copies ≡ length
-    (walk 3 (opens_of node ys) (begun f0 (node (handle_of (get_or xs c.args.to d))) es)).copies =
+    (walk 3 (opens_of node ys) (begun c.args.rules f0 (node (handle_of (get_or xs c.args.to d))) es)).copies =
     ap (λ (v : Walk). length v.copies) e in
     let opens = opens-count node ys in
     let between = length-between xs (c.args.from + 1) c.args.to (omega (arith, c.requires.within)) in
     omega (arith, c.requires.order, count, some, same, opens, between)
 
 pub returns-clause-ok : goal.returns-clause-ok
-returns-clause-ok g c s d on =
+returns-clause-ok g c s d on by =
     let node = g.Sink.TreeSink.node in
     let f0 = g.Sink.TreeSink.forest c.args.sink.now in
     let f1 = g.Sink.TreeSink.forest c.copy_between.new.sink in
     let xs = c.args.elements.now.items in
     let es = entries_of node c.args.entries.now.items in
     let w : Walk = walk_of node f1 c.copy_between.new.entries.items c.in_ok-copies.copies in
-    let e : w ≡ walk 3 (opens_of node (slice_range xs (c.args.from + 1) c.args.to)) (begun f0 (node (get_or xs c.args.to d).handle) es) =
+    let e : w ≡ walk 3 (opens_of node (slice_range xs (c.args.from + 1) c.args.to)) (begun c.args.rules f0 (node (get_or xs c.args.to d).handle) es) =
     (rw c.as_slice.ensures.value at c.in_ok-copies.ensures.ok)
     ∙ ap (λ x. walk 3 (opens_of node (slice_range xs (c.args.from + 1) c.args.to))
-    (begun f0 (node (handle_of x)) es)) (c.index-3.ensures ∙ get_or_default xs c.args.to c.index-3.result.now d c.requires.within) in
+    (begun c.args.rules f0 (node (handle_of x)) es)) (c.index-3.ensures ∙ get_or_default xs c.args.to c.index-3.result.now d c.requires.within) in
     let a : IsAdoption node f0 xs es c.args.from c.args.to d c.args.foster w = adoption node f0 xs es c.args.from
-    c.args.to d c.args.foster c.args.tag w c.requires.standing c.requires.order c.requires.within (c.requires.turn d) e in
+    c.args.to d c.args.foster c.args.rules c.args.tag w c.requires.standing c.requires.order c.requires.within (c.requires.turn d) e in
     let pl = rw c.as_slice-2.ensures.value at (c.place_before-point.ensures.place (remove f1 (node c.in_ok-copies.copies.last))) in
     let f2 = g.Sink.TreeSink.forest c.put_last.new.sink in
     let n = node (handle_of (get_or xs c.args.from d)) in
@@ -254,8 +254,8 @@ returns-clause-ok g c s d on =
     (Last (node (handle_of x))) (node_count f2)) block in
     let said : listed_as n w.active_formatting ≡ Some (record { number = n; tag = c.args.tag }) =
     ap (λ (v : Walk). listed_as n v.active_formatting) e
-    ∙ walk-keeps f0 b n 3 (opens_of node (slice_range xs (c.args.from + 1) c.args.to)) (begun f0 b es)
-    (opened-Walked f0 (open_of node (get_or xs c.args.to d)) es c.requires.standing.tree c.requires.standing.listed a.named) there
+    ∙ walk-keeps f0 b n 3 (opens_of node (slice_range xs (c.args.from + 1) c.args.to)) (begun c.args.rules f0 b es)
+    (opened-Walked c.args.rules f0 (open_of node (get_or xs c.args.to d)) es c.requires.standing.tree c.requires.standing.listed a.named) there
     (none-between f0 node xs c.args.from c.args.to d c.requires.standing.apart c.requires.order c.requires.within)
     ∙ (c.requires.turn d).listed in
     let ne : node copy.handle ≢ n = λ same. absurd (omega (arith, named, there, more, same)) in
@@ -274,10 +274,10 @@ returns-clause-ok g c s d on =
     ++ opens_of node (take c.args.from xs)) (add-one c.args.to)
     ∙ ap (λ o. opens_of node (drop (suc c.args.to) xs) ++ (o ∷ open_of node (get_or xs c.args.to d) ∷ w.copies)
     ++ opens_of node (take c.args.from xs)) c.in_ok-copy.ensures.opened in
-    turned-is node f0 xs es c.args.from c.args.to d c.args.foster c.args.tag w s f2
+    turned-is node f0 xs es c.args.from c.args.to d c.args.foster c.args.rules c.args.tag w s f2
     (g.Sink.TreeSink.forest c.copy_under.new.sink) (opens_of node c.restack.new.items.items)
     (entries_of node c.relist.new.entries.items)
-    c.requires.standing c.requires.order c.requires.within on e put_is forest_is others_is opens_is
+    c.requires.standing c.requires.order c.requires.within on by e put_is forest_is others_is opens_is
 
 pub returns-in_err-copies-clause-kept : goal.returns-in_err-copies-clause-kept
 returns-in_err-copies-clause-kept g c = on-err c.from_residual.result

@@ -15,20 +15,21 @@ loop-i-init g c =
     let f = g.Sink.TreeSink.forest c.args.sink.now in
     let entries = entries_of node c.args.entries.now.items in
     let start : walk_of node f c.args.entries.now.items
-    (record { elements = c.new.result; last = c.args.block.now.handle }) ≡ begun f (node c.args.block.now.handle) entries =
+    (record { elements = c.new.result; last = c.args.block.now.handle; rules = c.args.rules }) ≡ begun c.args.rules f (node c.args.block.now.handle) entries =
     ap (λ xs. record {
       forest = f;
       active_formatting = entries;
       copies = map (open_of node) xs;
       last_node = node c.args.block.now.handle;
+      rules = c.args.rules;
     }) c.new.ensures.items in
     record {
       within = omega arith;
       walked = subst (λ w. Walked f (node c.args.block.now.handle) w) (sym start)
-          (opened-Walked f (open_of node c.args.block.now) entries c.requires.tree c.requires.listed c.requires.block);
+          (opened-Walked c.args.rules f (open_of node c.args.block.now) entries c.requires.tree c.requires.listed c.requires.block);
       same = ap (λ xs. walk 3 (opens_of node xs)
           (walk_of node f c.args.entries.now.items
-          (record { elements = c.new.result; last = c.args.block.now.handle })))
+          (record { elements = c.new.result; last = c.args.block.now.handle; rules = c.args.rules })))
           (take-length c.args.elements.now) ∙ ap (walk 3 (opens_of node c.args.elements.now)) start;
     }
 

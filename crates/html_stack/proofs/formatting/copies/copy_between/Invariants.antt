@@ -18,6 +18,7 @@ invariant-loop-i g l = record {
         active_formatting = entries_of g.Sink.TreeSink.node l.fn.entries.items;
         copies = [];
         last_node = g.Sink.TreeSink.node l.block.handle;
+        rules = l.fn.rules;
       });
 }
 

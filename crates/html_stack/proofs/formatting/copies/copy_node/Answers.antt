@@ -33,10 +33,10 @@ returns-clause-ok g c =
     rw c.as_slice.ensures.value at c.in-Some.ensures in
     let told : IsTagAt items c.in-Some.place (Some c.in-Some-2.tag) = subst (IsTagAt items c.in-Some.place)
     c.in-Some-2.is (rw c.as_slice-2.ensures.value at c.in_ok-tag.ensures.tag) in
-    ap (λ xs. walk_of node k xs (record { elements = c.push_reserved.new.self; last = copy.handle })) (c.rename.ensures Marker)
+    ap (λ xs. walk_of node k xs (record { elements = c.push_reserved.new.self; last = copy.handle; rules = c.args.copies.now.rules })) (c.rename.ensures Marker)
     ∙ copied node f k items c.in-Some.place (node c.args.node.now) told.0 c.in-Some-2.tag c.args.copies.now
-    (record { elements = c.push_reserved.new.self; last = copy.handle }) copy is told.1 c.in_ok-copy.ensures.ok c.in_ok-copy.ensures.opened
-    (c.push_reserved.ensures.items ∙ ap (λ xs. xs ++ copy ∷ []) c.in_ok-reserve.ensures.items) refl
+    (record { elements = c.push_reserved.new.self; last = copy.handle; rules = c.args.copies.now.rules }) copy is told.1 c.in_ok-copy.ensures.ok c.in_ok-copy.ensures.opened
+    (c.push_reserved.ensures.items ∙ ap (λ xs. xs ++ copy ∷ []) c.in_ok-reserve.ensures.items) refl refl
 
 pub returns-in_default-2-clause-ok : goal.returns-in_default-2-clause-ok
 returns-in_default-2-clause-ok g c =

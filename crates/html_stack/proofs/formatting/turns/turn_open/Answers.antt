@@ -35,7 +35,7 @@ returns-in_default-clause-ok g c name s on =
     (rest-is xs c.as_slice-2.result.now (c.args.from + 1) c.as_slice-2.ensures.value)) ∙ c.in_default.ensures in
     let left = ap (λ zs. opens_of node zs) c.truncate.ensures.items ∙ sym (before-place node n xs c.args.from d is) in
     rw (told_is, c.unlist.ensures)
-    (turn-cut c.args.foster f (opens_of node xs) (opens_of node c.truncate.new.self.items) es fe
+    (turn-cut c.args.foster c.args.rules f (opens_of node xs) (opens_of node c.truncate.new.self.items) es fe
     c.requires.listed.1.newest (newest-open node n xs c.args.from is) c.requires.scope none left name s on)
 
 pub returns-in_err-tag-clause-kept : goal.returns-in_err-tag-clause-kept
@@ -120,10 +120,10 @@ returns-clause-ok g c =
     (get_or items c.args.formatting.place Marker) said.1 c.requires.listed.1.entry in
     let block = open_of node (get_or xs (c.args.from + 1 + c.in-Some.block) d) in
     rw c.pop.ensures
-    (turn-adopt c.args.foster f (g.Sink.TreeSink.forest c.adopt.new.sink) (opens_of node xs)
+    (turn-adopt c.args.foster c.args.rules f (g.Sink.TreeSink.forest c.adopt.new.sink) (opens_of node xs)
     (opens_of node c.adopt.new.elements.items) es (entries_of node c.adopt.new.entries.items) fe block
     c.requires.listed.1.newest (newest-open node n xs c.args.from is) c.requires.scope some
-    (λ s on. c.in_ok-adopt.ensures.ok s d on
+    (λ s on by. c.in_ok-adopt.ensures.ok s d on by
     ∙ ap (λ h. turned (with_all s h (opens_of node xs) es) (record {
       number = node (get_or xs c.args.from d).handle;
       tag = c.in-Some-2.tag;

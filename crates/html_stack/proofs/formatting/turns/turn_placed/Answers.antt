@@ -35,7 +35,7 @@ returns-in_default-clause-ok g c name s on =
     let es = entries_of node c.args.entries.now.items in
     let fe : Listed = record { number = n; tag = c.requires.listed.0 } in
     let closed : is_open n (opens_of node xs) ≡ false = no-place c.args.place _ _ c.in_default.not-Some c.requires.place in
-    rw (c.parse_error.ensures, c.unlist.ensures) (turn-closed c.args.foster (g.Sink.TreeSink.forest c.args.sink.now)
+    rw (c.parse_error.ensures, c.unlist.ensures) (turn-closed c.args.foster c.args.rules (g.Sink.TreeSink.forest c.args.sink.now)
     (opens_of node xs) es fe c.requires.listed.1.newest closed name s on)
 
 pub returns-then-has_open-clause-ok : goal.returns-then-has_open-clause-ok
@@ -50,7 +50,7 @@ returns-then-has_open-clause-ok g c name s on =
     let scope : in_scope DefaultScope (is_number n) (opens_of node xs) ≡ false =
     scope-place node n xs later c.in-Some.from (any-of xs c.in-Some.from is.within) is
     (rest-is xs c.as_slice.result.now (c.in-Some.from + 1) c.as_slice.ensures.value) ∙ ap not (sym (c.if-has_open.ensures node)) in
-    rw c.parse_error-then-has_open.ensures (turn-bounded c.args.foster (g.Sink.TreeSink.forest c.args.sink.now)
+    rw c.parse_error-then-has_open.ensures (turn-bounded c.args.foster c.args.rules (g.Sink.TreeSink.forest c.args.sink.now)
     (opens_of node xs) es fe c.requires.listed.1.newest (newest-open node n xs c.in-Some.from is) scope name s on)
 
 pub turn_open-requires-clause-scope : goal.turn_open-requires-clause-scope

@@ -65,15 +65,18 @@ returns-clause-ok g c =
     let name = c.args.name.now in
     let items = c.self.inside.active_formatting.items in
     let modes = reverse c.self.inside.template_modes.items in
+    let ruled : c.self.inside.rules ≡ c.rules-rules.result = ap (λ (v : Stacked). v.rules) c.self.view_is ∙ sym c.rules-rules.ensures in
     let old : Stacked = record {
       open_elems = opens_of node c.self.inside.open_elems.items;
       active_formatting = entries_of node items;
       template_modes = modes;
+      rules = c.rules-rules.result;
     } in
     let new : Stacked = record {
       open_elems = opens_of node c.turn_listed.new.elements.items;
       active_formatting = entries_of node c.turn_listed.new.entries.items;
       template_modes = modes;
+      rules = c.self.inside.rules;
     } in
     let tag = c.in-Some.ensures.0 in
     let is : IsFormatting node name items c.in-Some.formatting.place c.in-Some.formatting.node tag =
@@ -83,7 +86,7 @@ returns-clause-ok g c =
     let fe : Listed = record { number = node c.in-Some.formatting.node; tag = tag } in
     let newest = named-newest f name (entries_of node items) fe standing.listed is.found in
     IfOk-weaker c.turn_listed.result _ _ (λ goes_on turn s on. turn-named c.args.foster name goes_on old new f h fe
-    is.found newest refl turn s on ∙ ap (λ v. adoption_turn name (joined s v f)) c.self.view_is) c.turn_listed.ensures.ok
+    is.found newest refl ruled turn s on ∙ ap (λ v. adoption_turn name (joined s v f)) (ap (λ rules. record old { rules = rules }) (sym ruled) ∙ c.self.view_is)) c.turn_listed.ensures.ok
 
 pub returns-clause-kept : goal.returns-clause-kept
 returns-clause-kept g c =
@@ -93,15 +96,18 @@ returns-clause-kept g c =
     let name = c.args.name.now in
     let items = c.self.inside.active_formatting.items in
     let modes = reverse c.self.inside.template_modes.items in
+    let ruled : c.self.inside.rules ≡ c.rules-rules.result = ap (λ (v : Stacked). v.rules) c.self.view_is ∙ sym c.rules-rules.ensures in
     let old : Stacked = record {
       open_elems = opens_of node c.self.inside.open_elems.items;
       active_formatting = entries_of node items;
       template_modes = modes;
+      rules = c.rules-rules.result;
     } in
     let new : Stacked = record {
       open_elems = opens_of node c.turn_listed.new.elements.items;
       active_formatting = entries_of node c.turn_listed.new.entries.items;
       template_modes = modes;
+      rules = c.self.inside.rules;
     } in
     let tag = c.in-Some.ensures.0 in
     let is : IsFormatting node name items c.in-Some.formatting.place c.in-Some.formatting.node tag =
@@ -112,5 +118,5 @@ returns-clause-kept g c =
     let newest = named-newest f name (entries_of node items) fe standing.listed is.found in
     turned-kept name c.args.foster old new f h c.turn_listed.result
     (IfOk-weaker c.turn_listed.result _ _
-    (λ goes_on turn s on. turn-named c.args.foster name goes_on old new f h fe is.found newest refl turn s on)
+    (λ goes_on turn s on. turn-named c.args.foster name goes_on old new f h fe is.found newest refl ruled turn s on)
     c.turn_listed.ensures.ok) c.turn_listed.ensures.kept standing

@@ -9,6 +9,7 @@ invariant-loop-implied g l = record {
   left : left_by_implied l.implied (passes l.except) l.self.open_elems ≡ left_by_implied l.implied (passes l.except) l.fn.self.open_elems;
   listed : l.self.active_formatting ≡ l.fn.self.active_formatting;
   modes : l.self.template_modes ≡ l.fn.self.template_modes;
+  rules : l.self.rules ≡ l.fn.self.rules;
   same : g.Sink.TreeSink.forest l.sink ≡ g.Sink.TreeSink.forest l.fn.sink;
   opened : AreOpened (g.Sink.TreeSink.forest l.sink) l.self.open_elems;
 }

@@ -6,6 +6,7 @@ abbrev pub invariant-loop-self : goal.invariant-loop-self
 invariant-loop-self g l = record {
   listed : l.self.active_formatting ≡ l.fn.self.active_formatting;
   modes : l.self.template_modes ≡ l.fn.self.template_modes;
+  rules : l.self.rules ≡ l.fn.self.rules;
   same : g.Sink.TreeSink.forest l.sink ≡ g.Sink.TreeSink.forest l.fn.sink;
   opened : AreOpened (g.Sink.TreeSink.forest l.sink) l.self.open_elems;
 }

@@ -11,6 +11,6 @@ returns-in_err-push-clause-kept g c = rw c.in_err-push.ensures.err
 
 pub returns-clause-kept : goal.returns-clause-kept
 returns-clause-kept g c =
-    rw (c.in_ok-push.ensures.ok, c.in_ok-handle.ensures.ok, c.in_ok-handle.ensures.named, c.in_ok-name.ensures.ok)
-    (opens-Standing g.Sink.TreeSink.node c.args.point (g.Sink.TreeSink.forest c.args.sink.now) c.args.element
+    rw (c.in_ok-push.ensures.ok, c.in_ok-handle.ensures.ok, c.in_ok-handle.ensures.named, c.in_ok-name.ensures.ok, c.rules.ensures)
+    (opens-Standing c.args.self.now.rules g.Sink.TreeSink.node c.args.point (g.Sink.TreeSink.forest c.args.sink.now) c.args.element
     c.args.self.now.open_elems c.args.self.now.active_formatting c.requires.point c.requires.standing)

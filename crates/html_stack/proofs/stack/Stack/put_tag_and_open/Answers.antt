@@ -15,7 +15,14 @@ returns-in_err-push-clause-kept g c = rw c.in_err-push.ensures.err
 
 pub returns-clause-kept : goal.returns-clause-kept
 returns-clause-kept g c =
-    rw (c.in_ok-push.ensures.ok, c.in_ok-handle.ensures.ok, c.in_ok-handle.ensures.named, c.in_ok-name.ensures.ok, c.from_known-html.ensures)
-    (opens-Standing g.Sink.TreeSink.node c.args.point (g.Sink.TreeSink.forest c.args.sink.now)
+    rw (
+      c.in_ok-push.ensures.ok,
+      c.in_ok-handle.ensures.ok,
+      c.in_ok-handle.ensures.named,
+      c.in_ok-name.ensures.ok,
+      c.rules.ensures,
+      c.from_known-html.ensures,
+    )
+    (opens-Standing c.args.self.now.rules g.Sink.TreeSink.node c.args.point (g.Sink.TreeSink.forest c.args.sink.now)
     (element_for c.args.class.now c.args.tag.now) c.args.self.now.open_elems c.args.self.now.active_formatting
     c.requires.point c.requires.standing)
