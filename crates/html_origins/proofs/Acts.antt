@@ -17,7 +17,7 @@ use Rattle.html_rules.specs.Actions.{set_form_elem}
 use Rattle.html_rules.specs.Actions.{set_foster_parenting, set_head_elem, set_ignore_lf, set_mode, set_template_mode}
 use Rattle.html_rules.specs.Conditions.{holds}
 use Rattle.html_rules.specs.Choice.{choose}
-use Rattle.html_rules.specs.ForeignContent.{ends_foreign, enter_foreign, foreign_start, pop_foreign}
+use Rattle.html_rules.specs.ForeignContent.{ends_foreign_in, enter_foreign, foreign_start, pop_foreign}
 use Rattle.html_rules.specs.Formatting.{create_formatting_element_for}
 use Rattle.html_rules.specs.Names.{Html}
 use Rattle.html_rules.specs.Places.{insert_and_pop_element_for, insert_element_for}
@@ -192,8 +192,8 @@ still-fits a _ t s error fits = record { root = fits.root; body = fits.body; doc
 still-fits a _ t s fostering fits = record { root = fits.root; body = fits.body; document = fits.document }
 still-fits a _ t s framing fits = record { root = fits.root; body = fits.body; document = fits.document }
 still-fits a _ t s popping fits = record {
-  root = λ tag e n. root-left a s.forest tag.name (fits.document tag e n) ends_foreign s.open_elems (fits.root tag e n);
-  body = λ tag e n. body-left a s.forest tag.name ends_foreign s.open_elems (fits.body tag e n);
+  root = λ tag e n. root-left a s.forest tag.name (fits.document tag e n) (ends_foreign_in s) s.open_elems (fits.root tag e n);
+  body = λ tag e n. body-left a s.forest tag.name (ends_foreign_in s) s.open_elems (fits.body tag e n);
   document = fits.document;
 }
 still-fits a _ t s (both x y p q) fits = still-fits a y t (act x t s) q (still-fits a x t s p fits)

@@ -120,7 +120,7 @@ module _ (a : Allowed) (known : a.namespace Html) where
     elements = put-from a (remove (with_copy w.forest listed.tag) w.last_node) (Last (node_count w.forest)) w.last_node
         (remove-from a (with_copy w.forest listed.tag) w.last_node (copied-from w.forest listed.tag k h.elements));
     listed = in_place-listed listed.number (node_count w.forest) listed.tag w.active_formatting k h.listed;
-    copies = append-opened w.copies (opened_for w.forest listed.tag ∷ []) h.copies (known, tt);
+    copies = append-opened w.copies (opened_for w.rules w.forest listed.tag ∷ []) h.copies (known, tt);
   }
 
   copied-walked : (o : Option Listed) (w : Walk) → IsKept o → IsWalked w → IsWalked (copy_if o w)
@@ -147,9 +147,9 @@ module _ (a : Allowed) (known : a.namespace Html) where
         elements = put-from a moved (Last block.number) (node_count placed)
             (reparented-from a (with_copy placed fe.tag) block.number (node_count placed) copied);
         listed = relist-listed fe.number (node_count placed) fe.tag w.copies w.active_formatting k h.listed;
-        opened = append-opened (opened_after block.number s.open_elems ++ opened_for placed fe.tag ∷ block ∷ w.copies)
+        opened = append-opened (opened_after block.number s.open_elems ++ opened_for s.opts.rules placed fe.tag ∷ block ∷ w.copies)
             (opened_before fe.number s.open_elems)
-            (append-opened (opened_after block.number s.open_elems) (opened_for placed fe.tag ∷ block ∷ w.copies)
+            (append-opened (opened_after block.number s.open_elems) (opened_for s.opts.rules placed fe.tag ∷ block ∷ w.copies)
             (later-opened block.number s.open_elems is.opened) (known, (b, h.copies)))
             (earlier-opened fe.number s.open_elems is.opened);
         context = is.context;

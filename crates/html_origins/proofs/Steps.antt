@@ -12,7 +12,7 @@ use Rattle.html_tokens.specs.declared.token.Doctype.{Doctype}
 use Rattle.html_rules.specs.Actions.{append_in_body, frameset_not_ok_unless_white, insert_pending_text, insert_table_text, push_head}
 use Rattle.html_rules.specs.Actions.{push_head_elem, remove_from_stack_if, set_foster_parenting, set_quirks_mode}
 use Rattle.html_rules.specs.Choice.{choose}
-use Rattle.html_rules.specs.ForeignContent.{ForeignEnd, Dropped, AsInMode, Closed, close_foreign, close_foreign_by, ends_foreign}
+use Rattle.html_rules.specs.ForeignContent.{ForeignEnd, Dropped, AsInMode, Closed, close_foreign, close_foreign_by, ends_foreign_in}
 use Rattle.html_rules.specs.ForeignContent.{enter_foreign, foreign_end}
 use Rattle.html_rules.specs.ForeignContent.{foreign_end_from, foreign_start, foreign_start_at, is_html_element, is_named_any_case}
 use Rattle.html_rules.specs.ForeignContent.{pop_foreign}
@@ -403,7 +403,7 @@ module _ (a : Allowed) where
 
   pub pop_foreign-from : Keeps pop_foreign
   unfolding pop_foreign
-  pop_foreign-from s is = pop_until_current-from ends_foreign s is
+  pop_foreign-from s is = pop_until_current-from (ends_foreign_in s) s is
 
   abbrev IsLeft : ForeignEnd → Type 0
   IsLeft (Closed left) = AreOpenAllowed a left

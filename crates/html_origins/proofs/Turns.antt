@@ -28,7 +28,7 @@ use Rattle.html_rules.specs.Rules.{using_rules_for, within}
 use Rattle.html_rules.specs.Sets.{is_among, names_of}
 use Rattle.html_rules.specs.Stack.{body_elem, parse_error, root_number}
 use Rattle.html_rules.specs.State.{Open, State, current_number, hushed}
-use Rattle.html_rules.specs.Step.{after_line_feed, answered, doctype_taken, first_doctype_taken, followed_by, if_kept, is_idle}
+use Rattle.html_rules.specs.Step.{after_line_feed, answered, doctype_settled, doctype_taken, ends_table_text, first_doctype_taken, followed_by, if_kept, is_idle}
 use Rattle.html_rules.specs.Step.{refusal_of, step}
 use Rattle.html_rules.specs.Step.{step_by, taken, taken_by, text_taken, untouched}
 use Rattle.html_rules.specs.Table as table
@@ -357,17 +357,22 @@ module _ (a : Allowed) (roots : AreRootsAllowed a) (F : Fitting a) where
       let told : State = choose (doctype_error d) (λ _. parse_error s) (λ _. s) in
       let h : IsStateAllowed a told = choose-from a (doctype_error d) (parse_error s) s (error-from a s is) is in
       let k : IsStateAllowed a (if_kept s.opts.drop_doctype d told) = doctype_if-from s.opts.drop_doctype d told h in
-      mode-from mode.BeforeHtml (set_quirks_mode (quirks_of s.opts.iframe_srcdoc d) (if_kept s.opts.drop_doctype d told))
-      (quirks-from a (quirks_of s.opts.iframe_srcdoc d) (if_kept s.opts.drop_doctype d told) k)
+      mode-from mode.BeforeHtml (set_quirks_mode (quirks_of s.opts.rules s.opts.iframe_srcdoc d) (if_kept s.opts.drop_doctype d told))
+      (quirks-from a (quirks_of s.opts.rules s.opts.iframe_srcdoc d) (if_kept s.opts.drop_doctype d told) k)
 
   doctypes-from : (m : InsertionMode) (d : Doctype) → Keeps a (doctype_taken m d)
   doctypes-from mode.Initial d s is = first_doctype-from d s is
   doctypes-from _ d s is = error-from a s is
 
+  doctype_settled-from : (e : Bool) (d : Doctype) (s : State) → IsTokenAllowed a (DoctypeToken d) → HoldsOn (DoctypeToken d) s
+      → IsStateAllowed a s → IsStateAllowed a (doctype_settled e d s).state
+  doctype_settled-from true d s from holds is = settle-from (DoctypeToken d) from s holds is
+  doctype_settled-from false d s from holds is = doctypes-from s.mode d s is
+
   by-from : (b : Bool) (t : Token) (s : State) → IsTokenAllowed a t → HoldsOn t s → IsStateAllowed a s
       → IsStateAllowed a (taken_by b t s).state
   by-from b (CharacterTokens text) s from holds is = texts-from (after_line_feed b text) (untouched s) is
-  by-from b (DoctypeToken d) s from holds is = doctypes-from s.mode d s is
+  by-from b (DoctypeToken d) s from holds is = doctype_settled-from (ends_table_text s.opts.rules s.mode) d s from holds is
   by-from b (TagToken tag) s from holds is = settle-from (TagToken tag) from s holds is
   by-from b (CommentToken text) s from holds is = settle-from (CommentToken text) from s holds is
   by-from b NullCharacterToken s from holds is = settle-from NullCharacterToken from s holds is

@@ -24,6 +24,7 @@ use Rattle.html_plain.proofs.Frames.{documents-framed}
 use Rattle.html_plain.proofs.WrittenForms.{element-written}
 use Rattle.html_round_trip.specs.Planting.Planted.{planted}
 use Rattle.html_round_trip.proofs.Planting.PlainTrees.{document-walked, plain-plantable}
+use Rattle.html_rules.specs.Actions.{set_ignore_lf}
 use Rattle.html_rules.specs.Documents.{document}
 use Rattle.html_rules.specs.ForeignContent.{asks_cdata}
 use Rattle.html_rules.specs.Sets.{names_of}
@@ -119,7 +120,7 @@ module _ (rows : List Row) (reads : ReadsEscapes rows) (sc : Bool) (o : Around) 
   pub doctype-takes : (f : Forest) → f.errors ≡ 0 → f.quirks ≡ NoQuirks
       → TakesQuietly rows (at o None mode.Initial f [] [] true) (doctype_token (codes "html"))
       (at o None mode.BeforeHtml (put_new f (Last 0) doctype_node) [] [] true) Continue
-  unfolding is_fit taken
+  unfolding is_fit taken set_ignore_lf
   doctype-takes f silent quirks = takes-from rows _ _ (doctype_token (codes "html")) Continue
       (record { goes_on = refl; fit = refl; free = refl; keeps_lf = refl; silent = silent }) refl
       (doctype-taken o f quirks) refl silent (λ pauses. refl)

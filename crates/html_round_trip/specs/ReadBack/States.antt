@@ -14,6 +14,7 @@ use Rattle.html_rules.specs.Names.{Html}
 use Rattle.html_rules.specs.State.{Answers, Entry, Open, Options, State}
 use Rattle.html_rules.specs.declared.insertion_mode.InsertionMode.{InsertionMode}
 use Rattle.html_rules.specs.declared.insertion_mode.InsertionMode.TheVariants as mode
+use Rattle.html_rules.specs.declared.rules.Rules.TheVariants.{Html5ever}
 
 -- what does not change: whether scripts run, and what the sink answers
 pub record Around : Type 0 where
@@ -21,7 +22,7 @@ pub record Around : Type 0 where
   pub answers : Answers
 
 abbrev pub options_of : Around → Options
-options_of around = record { scripting_enabled = around.scripting; iframe_srcdoc = false; drop_doctype = false }
+options_of around = record { scripting_enabled = around.scripting; iframe_srcdoc = false; drop_doctype = false; rules = Html5ever }
 
 -- what does
 pub record Inner : Type 0 where
@@ -58,7 +59,7 @@ state around inner = record {
 
 -- an open element
 abbrev pub opened : ℕ → PlainElement → Open
-opened n k = record { number = n; namespace = Html; name = spelled k }
+opened n k = record { number = n; namespace = Html; name = spelled k; rules = Html5ever }
 
 -- a state in a mode, where no text waits
 abbrev pub at : Around → Option ℕ → InsertionMode → Forest → List Open → List Entry → Bool → State
