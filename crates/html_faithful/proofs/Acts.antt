@@ -26,6 +26,7 @@ use Rattle.html_rules.specs.Table.{Action, Condition}
 use Rattle.html_rules.specs.Table as table
 use Rattle.html_rules.specs.Tokens.{is_white, name_of, text_of}
 use Rattle.html_rules.specs.declared.insertion_mode.InsertionMode.{InsertionMode}
+use Rattle.html_rules.specs.declared.rules.Rules.TheVariants.{Html5ever}
 use Rattle.html_rules.specs.declared.tag_set.TagSet.{TagSet}
 use Rattle.html_rules.specs.declared.tag_set.TagSet.TheVariants as set
 use Rattle.html_faithful.specs.Faces.{Face, Looks, bare, face}
@@ -225,21 +226,23 @@ module _ (p : Spot) (before : State) (looks₀ : Looks before p) where
           h.5,
           h.6,
           h.7,
+          h.8,
         ))
 
     -- an element that was put and opened
     abbrev with_opened : Namespace → List ℕ → List Attribute → Made
     with_opened namespace name attributes = record made {
       put = Some (put.Element namespace name attributes true);
-      spot = record made.spot { path = opened_at namespace name made.spot.path ∷ made.spot.path };
+      spot = record made.spot { path = opened_at made.spot.rules namespace name made.spot.path ∷ made.spot.path };
     }
 
     opened-after : (namespace : Namespace) (name : List ℕ) (attributes : List Attribute) → is_fresh made ≡ true
         → Comes t before (insert_element namespace name attributes (had_duplicates t) s) (with_opened namespace name attributes)
     unfolding insert_element put_element
     opened-after namespace name attributes e = (
-      ap (λ (f : Face). record f { names = record { number = 0; namespace = namespace; name = name } ∷ f.names }) h.0,
-      ap₂ (λ f xs. record { number = node_count f; namespace = namespace; name = name } ∷ xs) (forest-same e) (stack-same e)
+      ap (λ (f : Face). record f { names = record { number = 0; namespace = namespace; name = name; rules = f.rules } ∷ f.names }) h.0,
+      ap₂ (λ f xs. record { number = node_count f; namespace = namespace; name = name; rules = s.opts.rules } ∷ xs) (forest-same e) (stack-same e)
+          ∙ ap (λ rules. record { number = node_count before.forest; namespace = namespace; name = name; rules = rules } ∷ before.open_elems) h.8
           ∙ sym (ap (λ c. stack_by (Some (put.Element namespace name attributes true)) c before) (not-closed made.put made.closed e)),
       alike (λ r. (put_element namespace name attributes (had_duplicates t) r).forest) s.foster_parenting s.open_elems s.forest
           (foster-same s made.spot h.0) (stack-same e) (forest-same e),
@@ -248,6 +251,7 @@ module _ (p : Spot) (before : State) (looks₀ : Looks before p) where
       h.5,
       h.6,
       h.7,
+      h.8,
     )
 
     opened : (namespace : Namespace) (name : List ℕ) (attributes : List Attribute)
@@ -277,6 +281,7 @@ module _ (p : Spot) (before : State) (looks₀ : Looks before p) where
       h.5,
       h.6,
       h.7,
+      h.8,
     )
 
     current-there : (q : Open → Bool) → ((x : Open) → q (bare x) ≡ q x)
@@ -330,7 +335,7 @@ module _ (p : Spot) (before : State) (looks₀ : Looks before p) where
   entered namespace tag s plain = rw plain refl
 
   head_or : List Open → Open
-  head_or [] = record { number = 0; namespace = Html; name = [] }
+  head_or [] = record { number = 0; namespace = Html; name = []; rules = Html5ever }
   head_or (x ∷ xs) = x
 
   foreign-there : (tag : Tag) (s : State) (c : Option Open) (xs ys : List Open) (y : Open) → c ≡ None → map bare xs ≡ map bare (y ∷ ys)
@@ -394,6 +399,7 @@ module _ (p : Spot) (before : State) (looks₀ : Looks before p) where
         o.5,
         o.6,
         o.7,
+        o.8,
       )))
 
   -- FOR END TAGS
@@ -558,6 +564,7 @@ module _ (p : Spot) (before : State) (looks₀ : Looks before p) where
           o.5,
           o.6,
           o.7,
+          o.8,
         ))))
         (λ u. tt)
 
@@ -677,10 +684,10 @@ module _ (p : Spot) (before : State) (looks₀ : Looks before p) where
         (ap₂ is_settled (stack-same t s made h parts.0) (list-same t s made h parts.1) ∙ settled))
     follows table.InsertMarker s made h =
         if-so (is_unchanged made.change) (record made { change = MarkerPushed }) (λ m. Comes t before (push_marker s) m)
-        (λ e. (h.0, h.1, h.2, ap (λ es. Marker ∷ es) (list-same t s made h e), λ u. absurd (no-end (is_fresh made) u), h.5, h.6, h.7))
+        (λ e. (h.0, h.1, h.2, ap (λ es. Marker ∷ es) (list-same t s made h e), λ u. absurd (no-end (is_fresh made) u), h.5, h.6, h.7, h.8))
     follows table.ClearToMarker s made h =
         if-so (is_unchanged made.change) (record made { change = MarkerLeft }) (λ m. Comes t before (clear_active_formatting_to_marker s) m)
-        (λ e. (h.0, h.1, h.2, ap after_marker (list-same t s made h e), λ u. absurd (no-end (is_fresh made) u), h.5, h.6, h.7))
+        (λ e. (h.0, h.1, h.2, ap after_marker (list-same t s made h e), λ u. absurd (no-end (is_fresh made) u), h.5, h.6, h.7, h.8))
     follows table.SetFormElem s made h =
         if-so (is_opened made.put && not made.closed) (record made { form = FormSet }) (λ m. Comes t before (set_form_elem s) m)
         (λ e. (
@@ -692,17 +699,18 @@ module _ (p : Spot) (before : State) (looks₀ : Looks before p) where
           ap (λ n. Some n) (ap current_number h.1 ∙ opened-number before made.put made.closed e),
           h.6,
           h.7,
+          h.8,
         ))
     follows table.ForgetFormElem s made h =
         if-so made.closed (record made { form = FormForgotten }) (λ m. Comes t before (forget_form_elem s) m)
-        (λ e. (h.0, h.1, h.2, h.3, λ u. absurd (not-fresh made.put made.closed (is_unchanged made.change) e u), refl, h.6, h.7))
-    follows table.FramesetNotOk s made h = (ap (λ (f : Face). record f { frameset_ok = false }) h.0, h.1, h.2, h.3, h.4, h.5, h.6, h.7)
+        (λ e. (h.0, h.1, h.2, h.3, λ u. absurd (not-fresh made.put made.closed (is_unchanged made.change) e u), refl, h.6, h.7, h.8))
+    follows table.FramesetNotOk s made h = (ap (λ (f : Face). record f { frameset_ok = false }) h.0, h.1, h.2, h.3, h.4, h.5, h.6, h.7, h.8)
     follows table.FramesetNotOkUnlessWhite s made h =
-        (ap (λ (f : Face). record f { frameset_ok = f.frameset_ok && is_white (text_of t) }) h.0, h.1, h.2, h.3, h.4, h.5, h.6, h.7)
-    follows (table.SwitchTo mode) s made h = (ap (λ (f : Face). record f { mode = mode }) h.0, h.1, h.2, h.3, h.4, h.5, h.6, h.7)
-    follows table.SaveMode s made h = (ap (λ (f : Face). record f { orig_mode = Some f.mode }) h.0, h.1, h.2, h.3, h.4, h.5, h.6, h.7)
+        (ap (λ (f : Face). record f { frameset_ok = f.frameset_ok && is_white (text_of t) }) h.0, h.1, h.2, h.3, h.4, h.5, h.6, h.7, h.8)
+    follows (table.SwitchTo mode) s made h = (ap (λ (f : Face). record f { mode = mode }) h.0, h.1, h.2, h.3, h.4, h.5, h.6, h.7, h.8)
+    follows table.SaveMode s made h = (ap (λ (f : Face). record f { orig_mode = Some f.mode }) h.0, h.1, h.2, h.3, h.4, h.5, h.6, h.7, h.8)
     follows table.RestoreMode s made h =
-        (ap (λ (f : Face). record f { mode = or_mode f.orig_mode f.mode; orig_mode = None }) h.0, h.1, h.2, h.3, h.4, h.5, h.6, h.7)
+        (ap (λ (f : Face). record f { mode = or_mode f.orig_mode f.mode; orig_mode = None }) h.0, h.1, h.2, h.3, h.4, h.5, h.6, h.7, h.8)
     follows table.ResetMode s made h = (
       ap₂ (λ m (f : Face). record f { mode = m })
           (resets s (hollow made.spot) (ap (λ (f : Face). f.template_modes) h.0) (ap (λ (f : Face). f.has_head) h.0)
@@ -714,13 +722,14 @@ module _ (p : Spot) (before : State) (looks₀ : Looks before p) where
       h.5,
       h.6,
       h.7,
+      h.8,
     )
     follows (table.PushTemplateMode mode) s made h =
-        (ap (λ (f : Face). record f { template_modes = mode ∷ f.template_modes }) h.0, h.1, h.2, h.3, h.4, h.5, h.6, h.7)
+        (ap (λ (f : Face). record f { template_modes = mode ∷ f.template_modes }) h.0, h.1, h.2, h.3, h.4, h.5, h.6, h.7, h.8)
     follows (table.SetTemplateMode mode) s made h =
-        (ap (λ (f : Face). record f { template_modes = mode ∷ without_first f.template_modes }) h.0, h.1, h.2, h.3, h.4, h.5, h.6, h.7)
+        (ap (λ (f : Face). record f { template_modes = mode ∷ without_first f.template_modes }) h.0, h.1, h.2, h.3, h.4, h.5, h.6, h.7, h.8)
     follows table.PopTemplateMode s made h =
-        (ap (λ (f : Face). record f { template_modes = without_first f.template_modes }) h.0, h.1, h.2, h.3, h.4, h.5, h.6, h.7)
-    follows table.SetHeadElem s made h = (ap (λ (f : Face). record f { has_head = true }) h.0, h.1, h.2, h.3, h.4, h.5, h.6, h.7)
-    follows table.IgnoreLineFeed s made h = (h.0, h.1, h.2, h.3, h.4, h.5, λ e. refl, h.7)
+        (ap (λ (f : Face). record f { template_modes = without_first f.template_modes }) h.0, h.1, h.2, h.3, h.4, h.5, h.6, h.7, h.8)
+    follows table.SetHeadElem s made h = (ap (λ (f : Face). record f { has_head = true }) h.0, h.1, h.2, h.3, h.4, h.5, h.6, h.7, h.8)
+    follows table.IgnoreLineFeed s made h = (h.0, h.1, h.2, h.3, h.4, h.5, λ e. refl, h.7, h.8)
     follows a s made h = tt

@@ -23,6 +23,7 @@ use Rattle.html_rules.specs.Stack.{has_open, parse_error, root_number, without_c
 use Rattle.html_rules.specs.State.{Open, State, current_is, is_in}
 use Rattle.html_rules.specs.Step.{taken}
 use Rattle.html_rules.specs.Tokens.{is_white}
+use Rattle.html_rules.specs.declared.rules.Rules.{Rules}
 use Rattle.html_rules.specs.declared.tag_set.TagSet.TheVariants as set
 use Rattle.html_faithful.specs.Around.{IsOpenAs, IsPlaceOf, IsRooted, IsStill}
 use Rattle.html_faithful.specs.Checks.{is_kept_so}
@@ -339,13 +340,13 @@ module _ (parent : Parent) (n : ℕ) (text : List ℕ) (drops : Bool) (before : 
 
 -- ELEMENTS
 
-html-plain : (namespace : Namespace) (n : ℕ) (name : List ℕ) → name ≡ codes "html"
-    → is_in set.Template (record { number = n; namespace = namespace; name = name }) ≡ false
+html-plain : (rules : Rules) (namespace : Namespace) (n : ℕ) (name : List ℕ) → name ≡ codes "html"
+    → is_in set.Template (record { number = n; namespace = namespace; name = name; rules = rules }) ≡ false
 unfolding names_of mathml_names_of svg_names_of
-html-plain Html n name e = rw e refl
-html-plain MathMl n name e = refl
-html-plain Svg n name e = refl
-html-plain (Other uri) n name e = refl
+html-plain rules Html n name e = rw e refl
+html-plain rules MathMl n name e = refl
+html-plain rules Svg n name e = refl
+html-plain rules (Other uri) n name e = refl
 
 abbrev pub Law : Bool → Parent → Trees → Type 0
 Law scripting parent trees = (n : ℕ) (after_text drops : Bool) (before : Settled) (waits : Pause) (r : State) (p : Spot)
@@ -369,12 +370,12 @@ below-place OfDocument name s p here h m namespace known xs e =
     let only : xs ≡ next_open s namespace name.local ∷ [] = e ∙ ap (λ ys. next_open s namespace name.local ∷ ys) empty in
     let n = node_count s.forest in
     let under : place_under name s.forest ≡ Last n
-    = rw (html-plain (namespace_of name.ns) n name.local ((texts_by_value name.local (codes "html")).0 m)) refl in
+    = rw (html-plain s.opts.rules (namespace_of name.ns) n name.local ((texts_by_value name.local (codes "html")).0 m)) refl in
     (under ∙ ap (λ ys. Last (root_number ys)) (sym only), ap is_nonempty only)
 below-place OfRoot name s p here h m namespace known xs e =
-    ap (λ ns. inside (record { number = node_count s.forest; namespace = ns; name = name.local })) known ∙ ap place_in (sym e)
+    ap (λ ns. inside (record { number = node_count s.forest; namespace = ns; name = name.local; rules = s.opts.rules })) known ∙ ap place_in (sym e)
 below-place OfCurrent name s p here h m namespace known xs e =
-    ap (λ ns. inside (record { number = node_count s.forest; namespace = ns; name = name.local })) known ∙ ap place_in (sym e)
+    ap (λ ns. inside (record { number = node_count s.forest; namespace = ns; name = name.local; rules = s.opts.rules })) known ∙ ap place_in (sym e)
 
 -- what is open once an element has ended
 end-place : (parent : Parent) (place : Place) (name : QualName) (x : Open) (xs ys zs : List Open) (w : Bool) → stays_open name ≡ w

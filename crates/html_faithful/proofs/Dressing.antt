@@ -149,10 +149,10 @@ module _ (dress : List Attribute → List Attribute) (name : List ℕ) (attribut
   opens-with namespace local first second made e =
       provided-so (is_fresh made) (is_fresh (made_with dress made))
       (record (element namespace local first true made) {
-        spot = record made.spot { path = opened_at namespace local made.spot.path ∷ made.spot.path };
+        spot = record made.spot { path = opened_at made.spot.rules namespace local made.spot.path ∷ made.spot.path };
       }) (fresh-same made)
       ∙ ap (λ (xs : List Attribute). provided (is_fresh (made_with dress made)) (record (element namespace local xs true made) {
-        spot = record made.spot { path = opened_at namespace local made.spot.path ∷ made.spot.path };
+        spot = record made.spot { path = opened_at made.spot.rules namespace local made.spot.path ∷ made.spot.path };
       })) e
 
   foreign-with : (o : Option Open) (made : Made)

@@ -11,11 +11,13 @@ use Rattle.html_rules.specs.ForeignContent.{ForeignEnd, AsInMode, Closed, foreig
 use Rattle.html_rules.specs.ForeignContent.{is_foreign_at, is_foreign_end_error, is_html_element, is_html_there, is_named_any_case}
 use Rattle.html_rules.specs.Names.{Html}
 use Rattle.html_rules.specs.Rules.{first_fit, fits}
+use Rattle.html_rules.specs.Sets.{by_rules}
 use Rattle.html_rules.specs.Stack.{body_elem, has_open, if_body, in_scope, second_of}
 use Rattle.html_rules.specs.State.{Open, State, adjusted_by, current_is, is_fragment_by, is_in, is_named}
 use Rattle.html_rules.specs.Table.{Condition, Row}
 use Rattle.html_rules.specs.Table as table
 use Rattle.html_rules.specs.Tokens.{class_fits, name_of}
+use Rattle.html_rules.specs.declared.rules.Rules.TheVariants.{Html5ever}
 use Rattle.html_rules.specs.declared.tag_set.TagSet.{TagSet}
 use Rattle.html_rules.specs.declared.tag_set.TagSet.TheVariants as set
 use Rattle.html_faithful.specs.Faces.{Face, Looks, Points, bare}
@@ -129,6 +131,7 @@ module _ (t : Token) (s : State) (p : Spot) (looks : Looks s p) where
       (seen d (λ h. points (or-right (asks_pointers c) (asks_pointers d) h)))
   seen table.ScriptingEnabled points = ap (λ (f : Face). f.scripting) looks
   seen table.IframeSrcdoc points = ap (λ (f : Face). f.srcdoc) looks
+  seen table.ByStandard points = ap (λ (f : Face). by_rules f.rules false true) looks
   seen table.InFragment points = ap (λ (f : Face). is_fragment_by f.context) looks
   seen (table.ContextIs names) points = ap (λ (f : Face). context_is names f.context) looks
   seen table.InQuirksMode points = ap (λ (f : Face). is_quirks f.quirks_mode) looks
@@ -178,7 +181,7 @@ or-no true b h = h
 or-no false b h = refl
 
 default : Open
-default = record { number = 0; namespace = Html; name = [] }
+default = record { number = 0; namespace = Html; name = []; rules = Html5ever }
 
 head_or : List Open → Open
 head_or [] = default

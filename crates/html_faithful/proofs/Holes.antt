@@ -9,6 +9,7 @@ use Rattle.markup.specs.declared.quirks.QuirksMode.{QuirksMode}
 use Rattle.markup.specs.declared.quirks.QuirksMode.TheVariants.{NoQuirks, Quirks}
 use Rattle.html_tokens.specs.declared.states.RawKind.{RawKind}
 use Rattle.html_rules.specs.Choice.{choose}
+use Rattle.html_rules.specs.declared.rules.Rules.{Rules}
 use Rattle.html_faithful.specs.Forms.{is_comment_text, lowered}
 use Rattle.html_faithful.specs.Harmless.{Made, and_then}
 use Rattle.html_faithful.specs.Holes.{AfterComment, AfterDoctype, AfterElement, AfterText, AreAlike, AreTagsAlike, Here, Hole, Holed}
@@ -16,9 +17,9 @@ use Rattle.html_faithful.specs.Holes.{Raw, Within}
 use Rattle.html_faithful.specs.Holes.{begins_with_text, ends_in_text, filled, fits_raw, hole_at, hole_of, is_here, joined, raw_of}
 use Rattle.html_faithful.specs.Holes.{still_drops}
 use Rattle.html_faithful.specs.Spots.{Spot}
-use Rattle.html_faithful.specs.Walk.{OfDocument, Parent, are_none, below, comment_put, ends_there, finished, first_spot, fits_inside}
+use Rattle.html_faithful.specs.Walk.{OfDocument, Parent, are_none, below, comment_put, ends_there, finished, first_spot, fits_inside, is_faithful_by}
 use Rattle.html_faithful.specs.Walk.{is_at_end}
-use Rattle.html_faithful.specs.Walk.{is_current, is_faithful, is_raw_inside, is_text, is_void, is_written_so, kids_walked, may_stay}
+use Rattle.html_faithful.specs.Walk.{is_current, is_raw_inside, is_text, is_void, is_written_so, kids_walked, may_stay}
 use Rattle.html_faithful.specs.Walk.{started}
 use Rattle.html_faithful.specs.Walk.{text_put, walk}
 
@@ -292,21 +293,18 @@ module _ (scripting : Bool) (hole : Hole) (a b : Trees) (alike : AreAlike script
       (λ q m. holes-filled parent false false None inner q m)
       ∙ sym (element-then scripting parent name attributes template after_text drops kids (filled inner b) p))
 
-  abbrev start_at : QuirksMode → Spot
-  start_at quirks = first_spot scripting quirks
-
-  pub documents-filled : (holed : Holed) → hole_of scripting holed ≡ Some hole
-      → is_faithful scripting (filled holed a) ≡ is_faithful scripting (filled holed b)
-  unfolding is_faithful
-  documents-filled (Here behind) e = no-hole e
-  documents-filled (Within name attributes template inner behind) e =
-      ap is_at_end (holes-filled OfDocument false false None (Within name attributes template inner behind) (start_at Quirks) e)
-  documents-filled (AfterText text inner) e = no-hole e
-  documents-filled (AfterComment text inner) e = ap (λ f. is_comment_text text && f) (documents-filled inner e)
-  documents-filled (AfterDoctype name public_id system_id inner) e =
-      ap (λ o. bytes_eq name (codes "html") && is_at_end o) (holes-filled OfDocument false false None inner (start_at NoQuirks) e)
-  documents-filled (AfterElement name attributes template kids inner) e =
-      ap is_at_end (holes-filled OfDocument false false None (AfterElement name attributes template kids inner) (start_at Quirks) e)
+  pub documents-filled : (rules : Rules) (holed : Holed) → hole_of rules scripting holed ≡ Some hole
+      → is_faithful_by rules scripting (filled holed a) ≡ is_faithful_by rules scripting (filled holed b)
+  unfolding is_faithful_by
+  documents-filled rules (Here behind) e = no-hole e
+  documents-filled rules (Within name attributes template inner behind) e =
+      ap is_at_end (holes-filled OfDocument false false None (Within name attributes template inner behind) (first_spot rules scripting Quirks) e)
+  documents-filled rules (AfterText text inner) e = no-hole e
+  documents-filled rules (AfterComment text inner) e = ap (λ f. is_comment_text text && f) (documents-filled rules inner e)
+  documents-filled rules (AfterDoctype name public_id system_id inner) e =
+      ap (λ o. bytes_eq name (codes "html") && is_at_end o) (holes-filled OfDocument false false None inner (first_spot rules scripting NoQuirks) e)
+  documents-filled rules (AfterElement name attributes template kids inner) e =
+      ap is_at_end (holes-filled OfDocument false false None (AfterElement name attributes template kids inner) (first_spot rules scripting Quirks) e)
 
 -- ATTRIBUTES
 

@@ -180,7 +180,7 @@ module _ (t : Token) (p q : Spot) (s left : State) (here : IsAt s p) (looks : Lo
   after-opened : (namespace : Namespace) (name : List ℕ) (attributes : List Attribute) (change : Change) (form : FormChange)
       → left.open_elems ≡ next_open s namespace name ∷ s.open_elems
       → left.forest ≡ (put_element namespace name attributes (had_duplicates t) s).forest
-      → left.active_formatting ≡ list_by t change s → left.form_elem ≡ form_by form s → q.path ≡ opened_at namespace name p.path ∷ p.path
+      → left.active_formatting ≡ list_by t change s → left.form_elem ≡ form_by form s → q.path ≡ opened_at q.rules namespace name p.path ∷ p.path
       → opens_so (tag_in t).name q.path change form ≡ true → IsAt left q
   after-opened namespace name attributes change form stack forest list pointer path k =
       let x = next_open s namespace name in
@@ -256,7 +256,7 @@ module _ (t : Token) (p q : Spot) (s left : State) (here : IsAt s p) (looks : Lo
 
   after : (what : Option Put) (closed : Bool) (change : Change) (form : FormChange) → left.open_elems ≡ stack_by what closed s
       → left.forest ≡ forest_by t what s → left.active_formatting ≡ list_by t change s → left.form_elem ≡ form_by form s
-      → q.path ≡ path_by what closed p.path
+      → q.path ≡ path_by q.rules what closed p.path
       → cond closed (closes_so p.path change form)
       (cond (is_opened what) (opens_so (tag_in t).name q.path change form) (is_unchanged change && is_form_kept form)) ≡ true
       → IsAt left q
@@ -283,9 +283,9 @@ module _ (s : State) (p : Spot) (here : IsAt s p) where
     -- what was made of the token was done, and the state that is left stands at the new spot
     abbrev pub Kept : Made → Type 0
     Kept made = is_kept_so (tag_in t).name p made ≡ true
-        → IsDone t s left made × IsAt left.state made.spot × (made.spot.path ≡ path_by made.put made.closed p.path)
+        → IsDone t s left made × IsAt left.state made.spot × (made.spot.path ≡ path_by made.spot.rules made.put made.closed p.path)
 
-    kept-by : (made : Made) → IsDone t s left made → made.spot.path ≡ path_by made.put made.closed p.path → Kept made
+    kept-by : (made : Made) → IsDone t s left made → made.spot.path ≡ path_by made.spot.rules made.put made.closed p.path → Kept made
     kept-by made done path k =
         let c : Comes t s left.state made = done.0 in (
           done,
@@ -294,7 +294,7 @@ module _ (s : State) (p : Spot) (here : IsAt s p) where
         )
 
     both : (o : Option Made) → IfSome o (λ made. IsDone t s left made)
-        → IfSome o (λ made. made.spot.path ≡ path_by made.put made.closed p.path) → IfSome o Kept
+        → IfSome o (λ made. made.spot.path ≡ path_by made.spot.rules made.put made.closed p.path) → IfSome o Kept
     both None a b = tt
     both (Some made) a b = kept-by made a b
 

@@ -30,6 +30,7 @@ use Rattle.html_rules.specs.Choice.{choose}
 use Rattle.html_rules.specs.Places.{with_element}
 use Rattle.html_rules.specs.Sets.{mathml_names_of, names_of, svg_names_of}
 use Rattle.html_rules.specs.State.{is_in}
+use Rattle.html_rules.specs.declared.rules.Rules.TheVariants.{Html5ever}
 use Rattle.html_rules.specs.declared.tag_set.TagSet.TheVariants as set
 use Rattle.html_faithful.specs.Planting.{ArePlantable, EndsInNoText, IsKeptTree, IsNew, IsPlanted, Shows, element_put}
 use Rattle.html_faithful.specs.Planting.{place_under}
@@ -53,7 +54,7 @@ or-no true = refl
 or-no false = refl
 
 template-by : (b m s : Bool) (uri local : List ℕ) (n : ℕ)
-    → is_in set.Template (record { number = n; namespace = namespace_by b m s uri; name = local }) ≡ (b
+    → is_in set.Template (record { number = n; namespace = namespace_by b m s uri; name = local; rules = Html5ever }) ≡ (b
     && bytes_eq local (codes "template"))
 unfolding names_of mathml_names_of svg_names_of
 template-by true m s uri local n = or-no (bytes_eq local (codes "template"))

@@ -14,6 +14,7 @@ use Rattle.html_rules.specs.Places.{next_open}
 use Rattle.html_rules.specs.Rules.{Settled}
 use Rattle.html_rules.specs.Stack.{without_current}
 use Rattle.html_rules.specs.State.{Open, State}
+use Rattle.html_rules.specs.declared.rules.Rules.{Rules}
 use Rattle.html_faithful.specs.Checks.{is_kept_so}
 use Rattle.html_faithful.specs.Forms.{lowered}
 use Rattle.html_faithful.specs.Harmless.{Made, Put, and_then, made_of}
@@ -88,10 +89,10 @@ void-stack : (v : Bool) (s : State) (namespace : Namespace) (name : List ℕ) (a
 void-stack true s namespace name attributes = refl
 void-stack false s namespace name attributes = refl
 
-void-path : (v : Bool) (path : List Open) (namespace : Namespace) (name : List ℕ) (attributes : List Attribute)
-    → path_by (Some (put.Element namespace name attributes (not v))) false path ≡ cond v path (opened_at namespace name path ∷ path)
-void-path true path namespace name attributes = refl
-void-path false path namespace name attributes = refl
+void-path : (rules : Rules) (v : Bool) (path : List Open) (namespace : Namespace) (name : List ℕ) (attributes : List Attribute)
+    → path_by rules (Some (put.Element namespace name attributes (not v))) false path ≡ cond v path (opened_at rules namespace name path ∷ path)
+void-path rules true path namespace name attributes = refl
+void-path rules false path namespace name attributes = refl
 
 nothing-put : {A : Type 0} (o : Option A) → is_none o ≡ true → o ≡ None
 nothing-put None h = refl
@@ -105,9 +106,9 @@ left-stack : (v : Bool) (s : State) → stack_by None (not v) s ≡ cond v s.ope
 left-stack true s = refl
 left-stack false s = refl
 
-left-path : (v : Bool) (path : List Open) → path_by None (not v) path ≡ cond v path (without_current path)
-left-path true path = refl
-left-path false path = refl
+left-path : (rules : Rules) (v : Bool) (path : List Open) → path_by rules None (not v) path ≡ cond v path (without_current path)
+left-path rules true path = refl
+left-path rules false path = refl
 
 -- BOTH TAGS
 
@@ -132,8 +133,8 @@ module _ (s : State) (p : Spot) (here : IsAt s p) (name : QualName) where
         tree = all.0.0.2 ∙ ap (λ o. forest_by (start_tag name attributes) o s) element.is;
         stack = all.0.0.1 ∙ (ap₂ (λ o c. stack_by o c s) element.is shut
             ∙ void-stack (is_void name) s element.namespace name.local attributes);
-        path = all.2 ∙ (ap₂ (λ o c. path_by o c p.path) element.is shut
-            ∙ void-path (is_void name) p.path element.namespace name.local attributes);
+        path = all.2 ∙ (ap₂ (λ o c. path_by made.spot.rules o c p.path) element.is shut
+            ∙ void-path made.spot.rules (is_void name) p.path element.namespace name.local attributes);
       }
 
   pub starts : (attributes : List Attribute) (template : Bool) (left : Settled) → IsDoneAt (start_tag name attributes) p s left
@@ -171,7 +172,7 @@ module _ (s : State) (p : Spot) (here : IsAt s p) (name : QualName) where
         tree = all.0.0.2 ∙ ap (λ o. forest_by (end_tag name) o s) none;
         stack = all.0.0.1 ∙ (ap₂ (λ o c. stack_by o c s) none shut ∙ left-stack (stays_open name) s);
         plain = subst (λ o. IsReplied o left.reply) (nothing-put made.raw quiet.1) all.0.2;
-        path = all.2 ∙ (ap₂ (λ o c. path_by o c p.path) none shut ∙ left-path (stays_open name) p.path);
+        path = all.2 ∙ (ap₂ (λ o c. path_by made.spot.rules o c p.path) none shut ∙ left-path made.spot.rules (stays_open name) p.path);
       }
 
   pub ends : (left : Settled) → IsDoneAt (end_tag name) p s left → IfSome (finished name p) (λ after. IsFinished name p s left after)

@@ -66,7 +66,7 @@ module _ (c : ℕ) (s : State) (p : Spot) (here : IsAt s p) (plain_lf : s.ignore
         keeps_line_feeds = all.0.0.6 plain_lf ∙ not-no made.drops_line_feed plain.1;
         tree = all.0.0.2 ∙ (ap (λ o. forest_by t o s) is ∙ put-there);
         stack = all.0.0.1 ∙ ap₂ (λ o c. stack_by o c s) is shut;
-        path = all.2 ∙ ap₂ (λ o c. path_by o c p.path) is shut;
+        path = all.2 ∙ ap₂ (λ o c. path_by made.spot.rules o c p.path) is shut;
       }
 
 -- ALL OF THEM

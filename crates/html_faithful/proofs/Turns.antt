@@ -115,6 +115,7 @@ module _ (p : Spot) (before : State) (looks₀ : Looks before p) (t : Token)
         h.5,
         h.6,
         h.7,
+        h.8,
       ) in
       if-both (may_go_on t there) (by_rows n (rows mode) t there) (λ after. Ends turns beyond (turn_of (set_mode mode s) Again) after)
       (λ m. let parts = and_parts (is_untouched there) (not (is_foreign (hollow there.spot) t)
@@ -168,7 +169,7 @@ module _ (t : Token) (p : Spot) (s : State) (stands : Stands s p) (settled : is_
   After made_turn made = IsDone t s (settled_by (within turns beyond t) made_turn.ends t made_turn.state) made
 
   begins : Comes t s s (nothing_yet p)
-  begins = (stands.looks, refl, refl, refl, λ u. stands.points, refl, λ e. e, refl)
+  begins = (stands.looks, refl, refl, refl, λ u. stands.points, refl, λ e. e, refl, refl)
 
   by-turn : (b : Bool) → IfSome (by_rows 4 (choose b (λ _. in_foreign_content) (λ _. rows s.mode)) t (nothing_yet p))
       (λ after. After (choose b (λ _. turn_at 4 in_foreign_content t s) (λ _. turn_at 3 (rows s.mode) t s)) after)

@@ -22,6 +22,7 @@ use Rattle.html_rules.specs.Step.{after_line_feed, followed_by, taken, text_take
 use Rattle.html_rules.specs.Tokens.{is_white}
 use Rattle.html_rules.specs.declared.insertion_mode.InsertionMode.{InsertionMode}
 use Rattle.html_rules.specs.declared.insertion_mode.InsertionMode.TheVariants as mode
+use Rattle.html_rules.specs.declared.rules.Rules.{Rules}
 use Rattle.html_rules.specs.declared.tag_set.TagSet.TheVariants as set
 use Rattle.html_faithful.specs.Faces.{Face}
 use Rattle.html_faithful.specs.Harmless as put
@@ -41,14 +42,14 @@ use Rattle.html_faithful.proofs.Turns.{first-turn, followed-within, turn-at_mode
 
 -- IN A TABLE CONTENT IS NOT FOREIGN
 
-in-html : (n : ℕ) (namespace : Namespace) (name : List ℕ)
-    → is_in set.FosterTarget (record { number = n; namespace = namespace; name = name }) ≡ true
-    → is_html_element (record { number = n; namespace = namespace; name = name }) ≡ true
+in-html : (rules : Rules) (n : ℕ) (namespace : Namespace) (name : List ℕ)
+    → is_in set.FosterTarget (record { number = n; namespace = namespace; name = name; rules = rules }) ≡ true
+    → is_html_element (record { number = n; namespace = namespace; name = name; rules = rules }) ≡ true
 unfolding names_of mathml_names_of svg_names_of
-in-html n Html name h = refl
-in-html n MathMl name h = absurd (true≢false (sym h))
-in-html n Svg name h = absurd (true≢false (sym h))
-in-html n (Other uri) name h = absurd (true≢false (sym h))
+in-html rules n Html name h = refl
+in-html rules n MathMl name h = absurd (true≢false (sym h))
+in-html rules n Svg name h = absurd (true≢false (sym h))
+in-html rules n (Other uri) name h = absurd (true≢false (sym h))
 
 pub at-html : (s : State) (x : Open) (t : Token) → is_html_element x ≡ true → is_foreign_at s (Some x) t ≡ false
 at-html s x t h = rw h refl
@@ -57,7 +58,7 @@ own-content : (s : State) (t : Token) (o : Option Open) (xs : List Open) → o �
     → is_foreign_at s (adjusted_by o xs) t ≡ false
 own-content s t o [] e h = absurd (true≢false (sym h))
 own-content s t o (x ∷ xs) e h =
-    ap (λ o. is_foreign_at s (adjusted_by o (x ∷ xs)) t) e ∙ at-html s x t (in-html x.number x.namespace x.name h)
+    ap (λ o. is_foreign_at s (adjusted_by o (x ∷ xs)) t) e ∙ at-html s x t (in-html x.rules x.number x.namespace x.name h)
 
 not-foreign : (s : State) → s.context_elem ≡ None → current_is (is_in set.FosterTarget) s.open_elems ≡ true → (t : Token)
     → is_foreign s t ≡ false

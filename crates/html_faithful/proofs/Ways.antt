@@ -18,6 +18,7 @@ use Rattle.html_rules.specs.State.{Open, current_is, current_node, is_in, is_nam
 use Rattle.html_rules.specs.Table.{Action, Conclusion, Row}
 use Rattle.html_rules.specs.Table as table
 use Rattle.html_rules.specs.Tokens.{is_shadow_mode, name_of}
+use Rattle.html_rules.specs.declared.rules.Rules.{Rules}
 use Rattle.html_rules.specs.declared.tag_set.TagSet.TheVariants as set
 use Rattle.html_faithful.specs.Harmless.{Change, EntryLeft, EntryPushed, FormForgotten, FormSet, Made, MarkerLeft, MarkerPushed, Put}
 use Rattle.html_faithful.specs.Harmless.{Unchanged}
@@ -44,10 +45,10 @@ either true x y P h g = h
 either false x y P h g = g
 
 -- where nothing was put or closed yet
-fresh-path : (put : Option Put) (closed : Bool) (path : List Open) → (is_none put && not closed) ≡ true → path_by put closed path ≡ path
-fresh-path None false path h = refl
-fresh-path None true path h = absurd (true≢false (sym h))
-fresh-path (Some x) closed path h = absurd (true≢false (sym h))
+fresh-path : (rules : Rules) (put : Option Put) (closed : Bool) (path : List Open) → (is_none put && not closed) ≡ true → path_by rules put closed path ≡ path
+fresh-path rules None false path h = refl
+fresh-path rules None true path h = absurd (true≢false (sym h))
+fresh-path rules (Some x) closed path h = absurd (true≢false (sym h))
 
 still-open : (put : Option Put) (closed : Bool) → (is_none put && not closed) ≡ true → closed ≡ false
 still-open None false h = refl
@@ -56,26 +57,26 @@ still-open (Some x) closed h = absurd (true≢false (sym h))
 
 module _ (path : List Open) where
   abbrev pub OnWay : Made → Type 0
-  OnWay made = made.spot.path ≡ path_by made.put made.closed path
+  OnWay made = made.spot.path ≡ path_by made.spot.rules made.put made.closed path
 
   changed : (change : Change) (made : Made) → OnWay made → IfSome (changes change made) OnWay
   changed change made h = if-so (is_unchanged made.change) (record made { change = change }) OnWay (λ e. h)
 
-  put-so : (node : Put) (made : Made) → path_by (Some node) false path ≡ path → OnWay made → IfSome (puts node made) OnWay
+  put-so : (node : Put) (made : Made) → path_by made.spot.rules (Some node) false path ≡ path → OnWay made → IfSome (puts node made) OnWay
   put-so node made plain h =
       if-so (is_fresh made) (record made { put = Some node }) OnWay
-      (λ e. h ∙ (fresh-path made.put made.closed path e ∙ (sym plain
-      ∙ sym (ap (λ c. path_by (Some node) c path) (still-open made.put made.closed e)))))
+      (λ e. h ∙ (fresh-path made.spot.rules made.put made.closed path e ∙ (sym plain
+      ∙ sym (ap (λ c. path_by made.spot.rules (Some node) c path) (still-open made.put made.closed e)))))
 
   opened-so : (namespace : Namespace) (name : List ℕ) (attributes : List Attribute) (made : Made) → OnWay made
       → IfSome (opens namespace name attributes made) OnWay
   opened-so namespace name attributes made h =
       if-so (is_fresh made) (record made {
         put = Some (put.Element namespace name attributes true);
-        spot = record made.spot { path = opened_at namespace name made.spot.path ∷ made.spot.path };
+        spot = record made.spot { path = opened_at made.spot.rules namespace name made.spot.path ∷ made.spot.path };
       }) OnWay
-      (λ e. ap (λ xs. opened_at namespace name xs ∷ xs) (h ∙ fresh-path made.put made.closed path e)
-      ∙ sym (ap (λ c. path_by (Some (put.Element namespace name attributes true)) c path) (still-open made.put made.closed e)))
+      (λ e. ap (λ xs. opened_at made.spot.rules namespace name xs ∷ xs) (h ∙ fresh-path made.spot.rules made.put made.closed path e)
+      ∙ sym (ap (λ c. path_by made.spot.rules (Some (put.Element namespace name attributes true)) c path) (still-open made.put made.closed e)))
 
   foreign-so : (o : Option Open) (tag : Tag) (made : Made) → OnWay made → IfSome (opens_foreign o tag made) OnWay
   foreign-so None tag made h = tt
@@ -91,7 +92,7 @@ module _ (path : List Open) where
   closed-so q t made h =
       let after = record made { closed = true; spot = record made.spot { path = without_current made.spot.path } } in
       either (current_is q made.spot.path && ends_current t made.spot.path) (provided (is_fresh made) after) None OnWay
-      (if-so (is_fresh made) after OnWay (λ e. ap without_current (h ∙ fresh-path made.put made.closed path e))) tt
+      (if-so (is_fresh made) after OnWay (λ e. ap without_current (h ∙ fresh-path made.spot.rules made.put made.closed path e))) tt
 
   module _ (t : Token) where
     pub ways : (a : Action) (made : Made) → OnWay made → IfSome (does a t made) OnWay
@@ -194,6 +195,6 @@ module _ (path : List Open) where
         bind (does r.does t made) (λ made. concludes (λ rs made. by_rows n rs t made) t r.ends made) OnWay (ways r.does made h)
         (λ m g. concluded-so (λ rs made. by_rows n rs t made) (λ rs m k. rows-so n rs m k) r.ends m g)
 
-pub paths-followed : (t : Token) (p : Spot) → IfSome (made_of t p) (λ made. made.spot.path ≡ path_by made.put made.closed p.path)
+pub paths-followed : (t : Token) (p : Spot) → IfSome (made_of t p) (λ made. made.spot.path ≡ path_by made.spot.rules made.put made.closed p.path)
 unfolding made_of
 paths-followed t p = rows-so p.path t 4 (choose (is_foreign (hollow p) t) (λ _. in_foreign_content) (λ _. rows p.mode)) (nothing_yet p) refl

@@ -120,7 +120,7 @@ puts put made = provided (is_fresh made) (record made { put = Some put })
 abbrev pub opens : Namespace → List ℕ → List Attribute → Made → Option Made
 opens namespace name attributes made =
     puts (Element namespace name attributes true)
-    (record made { spot = record made.spot { path = opened_at namespace name made.spot.path ∷ made.spot.path } })
+    (record made { spot = record made.spot { path = opened_at made.spot.rules namespace name made.spot.path ∷ made.spot.path } })
 
 -- for a start tag that does not close itself
 abbrev pub for_start : (Tag → Made → Option Made) → Token → Made → Option Made

@@ -11,10 +11,11 @@ use Rattle.html_rules.specs.ForeignContent.{is_html_element}
 use Rattle.html_rules.specs.State.{current_is}
 use Rattle.html_rules.specs.declared.insertion_mode.InsertionMode.{InsertionMode}
 use Rattle.html_rules.specs.declared.insertion_mode.InsertionMode.TheVariants as mode
+use Rattle.html_rules.specs.declared.rules.Rules.{Rules}
 use Rattle.html_faithful.specs.Forms.{is_kept, is_raw_text, lowered}
 use Rattle.html_faithful.specs.Harmless.{Made, and_then}
 use Rattle.html_faithful.specs.Spots.{Spot}
-use Rattle.html_faithful.specs.Walk.{OfDocument, Parent, are_none, below, comment_put, first_spot, is_current, is_faithful}
+use Rattle.html_faithful.specs.Walk.{OfDocument, Parent, are_none, below, comment_put, first_spot, is_current, is_faithful_by}
 use Rattle.html_faithful.specs.Walk.{is_raw_inside, is_void}
 use Rattle.html_faithful.specs.Walk.{started, text_put, walk}
 
@@ -92,14 +93,14 @@ abbrev pub hole_from : Bool → Holed → Spot → Option Hole
 hole_from scripting holed p = hole_at scripting OfDocument false false None holed p
 
 -- in a document: behind comments and a doctype, or with no doctype before it
-abbrev pub hole_of : Bool → Holed → Option Hole
-hole_of scripting (AfterComment text hole) = hole_of scripting hole
-hole_of scripting (AfterDoctype name public_id system_id hole) = hole_from scripting hole (first_spot scripting NoQuirks)
-hole_of scripting (Within name attributes template hole behind) =
-    hole_from scripting (Within name attributes template hole behind) (first_spot scripting Quirks)
-hole_of scripting (AfterElement name attributes template kids hole) =
-    hole_from scripting (AfterElement name attributes template kids hole) (first_spot scripting Quirks)
-hole_of scripting holed = None
+abbrev pub hole_of : Rules → Bool → Holed → Option Hole
+hole_of rules scripting (AfterComment text hole) = hole_of rules scripting hole
+hole_of rules scripting (AfterDoctype name public_id system_id hole) = hole_from scripting hole (first_spot rules scripting NoQuirks)
+hole_of rules scripting (Within name attributes template hole behind) =
+    hole_from scripting (Within name attributes template hole behind) (first_spot rules scripting Quirks)
+hole_of rules scripting (AfterElement name attributes template kids hole) =
+    hole_from scripting (AfterElement name attributes template kids hole) (first_spot rules scripting Quirks)
+hole_of rules scripting holed = None
 
 -- VALUES THAT ARE ALIKE
 
@@ -142,9 +143,9 @@ pub record AreHolesFilled : Type 0 where
   pub trees : (scripting : Bool) (parent : Parent) (after_text drops : Bool) (raw : Option Raw) (holed : Holed) (p : Spot) (hole : Hole)
       (a b : Trees) → hole_at scripting parent after_text drops raw holed p ≡ Some hole → AreAlike scripting hole a b
       → walk scripting parent after_text drops (filled holed a) p ≡ walk scripting parent after_text drops (filled holed b) p
-  pub documents : (scripting : Bool) (holed : Holed) (hole : Hole) (a b : Trees)
-      → hole_of scripting holed ≡ Some hole → AreAlike scripting hole a b
-      → is_faithful scripting (filled holed a) ≡ is_faithful scripting (filled holed b)
+  pub documents : (rules : Rules) (scripting : Bool) (holed : Holed) (hole : Hole) (a b : Trees)
+      → hole_of rules scripting holed ≡ Some hole → AreAlike scripting hole a b
+      → is_faithful_by rules scripting (filled holed a) ≡ is_faithful_by rules scripting (filled holed b)
 
 -- TEXTS
 

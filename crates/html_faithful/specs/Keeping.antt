@@ -38,4 +38,4 @@ pub record IsAt (s : State) (p : Spot) : Type 0 where
 abbrev pub AreSpotsKept : Type 0
 AreSpotsKept = (t : Token) (p : Spot) (s : State) → IsAt s p → is_self_closing t ≡ false
     → IfSome (made_of t p) (λ made. is_kept_so (tag_in t).name p made ≡ true
-    → IsDone t s (settle t s) made × IsAt (settle t s).state made.spot × (made.spot.path ≡ path_by made.put made.closed p.path))
+    → IsDone t s (settle t s) made × IsAt (settle t s).state made.spot × (made.spot.path ≡ path_by made.spot.rules made.put made.closed p.path))

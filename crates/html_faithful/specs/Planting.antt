@@ -9,13 +9,14 @@ use Rattle.markup.specs.declared.attributes.Attribute.{Attribute}
 use Rattle.markup.specs.declared.names.QualName.{QualName}
 use Rattle.html_rules.specs.Names.{element_name_of, namespace_of}
 use Rattle.html_rules.specs.Places.{inside, with_element}
+use Rattle.html_rules.specs.declared.rules.Rules.TheVariants.{Html5ever}
 use Rattle.html_faithful.specs.Walk.{is_template}
 
 -- PLANTED TREES
 
 -- where nodes are put in an element that is put next: last in it, or in its contents
 abbrev pub place_under : QualName → Forest → Place
-place_under name f = inside (record { number = node_count f; namespace = namespace_of name.ns; name = name.local })
+place_under name f = inside (record { number = node_count f; namespace = namespace_of name.ns; name = name.local; rules = Html5ever })
 
 abbrev pub element_put : Place → QualName → List Attribute → Forest → Forest
 element_put place name attributes f = put (with_element f (namespace_of name.ns) name.local attributes false) place (node_count f)

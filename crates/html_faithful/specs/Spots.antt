@@ -11,6 +11,7 @@ use Rattle.html_rules.specs.Names.{Namespace}
 use Rattle.html_rules.specs.Stack.{has_open}
 use Rattle.html_rules.specs.State.{Answers, Entry, Element, Marker, Open, State, is_in}
 use Rattle.html_rules.specs.declared.insertion_mode.InsertionMode.{InsertionMode}
+use Rattle.html_rules.specs.declared.rules.Rules.{Rules}
 use Rattle.html_rules.specs.declared.tag_set.TagSet.TheVariants as set
 
 -- What of a state of the rules rows ask for, in so far as the tree shows it. All of it follows from the way from the root to the node,
@@ -26,10 +27,12 @@ pub record Spot : Type 0 where
   pub frameset_ok : Bool
   pub quirks_mode : QuirksMode
   pub scripting : Bool
+  -- whose rules hold
+  pub rules : Rules
 
 -- an element that is opened there
-abbrev pub opened_at : Namespace → List ℕ → List Open → Open
-opened_at namespace name path = record { number = length path; namespace = namespace; name = name }
+abbrev pub opened_at : Rules → Namespace → List ℕ → List Open → Open
+opened_at rules namespace name path = record { number = length path; namespace = namespace; name = name; rules = rules }
 
 -- the elements that begin a list of formatting elements of their own (section 13.2.4.3)
 abbrev pub is_marked : Open → Bool
@@ -55,17 +58,17 @@ no_answers = record {
   attaches_shadow = λ f host template attributes. false;
 }
 
--- a page of its own, with that scripting flag
-abbrev pub setting_of : Bool → Answers → Setting
-setting_of scripting answers = record {
-  opts = record { scripting_enabled = scripting; iframe_srcdoc = false; drop_doctype = false };
+-- a page of its own, by those rules and with that scripting flag
+abbrev pub setting_of : Rules → Bool → Answers → Setting
+setting_of rules scripting answers = record {
+  opts = record { scripting_enabled = scripting; iframe_srcdoc = false; drop_doctype = false; rules = rules };
   quirks_mode = NoQuirks;
   answers = answers;
 }
 
 -- a state of the rules that stands at a spot, over no tree
 abbrev pub hollow : Spot → State
-hollow p = record (before_document (setting_of p.scripting no_answers) empty_forest) {
+hollow p = record (before_document (setting_of p.rules p.scripting no_answers) empty_forest) {
   open_elems = p.path;
   active_formatting = entries_of p.path;
   template_modes = p.template_modes;

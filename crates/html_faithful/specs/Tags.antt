@@ -24,7 +24,7 @@ pub record IsStarted (name : QualName) (attributes : List Attribute) (p : Spot) 
   pub known : namespace_of name.ns ≡ namespace
   pub tree : left.state.forest ≡ (put_element namespace name.local attributes false s).forest
   pub stack : left.state.open_elems ≡ cond (is_void name) s.open_elems (next_open s namespace name.local ∷ s.open_elems)
-  pub path : made.spot.path ≡ cond (is_void name) p.path (opened_at namespace name.local p.path ∷ p.path)
+  pub path : made.spot.path ≡ cond (is_void name) p.path (opened_at made.spot.rules namespace name.local p.path ∷ p.path)
 
 -- Nothing is put, and the current node is closed; `body` and `html` stay open.
 pub record IsFinished (name : QualName) (p : Spot) (s : State) (left : Settled) (after : Spot) : Type 0 where

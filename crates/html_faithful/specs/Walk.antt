@@ -26,6 +26,8 @@ use Rattle.html_rules.specs.State.{current_is, is_in}
 use Rattle.html_rules.specs.Tokens.{is_white, name_of}
 use Rattle.html_rules.specs.declared.insertion_mode.InsertionMode.{InsertionMode}
 use Rattle.html_rules.specs.declared.insertion_mode.InsertionMode.TheVariants as mode
+use Rattle.html_rules.specs.declared.rules.Rules.{Rules}
+use Rattle.html_rules.specs.declared.rules.Rules.TheVariants.{Html5ever}
 use Rattle.html_rules.specs.declared.tag_set.TagSet.TheVariants as set
 use Rattle.html_faithful.specs.Forms.{are_told, is_comment_text, is_kept, is_raw_text, is_tag_name, lowered, told_attribute}
 use Rattle.html_faithful.specs.Checks.{is_kept_so}
@@ -223,8 +225,8 @@ walk scripting parent after_text drops (Element name attributes template kids re
 
 -- DOCUMENTS
 
-abbrev pub first_spot : Bool → QuirksMode → Spot
-first_spot scripting quirks = record {
+abbrev pub first_spot : Rules → Bool → QuirksMode → Spot
+first_spot rules scripting quirks = record {
   mode = mode.BeforeHtml;
   orig_mode = None;
   path = [];
@@ -233,6 +235,7 @@ first_spot scripting quirks = record {
   frameset_ok = true;
   quirks_mode = quirks;
   scripting = scripting;
+  rules = rules;
 }
 
 -- after the end of `html`
@@ -247,13 +250,17 @@ is_at_end (Some p) = is_end_mode p.mode
 
 -- A document (section 13.2.6.4.1): comments, and a doctype `html`, of any identifiers, which are not written, and what follows it; or no
 -- doctype, so that what is written is read in quirks mode, after an error.
-unfoldable pub is_faithful : Bool → Trees → Bool
-is_faithful scripting (Comment text rest) = is_comment_text text && is_faithful scripting rest
-is_faithful scripting (Doctype name public_id system_id rest) =
-    bytes_eq name (codes "html") && is_at_end (walk scripting OfDocument false false rest (first_spot scripting NoQuirks))
-is_faithful scripting (Element name attributes template kids rest) =
-    is_at_end (walk scripting OfDocument false false (Element name attributes template kids rest) (first_spot scripting Quirks))
-is_faithful scripting trees = false
+unfoldable pub is_faithful_by : Rules → Bool → Trees → Bool
+is_faithful_by rules scripting (Comment text rest) = is_comment_text text && is_faithful_by rules scripting rest
+is_faithful_by rules scripting (Doctype name public_id system_id rest) =
+    bytes_eq name (codes "html") && is_at_end (walk scripting OfDocument false false rest (first_spot rules scripting NoQuirks))
+is_faithful_by rules scripting (Element name attributes template kids rest) =
+    is_at_end (walk scripting OfDocument false false (Element name attributes template kids rest) (first_spot rules scripting Quirks))
+is_faithful_by rules scripting trees = false
+
+-- by html5ever's rules
+abbrev pub is_faithful : Bool → Trees → Bool
+is_faithful scripting trees = is_faithful_by Html5ever scripting trees
 
 abbrev pub is_faithful_forest : Bool → Forest → Bool
 is_faithful_forest scripting f = is_faithful scripting (trees_of f (children_of f 0))

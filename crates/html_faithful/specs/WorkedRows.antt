@@ -11,6 +11,7 @@ use Rattle.html_rules.specs.State.{State}
 use Rattle.html_tokens.specs.RowForms.{five}
 use Rattle.html_tokens.specs.Sink.{Refusal}
 use Rattle.html_tokens.specs.declared.options.TokenizerOpts.{TokenizerOpts}
+use Rattle.html_rules.specs.declared.rules.Rules.TheVariants.{Html5ever}
 use Rattle.html_faithful.specs.Walk.{is_faithful, is_faithful_forest}
 
 abbrev opts : TokenizerOpts
@@ -18,7 +19,7 @@ opts = record { exact_errors = false; discard_bom = true; initial_state = None; 
 
 abbrev setting : Setting
 setting = record {
-  opts = record { scripting_enabled = true; iframe_srcdoc = false; drop_doctype = false };
+  opts = record { scripting_enabled = true; iframe_srcdoc = false; drop_doctype = false; rules = Html5ever };
   quirks_mode = NoQuirks;
   answers = record {
     integration_point = λ f n. integration_point_of (data_of f n);

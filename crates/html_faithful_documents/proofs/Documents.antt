@@ -34,11 +34,14 @@ use Rattle.html_rules.specs.State.{Answers, State, hushed}
 use Rattle.html_rules.specs.Step.{ended, taken, untouched}
 use Rattle.html_rules.specs.declared.insertion_mode.InsertionMode.{InsertionMode}
 use Rattle.html_rules.specs.declared.insertion_mode.InsertionMode.TheVariants as mode
+use Rattle.html_rules.specs.declared.rules.Rules.{Rules}
+use Rattle.html_rules.specs.declared.rules.Rules.TheVariants.{Html5ever, Standard}
 use Rattle.html_rules_laws.proofs.Progress.Texts.{each-text}
 use Rattle.html_rules_laws.proofs.Progress.UsableTokens.{states-usable, usable-unhushed}
 use Rattle.html_tokens.specs.Laws.{ReadsEscapes, in_data}
 use Rattle.html_tokens.specs.NormalText.{newlines_after, normal_text, without_mark}
-use Rattle.html_tokens.specs.Reading.{◌>>=◌, first_place, line_number, reading_from}
+use Rattle.html_tokens.specs.Reading.{◌>>=◌, first_place, line_number, next_stand, reading_from}
+use Rattle.html_tokens.specs.declared.replies.TokenSinkResult.TheVariants.{Continue}
 use Rattle.html_tokens.specs.Sink.{Refusal, Reply}
 use Rattle.html_tokens.specs.Table.{Row}
 use Rattle.html_tokens.specs.declared.options.TokenizerOpts.{TokenizerOpts}
@@ -53,7 +56,7 @@ use Rattle.html_faithful.specs.Planted.{AreAllPlanted, missed_forest, missed_set
 use Rattle.html_faithful.specs.Planting.{ArePlantable, planted}
 use Rattle.html_faithful.specs.Spots.{Spot, setting_of}
 use Rattle.html_faithful.specs.Waiting.{Still, Untyped}
-use Rattle.html_faithful.specs.Walk.{OfDocument, is_at_end, is_end_mode, is_faithful, walk}
+use Rattle.html_faithful.specs.Walk.{OfDocument, is_at_end, is_end_mode, is_faithful_by, walk}
 use Rattle.html_faithful.proofs.Around.{Ready}
 use Rattle.html_faithful.proofs.Begins.{begins, document-planted, untyped-planted, untyped-ready}
 use Rattle.html_faithful.proofs.Planting.{new-keeps, planted-shown}
@@ -100,12 +103,19 @@ end-read rows last n s ok =
 
 -- WHAT COMES BEFORE
 
-doctype-taken : (scripting : Bool) (answers : Answers) (f : Forest)
-    → (taken doctype_token (before_document (setting_of scripting answers) f)).state
-    ≡ before_html (setting_of scripting answers)
+doctype-taken : (rules : Rules) (scripting : Bool) (answers : Answers) (f : Forest)
+    → (taken doctype_token (before_document (setting_of rules scripting answers) f)).state
+    ≡ before_html (setting_of rules scripting answers)
     (dressed NoQuirks f.errors (put_new f (Last 0) (forest.NodeData.Doctype (codes "html") [] [])))
 unfolding taken set_ignore_lf set_mode set_quirks_mode append_doctype_to_document quirks_of doctype_error quirky_public_prefixes
-doctype-taken scripting answers f = refl
+doctype-taken Html5ever scripting answers f = refl
+doctype-taken Standard scripting answers f = refl
+
+doctype-replied : (rules : Rules) (scripting : Bool) (answers : Answers) (f : Forest)
+    → (taken doctype_token (before_document (setting_of rules scripting answers) f)).reply ≡ Continue
+unfolding taken set_ignore_lf
+doctype-replied Html5ever scripting answers f = refl
+doctype-replied Standard scripting answers f = refl
 
 comment-initial : (setting : Setting) (f : Forest) (text : List ℕ)
     → using_rules_for 4 mode.Initial (CommentToken text) (before_document setting f)
@@ -140,10 +150,10 @@ as-told-same (Doctype name public_id system_id rest) f = absurd f
 as-told-same (Element name attributes template kids rest) f = ap (λ r. Element name attributes template kids r) (as-told-same rest f.3)
 
 -- what is read of a document before the end of the text
-record IsDocumentRead (rows : List Row) (scripting : Bool) (answers : Answers) (f : Forest) (trees : Trees) : Type 0 where
+record IsDocumentRead (rows : List Row) (rules : Rules) (scripting : Bool) (answers : Answers) (f : Forest) (trees : Trees) : Type 0 where
   left : State
   errors : ℕ
-  reads : ReadsInData rows (before_document (setting_of scripting answers) f) (text_of scripting trees) left
+  reads : ReadsInData rows (before_document (setting_of rules scripting answers) f) (text_of scripting trees) left
   over : is_end_mode left.mode ≡ true
   tree : left.forest ≡ dressed (told_quirks trees) errors (planted (Last 0) (as_told trees) f)
   plantable : ArePlantable false (as_told trees)
@@ -179,12 +189,12 @@ told-calls (Doctype name public_id system_id rest) calls = ap (λ r. WriteDoctyp
 told-calls (Element name attributes template kids rest) calls =
     ap (λ r. StartElem name attributes ∷ calls_before kids (EndElem name ∷ r)) (told-calls rest calls)
 
-module _ (rows : List Row) (reads : ReadsEscapes rows) (scripting : Bool) (answers : Answers) where
+module _ (rows : List Row) (reads : ReadsEscapes rows) (rules : Rules) (scripting : Bool) (answers : Answers) where
   abbrev setting : Setting
-  setting = setting_of scripting answers
+  setting = setting_of rules scripting answers
 
   abbrev Read : Forest → Trees → Type 0
-  Read f trees = IsDocumentRead rows scripting answers f trees
+  Read f trees = IsDocumentRead rows rules scripting answers f trees
 
   abbrev doctype_node : forest.NodeData
   doctype_node = forest.NodeData.Doctype (codes "html") [] []
@@ -234,9 +244,12 @@ module _ (rows : List Row) (reads : ReadsEscapes rows) (scripting : Bool) (answe
     doctype-goes = λ last. record {
       last_tag = last;
       reads = subst (λ s. Reads rows (in_data last) (before_document setting f) (written_doctype (codes "html")) (in_data last) s)
-          (doctype-taken scripting answers f)
+          (doctype-taken rules scripting answers f)
+          (subst (λ r. Reads rows (in_data last) (before_document setting f) (written_doctype (codes "html"))
+          (next_stand (in_data last) r) (taken doctype_token (before_document setting f)).state)
+          (doctype-replied rules scripting answers f)
           (reads-token rows (in_data last) (in_data last) (before_document setting f) (written_doctype (codes "html")) doctype_token
-          ((forms-told rows reads).doctype last) refl);
+          ((forms-told rows reads).doctype last) refl));
     }
 
     doctype-read : (public_id system_id : List ℕ)
@@ -302,10 +315,10 @@ module _ (rows : List Row) (reads : ReadsEscapes rows) (scripting : Bool) (answe
         ((forms-told rows reads).comment last text h));
   }
 
-  read-document : (trees : Trees) (f : Forest) → IsTree f → is_faithful scripting trees ≡ true → Read f trees
-  unfolding is_faithful written
+  read-document : (trees : Trees) (f : Forest) → IsTree f → is_faithful_by rules scripting trees ≡ true → Read f trees
+  unfolding is_faithful_by written
   read-document (Comment text rest) f tree h =
-      let p = and_parts (is_comment_text text) (is_faithful scripting rest) h in
+      let p = and_parts (is_comment_text text) (is_faithful_by rules scripting rest) h in
       let g = put_new f (Last 0) (forest.NodeData.Comment text) in
       let kept = new-keeps f 0 (forest.NodeData.Comment text) tree (IsParent-document f tree.forest)
       (record { contents = refl; template = refl; name = refl }) in
@@ -334,9 +347,9 @@ module _ (rows : List Row) (reads : ReadsEscapes rows) (scripting : Bool) (answe
   marked-by true t = refl
   marked-by false t = refl
 
-  no-mark : (trees : Trees) (b : Bool) → is_faithful scripting trees ≡ true
+  no-mark : (trees : Trees) (b : Bool) → is_faithful_by rules scripting trees ≡ true
       → without_mark b (text_of scripting trees) ≡ text_of scripting trees
-  unfolding is_faithful written
+  unfolding is_faithful_by written
   no-mark (Comment text rest) b h = marked-by b _
   no-mark (Doctype name public_id system_id rest) b h = marked-by b _
   no-mark Nothing b h = absurd (true≢false (sym h))
@@ -348,7 +361,7 @@ module _ (rows : List Row) (reads : ReadsEscapes rows) (scripting : Bool) (answe
   empty-tree = record { forest = IsForest-empty; contents = HasContents-empty }
 
   module _ (opts : TokenizerOpts) (initial : opts.initial_state ≡ None) (trees : Trees)
-      (faithful : is_faithful scripting trees ≡ true) where
+      (faithful : is_faithful_by rules scripting trees ≡ true) where
     abbrev text : List ℕ
     text = text_of scripting trees
 
@@ -407,7 +420,7 @@ module _ (rows : List Row) (reads : ReadsEscapes rows) (scripting : Bool) (answe
         ∙ (trees-dressed (told_quirks trees) 0 grown (children_of grown 0)
         ∙ (ap (trees_of grown) shown.1.1.children ∙ shown.1.2))
 
-    read-back : IsReadBack rows opts answers scripting trees
+    read-back : IsReadBack rows opts rules answers scripting trees
     read-back = record {
       tree = subst IsTree (sym final-tree) (IsTree-same_nodes grown (told_quirks trees) 0 grown-tree);
       told = ap calls_of final-shows ∙ told-calls trees [];
@@ -418,16 +431,16 @@ module _ (rows : List Row) (reads : ReadsEscapes rows) (scripting : Bool) (answe
       written_again = ap (text_of scripting) final-shows ∙ told-written scripting trees;
     }
 
-pub trees-read_back : (rows : List Row) → ReadsEscapes rows → (opts : TokenizerOpts) → opts.initial_state ≡ None → (answers : Answers)
-    (scripting : Bool) (trees : Trees) → is_faithful scripting trees ≡ true → IsReadBack rows opts answers scripting trees
-trees-read_back rows reads opts initial answers scripting trees faithful = read-back rows reads scripting answers opts initial trees
+pub trees-read_back : (rows : List Row) → ReadsEscapes rows → (opts : TokenizerOpts) → opts.initial_state ≡ None
+    → (rules : Rules) (answers : Answers) (scripting : Bool) (trees : Trees) → is_faithful_by rules scripting trees ≡ true → IsReadBack rows opts rules answers scripting trees
+trees-read_back rows reads opts initial rules answers scripting trees faithful = read-back rows reads rules scripting answers opts initial trees
     faithful
 
-pub bytes-read_back : (rows : List Row) → ReadsEscapes rows → (opts : TokenizerOpts) → opts.initial_state ≡ None → (answers : Answers)
-    (scripting : Bool) (trees : Trees) → is_faithful scripting trees ≡ true → scalars (text_of scripting trees) ≡ true
-    → AreBytesReadBack rows opts answers scripting trees (encode_utf8_all (text_of scripting trees))
-bytes-read_back rows reads opts initial answers scripting trees faithful are =
-    let read = trees-read_back rows reads opts initial answers scripting trees faithful in
+pub bytes-read_back : (rows : List Row) → ReadsEscapes rows → (opts : TokenizerOpts) → opts.initial_state ≡ None
+    → (rules : Rules) (answers : Answers) (scripting : Bool) (trees : Trees) → is_faithful_by rules scripting trees ≡ true → scalars (text_of scripting trees) ≡ true
+    → AreBytesReadBack rows opts rules answers scripting trees (encode_utf8_all (text_of scripting trees))
+bytes-read_back rows reads opts initial rules answers scripting trees faithful are =
+    let read = trees-read_back rows reads opts initial rules answers scripting trees faithful in
     record {
       utf8 = (text_of scripting trees, (are, refl));
       text = chars-encodes (text_of scripting trees) are;

@@ -4,25 +4,26 @@ use Rattle.markup.specs.Escape.{written_comment, written_doctype, written_instru
 use Rattle.markup.specs.Trees.{Trees, Nothing, Text, Comment, ProcessingInstruction, Doctype, Element, Entry, end_of, entry_under}
 use Rattle.markup.specs.Trees.{start_under, text_under, written}
 use Rattle.html_rules.specs.State.{Answers}
+use Rattle.html_rules.specs.declared.rules.Rules.{Rules}
 use Rattle.html_tokens.specs.Laws.{ReadsEscapes}
 use Rattle.html_tokens.specs.Table.{Row}
 use Rattle.html_tokens.specs.declared.options.TokenizerOpts.{TokenizerOpts}
 use Rattle.html_faithful.specs.Holes.{AfterComment, AfterDoctype, AfterElement, AfterText, AreAlike, Here, Hole, Holed, Within, filled}
 use Rattle.html_faithful.specs.Holes.{hole_of}
 use Rattle.html_faithful.specs.Holes.{joined}
-use Rattle.html_faithful.specs.Walk.{is_faithful}
+use Rattle.html_faithful.specs.Walk.{is_faithful_by}
 use Rattle.html_faithful.proofs.Holes.{documents-filled}
 use Rattle.html_faithful_documents.specs.Documents.{IsReadBack}
 use Rattle.html_faithful_documents.specs.Pages.{entry_of, text_before, text_behind}
 use Rattle.html_faithful_documents.proofs.Documents.{trees-read_back}
 
-pub pages-read_back : (rows : List Row) → ReadsEscapes rows → (opts : TokenizerOpts) → opts.initial_state ≡ None → (answers : Answers)
-    (scripting : Bool) (page : Holed) (hole : Hole) (sample value : Trees)
-    → hole_of scripting page ≡ Some hole → is_faithful scripting (filled page sample) ≡ true → AreAlike scripting hole sample value
-    → IsReadBack rows opts answers scripting (filled page value)
-pages-read_back rows reads opts initial answers scripting page hole sample value at judged alike =
-    trees-read_back rows reads opts initial answers scripting (filled page value)
-    (sym (documents-filled scripting hole sample value alike page at) ∙ judged)
+pub pages-read_back : (rows : List Row) → ReadsEscapes rows → (opts : TokenizerOpts) → opts.initial_state ≡ None
+    → (rules : Rules) (answers : Answers) (scripting : Bool) (page : Holed) (hole : Hole) (sample value : Trees)
+    → hole_of rules scripting page ≡ Some hole → is_faithful_by rules scripting (filled page sample) ≡ true → AreAlike scripting hole sample value
+    → IsReadBack rows opts rules answers scripting (filled page value)
+pages-read_back rows reads opts initial rules answers scripting page hole sample value at judged alike =
+    trees-read_back rows reads opts initial rules answers scripting (filled page value)
+    (sym (documents-filled scripting hole sample value alike rules page at) ∙ judged)
 
 -- THE TEXT
 

@@ -10,11 +10,12 @@ use Rattle.markup.specs.declared.quirks.QuirksMode.{QuirksMode}
 use Rattle.markup.specs.declared.quirks.QuirksMode.TheVariants.{NoQuirks, Quirks}
 use Rattle.html_rules.specs.Documents.{document}
 use Rattle.html_rules.specs.State.{Answers, State}
+use Rattle.html_rules.specs.declared.rules.Rules.{Rules}
 use Rattle.html_tokens.specs.Laws.{ReadsEscapes}
 use Rattle.html_tokens.specs.Table.{Row}
 use Rattle.html_tokens.specs.declared.options.TokenizerOpts.{TokenizerOpts}
 use Rattle.html_faithful.specs.Spots.{setting_of}
-use Rattle.html_faithful.specs.Walk.{is_faithful}
+use Rattle.html_faithful.specs.Walk.{is_faithful_by}
 
 abbrev pub document_trees : Forest → Trees
 document_trees f = trees_of f (children_of f 0)
@@ -39,9 +40,9 @@ told_quirks (Doctype name public_id system_id rest) = NoQuirks
 told_quirks trees = Quirks
 
 -- The document of the written text of trees has just these trees, in the quirks mode that the text asks for, and is written so again.
-pub record IsReadBack (rows : List Row) (opts : TokenizerOpts) (answers : Answers) (scripting : Bool) (trees : Trees) : Type 0 where
+pub record IsReadBack (rows : List Row) (opts : TokenizerOpts) (rules : Rules) (answers : Answers) (scripting : Bool) (trees : Trees) : Type 0 where
   pub left : State
-  pub gives : document rows opts (setting_of scripting answers) empty_forest (text_of scripting trees) ≡ Ok left
+  pub gives : document rows opts (setting_of rules scripting answers) empty_forest (text_of scripting trees) ≡ Ok left
   pub tree : IsTree left.forest
   pub shows : document_trees left.forest ≡ as_told trees
   -- so its walk makes the same calls of a serializer
@@ -51,19 +52,19 @@ pub record IsReadBack (rows : List Row) (opts : TokenizerOpts) (answers : Answer
 
 -- The written text of faithful trees is read as just them, by every table that reads what escaping writes, whatever a sink answers.
 abbrev pub AreFaithfulTreesReadBack : Type 0
-AreFaithfulTreesReadBack = (rows : List Row) → ReadsEscapes rows → (opts : TokenizerOpts) → opts.initial_state ≡ None → (answers : Answers)
-    (scripting : Bool) (trees : Trees) → is_faithful scripting trees ≡ true → IsReadBack rows opts answers scripting trees
+AreFaithfulTreesReadBack = (rows : List Row) → ReadsEscapes rows → (opts : TokenizerOpts) → opts.initial_state ≡ None
+    → (rules : Rules) (answers : Answers) (scripting : Bool) (trees : Trees) → is_faithful_by rules scripting trees ≡ true → IsReadBack rows opts rules answers scripting trees
 
 -- The bytes of such a text: UTF-8, of which the document is that of the text, and is written as the same bytes.
-pub record AreBytesReadBack (rows : List Row) (opts : TokenizerOpts) (answers : Answers) (scripting : Bool) (trees : Trees) (bytes : List ℕ)
-    : Type 0 where
+pub record AreBytesReadBack (rows : List Row) (opts : TokenizerOpts) (rules : Rules) (answers : Answers) (scripting : Bool) (trees : Trees)
+    (bytes : List ℕ) : Type 0 where
   pub utf8 : IsUtf8 bytes
   pub text : chars bytes ≡ text_of scripting trees
-  pub read : IsReadBack rows opts answers scripting trees
+  pub read : IsReadBack rows opts rules answers scripting trees
   pub same_bytes : encode_utf8_all (text_of scripting (document_trees read.left.forest)) ≡ bytes
 
 -- where the text is made of scalar values, as every text of a program is
 abbrev pub AreFaithfulBytesReadBack : Type 0
-AreFaithfulBytesReadBack = (rows : List Row) → ReadsEscapes rows → (opts : TokenizerOpts) → opts.initial_state ≡ None → (answers : Answers)
-    (scripting : Bool) (trees : Trees) → is_faithful scripting trees ≡ true → scalars (text_of scripting trees) ≡ true
-    → AreBytesReadBack rows opts answers scripting trees (encode_utf8_all (text_of scripting trees))
+AreFaithfulBytesReadBack = (rows : List Row) → ReadsEscapes rows → (opts : TokenizerOpts) → opts.initial_state ≡ None
+    → (rules : Rules) (answers : Answers) (scripting : Bool) (trees : Trees) → is_faithful_by rules scripting trees ≡ true → scalars (text_of scripting trees) ≡ true
+    → AreBytesReadBack rows opts rules answers scripting trees (encode_utf8_all (text_of scripting trees))

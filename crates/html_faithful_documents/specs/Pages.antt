@@ -3,21 +3,22 @@ use Rattle.std.specs.Prelude.{◌≡◌, ℕ, Bool, true, List, [], ◌++◌, So
 use Rattle.markup.specs.Escape.{written_comment, written_doctype}
 use Rattle.markup.specs.Trees.{Trees, Entry, default_entry, end_of, entry_under, start_under, text_under, written}
 use Rattle.html_rules.specs.State.{Answers}
+use Rattle.html_rules.specs.declared.rules.Rules.{Rules}
 use Rattle.html_tokens.specs.Laws.{ReadsEscapes}
 use Rattle.html_tokens.specs.Table.{Row}
 use Rattle.html_tokens.specs.declared.options.TokenizerOpts.{TokenizerOpts}
 use Rattle.html_faithful.specs.Holes.{AfterComment, AfterDoctype, AfterElement, AfterText, AreAlike, Here, Hole, Holed, Within, filled}
 use Rattle.html_faithful.specs.Holes.{hole_of}
-use Rattle.html_faithful.specs.Walk.{is_faithful}
+use Rattle.html_faithful.specs.Walk.{is_faithful_by}
 use Rattle.html_faithful_documents.specs.Documents.{IsReadBack, text_of}
 
 -- A page template is judged once, with a sample in its hole. Then, with any value that is like the sample, what is written of the page
 -- is read as just that page.
 abbrev pub AreFilledPagesReadBack : Type 0
-AreFilledPagesReadBack = (rows : List Row) → ReadsEscapes rows → (opts : TokenizerOpts) → opts.initial_state ≡ None → (answers : Answers)
-    (scripting : Bool) (page : Holed) (hole : Hole) (sample value : Trees)
-    → hole_of scripting page ≡ Some hole → is_faithful scripting (filled page sample) ≡ true → AreAlike scripting hole sample value
-    → IsReadBack rows opts answers scripting (filled page value)
+AreFilledPagesReadBack = (rows : List Row) → ReadsEscapes rows → (opts : TokenizerOpts) → opts.initial_state ≡ None
+    → (rules : Rules) (answers : Answers) (scripting : Bool) (page : Holed) (hole : Hole) (sample value : Trees)
+    → hole_of rules scripting page ≡ Some hole → is_faithful_by rules scripting (filled page sample) ≡ true → AreAlike scripting hole sample value
+    → IsReadBack rows opts rules answers scripting (filled page value)
 
 -- THE TEXT OF A PAGE
 

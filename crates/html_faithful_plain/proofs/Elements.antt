@@ -19,6 +19,7 @@ use Rattle.html_rules.specs.declared.insertion_mode.InsertionMode.{InsertionMode
 use Rattle.html_tokens.specs.Tags.{named}
 use Rattle.html_tokens.specs.declared.tags.TagKind.TheVariants.{EndTag, StartTag}
 use Rattle.html_tokens.specs.declared.token.Token.TheVariants.{TagToken}
+use Rattle.html_rules.specs.declared.rules.Rules.{Rules}
 use Rattle.html_faithful.specs.Checks.{closes_so, is_kept_so, opens_so}
 use Rattle.html_faithful.specs.Forms.{is_tag_name, lowered}
 use Rattle.html_faithful.specs.Harmless.{FormKept, Made, and_then, made_of}
@@ -58,24 +59,25 @@ name-suits true k = each-element (suits true) refl k
 name-suits false k = each-element (suits false) refl k
 
 -- the list and the pointer are kept those of the path
-abbrev opens_well : PlainElement → List Open → Bool
-opens_well k ys = opens_so (spelled k) (opened k ys ∷ ys) (change_of k) FormKept
+abbrev opens_well : Rules → PlainElement → List Open → Bool
+opens_well rules k ys = opens_so (spelled k) (opened rules k ys ∷ ys) (change_of k) FormKept
 
-abbrev closes_well : PlainElement → List Open → Bool
-closes_well k ys = closes_so (opened k ys ∷ ys) (change_back k) FormKept
+abbrev closes_well : Rules → PlainElement → List Open → Bool
+closes_well rules k ys = closes_so (opened rules k ys ∷ ys) (change_back k) FormKept
 
-unlinked-opens : (k : PlainElement) (ys : List Open) → (is_link k || opens_well k ys) ≡ true
+unlinked-opens : (rules : Rules) (k : PlainElement) (ys : List Open) → (is_link k || opens_well rules k ys) ≡ true
 unfolding names_of
-unlinked-opens k ys = each-element (λ k. is_link k || opens_well k ys) refl k
+unlinked-opens rules k ys = each-element (λ k. is_link k || opens_well rules k ys) refl k
 
-opens-well : (k : PlainElement) (ys : List Open) → (is_link k ≡ true → link_open ys ≡ false) → opens_well k ys ≡ true
+opens-well : (rules : Rules) (k : PlainElement) (ys : List Open) → (is_link k ≡ true → link_open ys ≡ false)
+    → opens_well rules k ys ≡ true
 unfolding names_of
-opens-well Link ys h = rw (h refl) refl
-opens-well k ys h = unlinked-opens k ys
+opens-well rules Link ys h = rw (h refl) refl
+opens-well rules k ys h = unlinked-opens rules k ys
 
-closes-well : (k : PlainElement) (ys : List Open) → closes_well k ys ≡ true
+closes-well : (rules : Rules) (k : PlainElement) (ys : List Open) → closes_well rules k ys ≡ true
 unfolding names_of
-closes-well k ys = each-element (λ k. closes_well k ys) refl k
+closes-well rules k ys = each-element (λ k. closes_well rules k ys) refl k
 
 -- START TAGS
 
@@ -172,7 +174,7 @@ element-started p m ys ok k attributes v plain link made =
     started-by (spelled k) attributes (there p m ys ok) (started_by p m ys ok k attributes) (low-name k) (tag-name k) (no-template k) plain
     made
     (and-so _ _ (and-so _ _ (made-well (spelled k) attributes (not (is_void (html_name (spelled k)))) true
-    (ap not (is-void true k ∙ v))) refl) (opens-well k ys link))
+    (ap not (is-void true k ∙ v))) refl) (opens-well p.rules k ys link))
 
 -- a `br` is started, and nothing is opened
 pub break-started : (p : Spot) (m : InsertionMode) (ys : List Open) (ok : Bool) (attributes : List Attribute)
@@ -187,8 +189,8 @@ break-started p m ys ok attributes plain made =
 
 -- and finished
 pub element-finished : (p : Spot) (m n : InsertionMode) (ys : List Open) (ok : Bool) (k : PlainElement) → is_frame k ≡ false
-    → made_of (end_of k) (there p n (opened k ys ∷ ys) ok) ≡ Some (closed_to p m ys ok k)
-    → finished (html_name (spelled k)) (there p n (opened k ys ∷ ys) ok) ≡ Some (there p m ys ok)
+    → made_of (end_of k) (there p n (opened p.rules k ys ∷ ys) ok) ≡ Some (closed_to p m ys ok k)
+    → finished (html_name (spelled k)) (there p n (opened p.rules k ys ∷ ys) ok) ≡ Some (there p m ys ok)
 element-finished p m n ys ok k f made =
-    finished-by (spelled k) [] (there p n (opened k ys ∷ ys) ok) (closed_to p m ys ok k) (there p m ys ok) (low-name k) refl made
-    (and-so _ _ (and-so _ _ refl (ap (λ b. cond b false true) (does-leave true k f))) (closes-well k ys))
+    finished-by (spelled k) [] (there p n (opened p.rules k ys ∷ ys) ok) (closed_to p m ys ok k) (there p m ys ok) (low-name k) refl made
+    (and-so _ _ (and-so _ _ refl (ap (λ b. cond b false true) (does-leave true k f))) (closes-well p.rules k ys))

@@ -24,18 +24,22 @@ use Rattle.html_rules.specs.ForeignContent.{is_foreign}
 use Rattle.html_rules.specs.Names as names
 use Rattle.html_rules.specs.Rules.{rows}
 use Rattle.html_rules.specs.Sets.{names_of}
-use Rattle.html_rules.specs.State.{Open}
+use Rattle.html_rules.specs.Stack.{in_scope}
+use Rattle.html_rules.specs.State.{Open, is_in}
 use Rattle.html_rules.specs.Tokens.{is_white}
 use Rattle.html_rules.specs.declared.insertion_mode.InsertionMode.{InsertionMode}
 use Rattle.html_rules.specs.declared.insertion_mode.InsertionMode.TheVariants as mode
 use Rattle.html_tokens.specs.declared.states.RawKind.TheVariants.{Rcdata}
 use Rattle.html_tokens.specs.declared.token.Token.TheVariants.{CharacterTokens}
+use Rattle.html_rules.specs.declared.rules.Rules.{Rules}
+use Rattle.html_rules.specs.declared.rules.Rules.TheVariants.{Html5ever, Standard}
+use Rattle.html_rules.specs.declared.tag_set.TagSet.TheVariants as set
 use Rattle.html_faithful.specs.Checks.{is_kept_so}
 use Rattle.html_faithful.specs.Forms.{is_kept}
 use Rattle.html_faithful.specs.Harmless.{FormKept, Made, Unchanged, by_rows, made_of, nothing_yet}
 use Rattle.html_faithful.specs.Harmless as put
 use Rattle.html_faithful.specs.Spots.{Spot}
-use Rattle.html_faithful.specs.Walk.{OfCurrent, OfDocument, OfRoot, finished, is_at_end, is_faithful, is_raw_inside, is_text}
+use Rattle.html_faithful.specs.Walk.{OfCurrent, OfDocument, OfRoot, finished, is_at_end, is_faithful_by, is_raw_inside, is_text}
 use Rattle.html_faithful.specs.Walk.{is_void, is_written_so, started, text_walked, walk}
 use Rattle.html_faithful_plain.proofs.Elements.{and-so, finished-by, is-void, is-written, low-name, made-well, no-template}
 use Rattle.html_faithful_plain.proofs.Elements.{started-by, tag-name}
@@ -68,21 +72,22 @@ title-escaped false = refl
 
 -- THE SPOTS
 
-abbrev path_of : List PlainElement → List Open
-path_of [] = []
-path_of (k ∷ ks) = opened k (path_of ks) ∷ path_of ks
+abbrev path_of : Rules → List PlainElement → List Open
+path_of rules [] = []
+path_of rules (k ∷ ks) = opened rules k (path_of rules ks) ∷ path_of rules ks
 
 -- a spot of the frame
-abbrev spot : Bool → InsertionMode → Option InsertionMode → List PlainElement → Bool → Bool → Spot
-spot scripting m original ks has_head ok = record {
+abbrev spot : Rules → Bool → InsertionMode → Option InsertionMode → List PlainElement → Bool → Bool → Spot
+spot rules scripting m original ks has_head ok = record {
   mode = m;
   orig_mode = original;
-  path = path_of ks;
+  path = path_of rules ks;
   template_modes = [];
   has_head = has_head;
   frameset_ok = ok;
   quirks_mode = NoQuirks;
   scripting = scripting;
+  rules = rules;
 }
 
 -- an element of the frame is put and opened
@@ -101,24 +106,30 @@ begun k attributes q = record {
 abbrev ended : Bool → Spot → Made
 ended closed q = record { spot = q; put = None; closed = closed; change = Unchanged; form = FormKept; raw = None; drops_line_feed = false }
 
-module _ (sc : Bool) where
+-- no paragraph is open in the body
+body-bounded : (rules : Rules) → in_scope set.ButtonScope (is_in set.P) (path_of rules (Body ∷ Html ∷ [])) ≡ false
+unfolding names_of
+body-bounded Html5ever = refl
+body-bounded Standard = refl
+
+module _ (rules : Rules) (sc : Bool) where
   abbrev before_html : Spot
-  before_html = spot sc mode.BeforeHtml None [] false true
+  before_html = spot rules sc mode.BeforeHtml None [] false true
 
   abbrev before_head : Spot
-  before_head = spot sc mode.BeforeHead None (Html ∷ []) false true
+  before_head = spot rules sc mode.BeforeHead None (Html ∷ []) false true
 
   abbrev in_head : Spot
-  in_head = spot sc mode.InHead None (Head ∷ Html ∷ []) true true
+  in_head = spot rules sc mode.InHead None (Head ∷ Html ∷ []) true true
 
   abbrev in_title : Spot
-  in_title = spot sc mode.Text (Some mode.InHead) (Title ∷ Head ∷ Html ∷ []) true true
+  in_title = spot rules sc mode.Text (Some mode.InHead) (Title ∷ Head ∷ Html ∷ []) true true
 
   abbrev after_head : Spot
-  after_head = spot sc mode.AfterHead None (Html ∷ []) true true
+  after_head = spot rules sc mode.AfterHead None (Html ∷ []) true true
 
   abbrev body_spot : InsertionMode → Bool → Spot
-  body_spot m ok = spot sc m None (Body ∷ Html ∷ []) true ok
+  body_spot m ok = spot rules sc m None (Body ∷ Html ∷ []) true ok
 
   -- WHAT IS MADE OF THE TAGS
 
@@ -149,7 +160,10 @@ module _ (sc : Bool) where
 
   body-end : (ok : Bool) → made_of (end_of Body) (body_spot mode.InBody ok) ≡ Some (ended false (body_spot mode.AfterBody ok))
   unfolding made_of by_rows rows names_of is_foreign
-  body-end ok = refl
+  body-end ok = by rules refl where
+    by : (r : Rules) → rules ≡ r → made_of (end_of Body) (body_spot mode.InBody ok) ≡ Some (ended false (body_spot mode.AfterBody ok))
+    by Html5ever e = rw e refl
+    by Standard e = rw e refl
 
   html-end : (ok : Bool) → made_of (end_of Html) (body_spot mode.AfterBody ok) ≡ Some (ended false (body_spot mode.AfterAfterBody ok))
   unfolding made_of by_rows rows names_of is_foreign
@@ -313,12 +327,12 @@ module _ (sc : Bool) where
   -- THE BODY AND THE ROOT
 
   -- what stands in the body, of which rows ask nothing
-  body-stands : Stands (body_spot mode.InBody false) InFlow false (path_of (Body ∷ Html ∷ []))
+  body-stands : Stands (body_spot mode.InBody false) InFlow false (path_of rules (Body ∷ Html ∷ []))
   unfolding names_of
   body-stands = record {
     own = refl;
     again = λ s e. refl;
-    paragraph = λ e. refl;
+    paragraph = λ e. body-bounded rules;
     heading = λ e. refl;
     unlisted = λ e. refl;
     unlinked = λ e. refl;
@@ -337,7 +351,7 @@ module _ (sc : Bool) where
       → IsRootWalked (Element (html_name (spelled Body)) attributes false flow Nothing) after_head before
   unfolding walk html_namespace names_of
   body-walked before attributes flow plain within =
-      let inner = trees-walk sc flow (body_spot mode.InBody false) InFlow false (path_of (Body ∷ Html ∷ [])) false false refl within
+      let inner = trees-walk sc flow (body_spot mode.InBody false) InFlow false (path_of rules (Body ∷ Html ∷ [])) false false refl within
       body-stands in
       record {
         flag = inner.flag;
@@ -374,8 +388,8 @@ module _ (sc : Bool) where
             (head-walked false f.heads h.heads) head-finished ∙ behind.ends;
       }
 
-  frame-faithful : (f : Frame) → IsPlainFrame f → is_faithful sc (framed f) ≡ true
-  unfolding is_faithful html_namespace walk
+  frame-faithful : (f : Frame) → IsPlainFrame f → is_faithful_by rules sc (framed f) ≡ true
+  unfolding is_faithful_by html_namespace walk
   frame-faithful f h =
       let inside = Element (html_name (spelled Head)) f.head false f.heads
       (text_before f.space (Element (html_name (spelled Body)) f.body false f.flow Nothing)) in
@@ -384,7 +398,7 @@ module _ (sc : Bool) where
       (begun Html f.root before_head) (body_spot mode.AfterBody root.flag) (body_spot mode.AfterAfterBody root.flag)
       refl (html-started f.root h.root) (is-written sc Html) refl refl root.ends (html-finished root.flag))
 
-  pub plain-faithful : (trees : Trees) → is_plain_document trees ≡ true → is_faithful sc trees ≡ true
+  pub plain-faithful : (trees : Trees) → is_plain_document trees ≡ true → is_faithful_by rules sc trees ≡ true
   plain-faithful trees h =
       let f = documents-framed trees (computed-cases BeforeDoctype false trees h) in
-      ap (is_faithful sc) f.1.0 ∙ frame-faithful f.0 f.1.1
+      ap (is_faithful_by rules sc) f.1.0 ∙ frame-faithful f.0 f.1.1

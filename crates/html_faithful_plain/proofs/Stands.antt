@@ -5,6 +5,7 @@ use Rattle.html_plain.specs.Elements.{holds, inside, is_in_link, spelled}
 use Rattle.html_plain.specs.declared.elements.CellKind.TheVariants.{Data, Header}
 use Rattle.html_plain.specs.declared.elements.Format.TheVariants.{Bold, Italic, Emphasis, Code}
 use Rattle.html_plain.specs.declared.elements.Level.TheVariants.{One, Two, Three, Four, Five, Six}
+use Rattle.html_plain.specs.declared.elements.ListKind.{ListKind}
 use Rattle.html_plain.specs.declared.elements.ListKind.TheVariants.{Unordered, Ordered}
 use Rattle.html_plain.specs.declared.elements.PlainElement.{PlainElement}
 use Rattle.html_plain.specs.declared.elements.PlainElement.TheVariants.{Paragraph, Heading, Division}
@@ -23,6 +24,8 @@ use Rattle.html_rules.specs.declared.insertion_mode.InsertionMode.{InsertionMode
 use Rattle.html_rules.specs.declared.insertion_mode.InsertionMode.TheVariants as mode
 use Rattle.html_rules.specs.declared.tag_set.TagSet.{TagSet}
 use Rattle.html_rules.specs.declared.tag_set.TagSet.TheVariants as set
+use Rattle.html_rules.specs.declared.rules.Rules.{Rules}
+use Rattle.html_rules.specs.declared.rules.Rules.TheVariants.{Html5ever, Standard}
 use Rattle.html_faithful.specs.Listing.{link_open}
 use Rattle.html_faithful.specs.Spots.{Spot, entries_of, hollow, opened_at}
 
@@ -83,8 +86,8 @@ is_break Break = true
 is_break k = false
 
 -- an element that is opened there
-abbrev pub opened : PlainElement → List Open → Open
-opened k xs = opened_at names.Html (spelled k) xs
+abbrev pub opened : Rules → PlainElement → List Open → Open
+opened rules k xs = opened_at rules names.Html (spelled k) xs
 
 -- a spot with another mode, other elements open, and another flag
 abbrev pub there : Spot → InsertionMode → List Open → Bool → Spot
@@ -122,7 +125,7 @@ part-alone place h = no h
 
 module _ (p : Spot) (cell : Bool) (k : PlainElement) (ys : List Open) where
   abbrev zs : List Open
-  zs = opened k ys ∷ ys
+  zs = opened p.rules k ys ∷ ys
 
   abbrev Again : PlainPlace → Type 0
   Again place = (s : State) → Faces p s → mode_of_open s zs ≡ mode_at place cell
@@ -137,7 +140,7 @@ module _ (p : Spot) (cell : Bool) (k : PlainElement) (ys : List Open) where
   Unlinked = link_open zs ≡ false
 
   -- an element that holds flow content
-  flow-inside : Again InFlow → Outside → is_in set.HeadingTag (opened k ys) ≡ false → Unlisted → Unlinked → Stands p InFlow cell zs
+  flow-inside : Again InFlow → Outside → is_in set.HeadingTag (opened p.rules k ys) ≡ false → Unlisted → Unlinked → Stands p InFlow cell zs
   flow-inside again paragraph heading unlisted unlinked = record {
     own = refl;
     again = again;
@@ -194,9 +197,60 @@ module _ (p : Spot) (cell : Bool) (k : PlainElement) (ys : List Open) where
     foster = λ e. foster;
   }
 
+-- elements that bound no scope of a button
+abbrev is_passed : PlainElement → Bool
+is_passed Division = true
+is_passed (ListElement kind) = true
+is_passed Item = true
+is_passed TableBody = true
+is_passed Row = true
+is_passed k = false
+
+passed : (rules : Rules) (k : PlainElement) → is_passed k ≡ true → (ys : List Open) → in_scope set.ButtonScope (is_in set.P) ys ≡ false
+    → in_scope set.ButtonScope (is_in set.P) (opened rules k ys ∷ ys) ≡ false
+unfolding names_of
+passed Html5ever Division i ys h = h
+passed Standard Division i ys h = h
+passed Html5ever (ListElement Unordered) i ys h = h
+passed Standard (ListElement Unordered) i ys h = h
+passed Html5ever (ListElement Ordered) i ys h = h
+passed Standard (ListElement Ordered) i ys h = h
+passed Html5ever Item i ys h = h
+passed Standard Item i ys h = h
+passed Html5ever TableBody i ys h = h
+passed Standard TableBody i ys h = h
+passed Html5ever Row i ys h = h
+passed Standard Row i ys h = h
+passed rules k i ys h = no i
+
+-- no item is found in a list
+itemless : (rules : Rules) (kind : ListKind) (ys : List Open) → item_name set.Li (opened rules (ListElement kind) ys ∷ ys) ≡ None
+unfolding names_of
+itemless Html5ever Unordered ys = refl
+itemless Standard Unordered ys = refl
+itemless Html5ever Ordered ys = refl
+itemless Standard Ordered ys = refl
+
+-- and elements that do
+abbrev is_bound : PlainElement → Bool
+is_bound Table = true
+is_bound (Cell kind) = true
+is_bound k = false
+
+bounded : (rules : Rules) (k : PlainElement) → is_bound k ≡ true → (ys : List Open)
+    → in_scope set.ButtonScope (is_in set.P) (opened rules k ys ∷ ys) ≡ false
+unfolding names_of
+bounded Html5ever Table i ys = refl
+bounded Standard Table i ys = refl
+bounded Html5ever (Cell Data) i ys = refl
+bounded Standard (Cell Data) i ys = refl
+bounded Html5ever (Cell Header) i ys = refl
+bounded Standard (Cell Header) i ys = refl
+bounded rules k i ys = no i
+
 module _ (p : Spot) (cell : Bool) (ys : List Open) where
   abbrev Inside : PlainPlace → PlainElement → Type 0
-  Inside place k = Stands p (inside place k) (in_cell k cell) (opened k ys ∷ ys)
+  Inside place k = Stands p (inside place k) (in_cell k cell) (opened p.rules k ys ∷ ys)
 
   pub in-flow : (k : PlainElement) → holds InFlow k ≡ true → is_break k ≡ false → Stands p InFlow cell ys → Inside InFlow k
   unfolding names_of
@@ -207,13 +261,17 @@ module _ (p : Spot) (cell : Bool) (ys : List Open) where
   in-flow (Heading Four) e v h = line-inside p cell (Heading Four) ys false h.again h.unlisted h.unlinked
   in-flow (Heading Five) e v h = line-inside p cell (Heading Five) ys false h.again h.unlisted h.unlinked
   in-flow (Heading Six) e v h = line-inside p cell (Heading Six) ys false h.again h.unlisted h.unlinked
-  in-flow Division e v h = flow-inside p cell Division ys h.again (h.paragraph refl) refl (h.unlisted refl) (h.unlinked refl)
+  in-flow Division e v h = flow-inside p cell Division ys h.again (passed p.rules Division refl ys (h.paragraph refl)) refl (h.unlisted refl) (h.unlinked refl)
   in-flow (ListElement Unordered) e v h =
-      list-inside p cell (ListElement Unordered) ys h.again (h.paragraph refl) (h.unlisted refl) (h.unlinked refl) refl
+      list-inside p cell (ListElement Unordered) ys h.again
+      (passed p.rules (ListElement Unordered) refl ys (h.paragraph refl)) (h.unlisted refl) (h.unlinked refl)
+      (itemless p.rules Unordered ys)
   in-flow (ListElement Ordered) e v h =
-      list-inside p cell (ListElement Ordered) ys h.again (h.paragraph refl) (h.unlisted refl) (h.unlinked refl) refl
+      list-inside p cell (ListElement Ordered) ys h.again
+      (passed p.rules (ListElement Ordered) refl ys (h.paragraph refl)) (h.unlisted refl) (h.unlinked refl)
+      (itemless p.rules Ordered ys)
   in-flow Table e v h =
-      part-inside p cell Table ys InTable refl (λ s t. refl) refl (h.unlisted refl) (h.unlinked refl) refl refl
+      part-inside p cell Table ys InTable refl (λ s t. refl) (bounded p.rules Table refl ys) (h.unlisted refl) (h.unlinked refl) refl refl
   in-flow (Formatted Bold) e v h = line-inside p cell (Formatted Bold) ys false h.again h.unlisted h.unlinked
   in-flow (Formatted Italic) e v h = line-inside p cell (Formatted Italic) ys false h.again h.unlisted h.unlinked
   in-flow (Formatted Emphasis) e v h = line-inside p cell (Formatted Emphasis) ys false h.again h.unlisted h.unlinked
@@ -235,25 +293,27 @@ module _ (p : Spot) (cell : Bool) (ys : List Open) where
 
   pub in-list : (k : PlainElement) → holds InList k ≡ true → Stands p InList cell ys → Inside InList k
   unfolding names_of
-  in-list Item e h = flow-inside p cell Item ys h.again (h.paragraph refl) refl (h.unlisted refl) (h.unlinked refl)
+  in-list Item e h = flow-inside p cell Item ys h.again (passed p.rules Item refl ys (h.paragraph refl)) refl (h.unlisted refl) (h.unlinked refl)
   in-list k e h = no e
 
   pub in-table : (k : PlainElement) → holds InTable k ≡ true → Stands p InTable cell ys → Inside InTable k
   unfolding names_of
   in-table TableBody e h =
-      part-inside p cell TableBody ys InTableBody refl (λ s t. refl) (h.paragraph refl) (h.unlisted refl) (h.unlinked refl) refl refl
+      part-inside p cell TableBody ys InTableBody refl (λ s t. refl)
+      (passed p.rules TableBody refl ys (h.paragraph refl)) (h.unlisted refl) (h.unlinked refl) refl refl
   in-table k e h = no e
 
   pub in-bodies : (k : PlainElement) → holds InTableBody k ≡ true → Stands p InTableBody cell ys → Inside InTableBody k
   unfolding names_of
   in-bodies Row e h =
-      part-inside p cell Row ys InRow refl (λ s t. refl) (h.paragraph refl) (h.unlisted refl) (h.unlinked refl) refl refl
+      part-inside p cell Row ys InRow refl (λ s t. refl)
+      (passed p.rules Row refl ys (h.paragraph refl)) (h.unlisted refl) (h.unlinked refl) refl refl
   in-bodies k e h = no e
 
   pub in-row : (k : PlainElement) → holds InRow k ≡ true → Stands p InRow cell ys → Inside InRow k
   unfolding names_of
-  in-row (Cell Data) e h = flow-inside p true (Cell Data) ys (λ s t. refl) refl refl refl refl
-  in-row (Cell Header) e h = flow-inside p true (Cell Header) ys (λ s t. refl) refl refl refl refl
+  in-row (Cell Data) e h = flow-inside p true (Cell Data) ys (λ s t. refl) (bounded p.rules (Cell Data) refl ys) refl refl refl
+  in-row (Cell Header) e h = flow-inside p true (Cell Header) ys (λ s t. refl) (bounded p.rules (Cell Header) refl ys) refl refl refl
   in-row k e h = no e
 
   -- where the children of an element stand

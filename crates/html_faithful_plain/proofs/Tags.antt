@@ -81,7 +81,7 @@ mode_of k m = m
 -- an element is put and opened
 abbrev pub started_by : Spot → InsertionMode → List Open → Bool → PlainElement → List Attribute → Made
 started_by p m ys ok k attributes = record {
-  spot = there p (mode_of k m) (opened k ys ∷ ys) (flag_of k ok);
+  spot = there p (mode_of k m) (opened p.rules k ys ∷ ys) (flag_of k ok);
   put = Some (put.Element names.Html (spelled k) attributes true);
   closed = false;
   change = change_of k;
@@ -242,7 +242,7 @@ ends_in_flow k = false
 
 module _ (n : ℕ) (p : Spot) (m : InsertionMode) (ys : List Open) (ok : Bool) where
   abbrev Ends : PlainElement → Type 0
-  Ends k = by_rows (suc n) (rows mode.InBody) (end_of k) (nothing_yet (there p m (opened k ys ∷ ys) ok)) ≡ Some (closed_to p m ys ok k)
+  Ends k = by_rows (suc n) (rows mode.InBody) (end_of k) (nothing_yet (there p m (opened p.rules k ys ∷ ys) ok)) ≡ Some (closed_to p m ys ok k)
 
   body-end : (k : PlainElement) → ends_in_flow k ≡ true → Ends k
   unfolding by_rows rows names_of
@@ -373,23 +373,23 @@ module _ (p : Spot) (ys : List Open) (ok : Bool) where
   cell-starts attributes Header h = rw h refl
 
   table-end : (m : InsertionMode) → mode_of_open (hollow (there p mode.InTable ys ok)) ys ≡ m
-      → by_rows 4 (rows mode.InTable) (end_of Table) (nothing_yet (there p mode.InTable (opened Table ys ∷ ys) ok))
+      → by_rows 4 (rows mode.InTable) (end_of Table) (nothing_yet (there p mode.InTable (opened p.rules Table ys ∷ ys) ok))
       ≡ Some (closed_to p m ys ok Table)
   unfolding by_rows rows names_of
   table-end m h = rw h refl
 
   table_body-end : by_rows 4 (rows mode.InTableBody) (end_of TableBody)
-      (nothing_yet (there p mode.InTableBody (opened TableBody ys ∷ ys) ok)) ≡ Some (closed_to p mode.InTable ys ok TableBody)
+      (nothing_yet (there p mode.InTableBody (opened p.rules TableBody ys ∷ ys) ok)) ≡ Some (closed_to p mode.InTable ys ok TableBody)
   unfolding by_rows rows names_of
   table_body-end = refl
 
-  row-end : by_rows 4 (rows mode.InRow) (end_of Row) (nothing_yet (there p mode.InRow (opened Row ys ∷ ys) ok))
+  row-end : by_rows 4 (rows mode.InRow) (end_of Row) (nothing_yet (there p mode.InRow (opened p.rules Row ys ∷ ys) ok))
       ≡ Some (closed_to p mode.InTableBody ys ok Row)
   unfolding by_rows rows names_of
   row-end = refl
 
   cell-ends : (kind : CellKind) → by_rows 4 (rows mode.InCell) (end_of (Cell kind))
-      (nothing_yet (there p mode.InCell (opened (Cell kind) ys ∷ ys) ok)) ≡ Some (closed_to p mode.InRow ys ok (Cell kind))
+      (nothing_yet (there p mode.InCell (opened p.rules (Cell kind) ys ∷ ys) ok)) ≡ Some (closed_to p mode.InRow ys ok (Cell kind))
   unfolding by_rows rows names_of
   cell-ends Data = refl
   cell-ends Header = refl
@@ -466,13 +466,13 @@ module _ (p : Spot) (cell : Bool) (ys : List Open) (ok : Bool) (attributes : Lis
 
 module _ (p : Spot) (cell : Bool) (ys : List Open) (ok : Bool) where
   abbrev EndsIn : PlainPlace → PlainElement → Type 0
-  EndsIn place k = made_of (end_of k) (there p (mode_at (inside place k) (in_cell k cell)) (opened k ys ∷ ys) ok)
+  EndsIn place k = made_of (end_of k) (there p (mode_at (inside place k) (in_cell k cell)) (opened p.rules k ys ∷ ys) ok)
       ≡ Some (closed_to p (mode_at place cell) ys ok k)
 
   by-flow-end : (k : PlainElement) → ends_in_flow k ≡ true
-      → made_of (end_of k) (there p (flow_mode cell) (opened k ys ∷ ys) ok) ≡ Some (closed_to p (flow_mode cell) ys ok k)
+      → made_of (end_of k) (there p (flow_mode cell) (opened p.rules k ys ∷ ys) ok) ≡ Some (closed_to p (flow_mode cell) ys ok k)
   by-flow-end k e =
-      in-flow-so (there p (flow_mode cell) (opened k ys ∷ ys) ok) cell (end_of k) _ refl refl (cell-end k e) refl
+      in-flow-so (there p (flow_mode cell) (opened p.rules k ys ∷ ys) ok) cell (end_of k) _ refl refl (cell-end k e) refl
       (λ n. body-end n p (flow_mode cell) ys ok k e)
 
   flow-end : (k : PlainElement) → holds InFlow k ≡ true → is_break k ≡ false → Stands p InFlow cell ys → EndsIn InFlow k
@@ -480,7 +480,7 @@ module _ (p : Spot) (cell : Bool) (ys : List Open) (ok : Bool) where
   flow-end (Heading level) e v h = by-flow-end (Heading level) refl
   flow-end Division e v h = by-flow-end Division refl
   flow-end (ListElement kind) e v h = by-flow-end (ListElement kind) refl
-  flow-end Table e v h = by-own (there p mode.InTable (opened Table ys ∷ ys) ok) (end_of Table) refl refl
+  flow-end Table e v h = by-own (there p mode.InTable (opened p.rules Table ys ∷ ys) ok) (end_of Table) refl refl
       ∙ table-end p ys ok (flow_mode cell) (h.again (hollow (there p mode.InTable ys ok)) (faces p mode.InTable ys ok))
   flow-end (Formatted format) e v h = by-flow-end (Formatted format) refl
   flow-end Link e v h = by-flow-end Link refl
@@ -500,10 +500,10 @@ module _ (p : Spot) (cell : Bool) (ys : List Open) (ok : Bool) where
   place-end (InLine in_link) k i e v h = line-end in_link k e v
   place-end InList Item i e v h = by-flow-end Item refl
   place-end InTable TableBody i e v h =
-      by-own (there p mode.InTableBody (opened TableBody ys ∷ ys) ok) (end_of TableBody) refl refl ∙ table_body-end p ys ok
-  place-end InTableBody Row i e v h = by-own (there p mode.InRow (opened Row ys ∷ ys) ok) (end_of Row) refl refl ∙ row-end p ys ok
+      by-own (there p mode.InTableBody (opened p.rules TableBody ys ∷ ys) ok) (end_of TableBody) refl refl ∙ table_body-end p ys ok
+  place-end InTableBody Row i e v h = by-own (there p mode.InRow (opened p.rules Row ys ∷ ys) ok) (end_of Row) refl refl ∙ row-end p ys ok
   place-end InRow (Cell kind) i e v h =
-      by-own (there p mode.InCell (opened (Cell kind) ys ∷ ys) ok) (end_of (Cell kind)) refl refl ∙ cell-ends p ys ok kind
+      by-own (there p mode.InCell (opened p.rules (Cell kind) ys ∷ ys) ok) (end_of (Cell kind)) refl refl ∙ cell-ends p ys ok kind
   place-end InList k i e v h = no e
   place-end InTable k i e v h = no e
   place-end InTableBody k i e v h = no e

@@ -22,12 +22,13 @@ use Rattle.html_rules.specs.Tokens.{is_hidden_value, is_shadow_mode}
 use Rattle.html_tokens.specs.TagEquality.{value_of}
 use Rattle.html_tokens.specs.declared.states.RawKind.{RawKind}
 use Rattle.html_tokens.specs.declared.states.RawKind.TheVariants.{Rcdata}
+use Rattle.html_rules.specs.declared.rules.Rules.TheVariants.{Html5ever}
 use Rattle.html_faithful.specs.Forms.{is_comment_text, is_kept, is_raw_text, lowered, told_attribute}
 use Rattle.html_faithful.specs.Harmless.{Made, and_then}
 use Rattle.html_faithful.specs.Holes.{AreTagsAlike, Here, Hole, Raw, begins_with_text, is_flow_mode, is_text_mode, joined}
 use Rattle.html_faithful.specs.Holes.{text_value}
 use Rattle.html_faithful.specs.Spots.{Spot}
-use Rattle.html_faithful.specs.Walk.{Parent, are_none, below, finished, fits_inside, is_current, is_raw_inside, is_rcdata, is_text}
+use Rattle.html_faithful.specs.Walk.{Parent, are_none, below, finished, fits_inside, is_current, is_raw_inside, is_rcdata, is_text, is_faithful_by}
 use Rattle.html_faithful.specs.Walk.{is_void, is_written_so, may_stay, started}
 use Rattle.html_faithful.specs.Walk.{OfDocument, comment_put, first_spot, is_at_end, is_faithful, text_put, walk}
 use Rattle.html_faithful.specs.Values.{IsAskedSame, with_values}
@@ -556,8 +557,8 @@ at-end (Some q) w h e = ap is_at_end (h q refl) ∙ e
 pub templates-filled : (scripting : Bool) (page : Template) (values : Values) → is_template scripting page ≡ true
     → ((n : ℕ) → is_kept (values.text n) ≡ true) → ArePlainValues values page
     → is_faithful scripting (page_with values page) ≡ true
-unfolding is_faithful
+unfolding is_faithful_by
 templates-filled scripting page values h kept plain =
-    let p = first_spot scripting NoQuirks in
+    let p = first_spot Html5ever scripting NoQuirks in
     at-end (checked scripting OfDocument false false page p) (walk scripting OfDocument false false (filled values page) p)
     (λ q e. template-filled scripting values kept page plain OfDocument false false p q e) h

@@ -303,17 +303,17 @@ full-walked scripting p place cell ys ok after_text k attributes kids rest i e v
     let made = started_by p m ys ok k attributes in
     let start = element-started p m ys ok k attributes v plain (λ l. h.unlinked (link-apart place k e l))
     (place-start p cell ys ok attributes place k i e v h) in
-    let inner = walks p (inside place k) (in_cell k cell) (opened k ys ∷ ys) (flag_of k ok) false (inner-by place k outer v) within
+    let inner = walks p (inside place k) (in_cell k cell) (opened p.rules k ys ∷ ys) (flag_of k ok) false (inner-by place k outer v) within
     (in-place p cell ys place k i e v h) in
     let end = element-finished p m (mode_at (inside place k) (in_cell k cell)) ys inner.flag k frame
     (place-end p cell ys inner.flag place k i e v h) in
     let done = goes inner.flag in
-    let there_inside : made.spot ≡ there p (mode_at (inside place k) (in_cell k cell)) (opened k ys ∷ ys) (flag_of k ok) =
-    ap (λ (n : InsertionMode). there p n (opened k ys ∷ ys) (flag_of k ok)) (mode-inside place cell k i e v) in
+    let there_inside : made.spot ≡ there p (mode_at (inside place k) (in_cell k cell)) (opened p.rules k ys ∷ ys) (flag_of k ok) =
+    ap (λ (n : InsertionMode). there p n (opened p.rules k ys ∷ ys) (flag_of k ok)) (mode-inside place cell k i e v) in
     record {
       flag = done.flag;
       ends = element-walked scripting OfCurrent after_text false (html_name (spelled k)) attributes kids rest (there p m ys ok) made
-          (there p (mode_at (inside place k) (in_cell k cell)) (opened k ys ∷ ys) inner.flag) (there p m ys inner.flag)
+          (there p (mode_at (inside place k) (in_cell k cell)) (opened p.rules k ys ∷ ys) inner.flag) (there p m ys inner.flag)
           (stays k frame) start (is-written scripting k) (is-void scripting k ∙ v) refl
           (ap (walk scripting OfCurrent false false kids) there_inside ∙ inner.ends) end ∙ done.ends;
       stays_off = λ e. done.stays_off (inner.stays_off (off-tag k ok e));

@@ -15,6 +15,7 @@ use Rattle.html_rules.specs.Choice.{choose}
 use Rattle.html_rules.specs.ForeignContent.{is_html_element}
 use Rattle.html_rules.specs.State.{current_is}
 use Rattle.html_tokens.specs.declared.states.RawKind.{RawKind}
+use Rattle.html_rules.specs.declared.rules.Rules.TheVariants.{Html5ever}
 use Rattle.html_faithful.specs.Forms.{is_comment_text, is_kept, is_raw_text, lowered, told_attribute}
 use Rattle.html_faithful.specs.Harmless.{and_then}
 use Rattle.html_faithful.specs.Holes.{is_flow_mode, is_text_mode, joined}
@@ -139,7 +140,7 @@ checked scripting parent after_text drops (Element name slots template kids rest
 
 -- a template of a page, with the doctype `html` before it
 abbrev pub is_template : Bool → Template → Bool
-is_template scripting page = is_at_end (checked scripting OfDocument false false page (first_spot scripting NoQuirks))
+is_template scripting page = is_at_end (checked scripting OfDocument false false page (first_spot Html5ever scripting NoQuirks))
 
 abbrev pub page_with : Values → Template → Trees
 page_with values page = Doctype (codes "html") [] [] (filled values page)

@@ -31,7 +31,7 @@ use Rattle.html_rules.specs.Templates.{insert_template}
 use Rattle.markup.specs.Namespaces.{known_namespace, name_of}
 use Rattle.markup.specs.Trees.{trees_within, written}
 use Rattle.html_faithful.specs.Harmless.{by_rows, made_of}
-use Rattle.html_faithful.specs.Walk.{walk, is_faithful}
+use Rattle.html_faithful.specs.Walk.{walk, is_faithful_by}
 use Rattle.html_faithful.proofs.border.bodies_are_first_outside.Goals as goal
 
 pub returns : goal.returns
@@ -49,5 +49,5 @@ unfolding reading_from value_from clean_from html_namespace set_mode save_mode r
     pop_but_root pop_until pop_until_current expect_to_close remove_from_stack generate_implied_end_tags
     generate_implied_end_except close_p_element close_p_element_in_button_scope close_item process_end_tag_in_body
     check_body_end add_attributes_to_root add_attributes_to_body remove_body taken step is_quiet ended
-    insert_template trees_within written known_namespace name_of by_rows made_of walk is_faithful
+    insert_template trees_within written known_namespace name_of by_rows made_of walk is_faithful_by
 returns c = refl

@@ -5,5 +5,5 @@ pub returns : goal.returns
 returns c = record {
   trees = λ scripting parent after_text drops raw holed p hole a b e alike.
       holes-filled scripting hole a b alike parent after_text drops raw holed p e;
-  documents = λ scripting holed hole a b e alike. documents-filled scripting hole a b alike holed e;
+  documents = λ rules scripting holed hole a b e alike. documents-filled scripting hole a b alike rules holed e;
 }
