@@ -22,6 +22,7 @@ use Rattle.html_rules.specs.Sets.{mathml_names_of, names_of, svg_names_of}
 use Rattle.html_rules.specs.Formatting.{last_named}
 use Rattle.html_rules.specs.Stack.{has_open, item_name, without_current}
 use Rattle.html_rules.specs.State.{Element, Entry, Marker, Open, is_in}
+use Rattle.html_rules.specs.declared.rules.Rules.{Rules}
 use Rattle.html_rules.specs.declared.tag_set.TagSet.{TagSet}
 use Rattle.html_rules.specs.declared.tag_set.TagSet.TheVariants as set
 use Rattle.html_faithful.specs.Listing.{link_open}
@@ -101,21 +102,21 @@ last-of false false true d h = absurd cc
 last-of false false false true h = absurd cc
 
 -- what is listed as an `a` is an `a`
-unlisted : (space : names.Namespace) (name : List ℕ) (n : ℕ) → is_in set.A (record { number = n; namespace = space; name = name }) ≡ false
-    → is_listed_a (record { number = n; namespace = space; name = name }) ≡ false
+unlisted : (rules : Rules) (space : names.Namespace) (name : List ℕ) (n : ℕ) → is_in set.A (record { number = n; namespace = space; name = name; rules = rules }) ≡ false
+    → is_listed_a (record { number = n; namespace = space; name = name; rules = rules }) ≡ false
 unfolding names_of mathml_names_of svg_names_of
-unlisted space name n h = by space (bytes_eq name (codes "a")) refl h
+unlisted rules space name n h = by space (bytes_eq name (codes "a")) refl h
   where
     and-false : (b : Bool) → (b && false) ≡ false
     and-false true = refl
     and-false false = refl
 
     by : (space : names.Namespace) (b : Bool) → bytes_eq name (codes "a") ≡ b
-        → is_in set.A (record { number = n; namespace = space; name = name }) ≡ false
-        → is_listed_a (record { number = n; namespace = space; name = name }) ≡ false
-    by space false e h = rw e (and-false (is_in set.FormattingEnd (record { number = n; namespace = space; name = name })))
+        → is_in set.A (record { number = n; namespace = space; name = name; rules = rules }) ≡ false
+        → is_listed_a (record { number = n; namespace = space; name = name; rules = rules }) ≡ false
+    by space false e h = rw e (and-false (is_in set.FormattingEnd (record { number = n; namespace = space; name = name; rules = rules })))
     by names.Html true e h =
-        let is : is_in set.A (record { number = n; namespace = names.Html; name = name }) ≡ true = rw e refl in
+        let is : is_in set.A (record { number = n; namespace = names.Html; name = name; rules = rules }) ≡ true = rw e refl in
         absurd cc
     by names.MathMl true e h = refl
     by names.Svg true e h = refl
@@ -129,7 +130,7 @@ usual-same : (x : Open) (c : Context) → is_usual x ≡ true → c.ends_with_bo
 usual-same x c usual ends =
     let none = none-of (is_in set.Form x) (is_marked x) (is_in set.A x) (is_in set.Li x) (is_in set.DdDt x) (bars_items x) usual in
     let template = last-of (is_in set.AppletMarqueeObject x) (is_in set.TdTh x) (is_in set.Caption x) (is_in set.Template x) none.1 in
-    rw (none.0, none.1, template, unlisted x.namespace x.name x.number none.2, none.2, none.3, none.4, none.5)
+    rw (none.0, none.1, template, unlisted x.rules x.namespace x.name x.number none.2, none.2, none.3, none.4, none.5)
     (ap (λ ends. record c { ends_with_body = ends }) (body-by (is_in set.BodyEnd x) c.ends_with_body ends))
 
 -- WHAT IS KEPT

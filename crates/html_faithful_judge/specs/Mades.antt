@@ -54,7 +54,7 @@ made_as made = record {
 -- an element is opened, and nothing else changes
 abbrev pub pushed : Namespace → List ℕ → Made → Made
 pushed namespace name made =
-    record made { spot = record made.spot { path = opened_at namespace name made.spot.path ∷ made.spot.path } }
+    record made { spot = record made.spot { path = opened_at made.spot.rules namespace name made.spot.path ∷ made.spot.path } }
 
 -- the current node leaves the open elements, and nothing else changes
 abbrev pub popped : Made → Made

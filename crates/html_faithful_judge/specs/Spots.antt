@@ -21,6 +21,7 @@ spot_of s = record {
   frameset_ok = s.frameset_ok;
   quirks_mode = s.quirks_mode;
   scripting = s.scripting;
+  rules = s.stack.rules;
 }
 
 -- whether the rules of HTML take a token in an element, where no sink says that HTML may stand in it
@@ -36,7 +37,7 @@ is_foreign_in t x = not (is_html_element x) && not (is_html_at x t)
 
 -- an element is opened there
 abbrev pub opened_in : Namespace → List ℕ → Spot → Spot
-opened_in namespace name p = record p { path = opened_at namespace name p.path ∷ p.path }
+opened_in namespace name p = record p { path = opened_at p.rules namespace name p.path ∷ p.path }
 
 -- the current node is closed
 abbrev pub closed_in : Spot → Spot

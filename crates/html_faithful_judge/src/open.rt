@@ -3,12 +3,13 @@ ghost use Rattle.std.specs.Prelude.{◌≡◌, ◌≤◌, ◌∷◌, [], List, I
 ghost use Rattle.markup.specs.declared.fault.ParseFault.TheVariants.{Memory};
 ghost use Rattle.html_rules.specs.Stack.{without_current};
 ghost use Rattle.html_rules.specs.State.{Open};
+ghost use Rattle.html_rules.specs.declared.rules.Rules.TheVariants.{Html5ever};
 ghost use Rattle.html_stack.specs.Stacks.{open_of};
 ghost use Rattle.html_faithful_judge.specs.Contexts.{context_of, kept_of, number_of};
 
 use crate::context::{Context, is_usual};
 use html_forest::{Forest, NodeId};
-use html_rules::InsertionMode;
+use html_rules::{InsertionMode, Rules};
 use html_stack::{OpenElement, Stack};
 use markup::ParseFault;
 use std::alloc::Global;
@@ -105,10 +106,10 @@ fn keep(
 impl OpenElements {
     /// No open elements.
     pub fn new(alloc: Global) -> OpenElements
-        ensures { result ≡ record { open_elems = []; active_formatting = []; template_modes = [] } }
+        ensures { result ≡ record { open_elems = []; active_formatting = []; template_modes = []; rules = Html5ever } }
     {
         OpenElements {
-            stack: Stack::new(alloc),
+            stack: Stack::new(alloc, Rules::Html5ever),
             contexts: Vec::new(alloc),
         }
     }

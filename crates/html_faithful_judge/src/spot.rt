@@ -28,7 +28,7 @@ use crate::tokens::{Content, NamedToken};
 use html_forest::{Forest, NodeId};
 use html_modes::Condition;
 use html_names::{ElementClass, ElementName};
-use html_rules::{InsertionMode, TagSet};
+use html_rules::{InsertionMode, Rules, TagSet};
 use html_stack::{OpenElement, Stack};
 use html_tokens::TagKind;
 use markup::{LocalName, Namespace, ParseFault, QuirksMode};
@@ -150,7 +150,7 @@ fn is_one(elements: &[OpenElement<NodeId>]) -> bool
 /// Whether the rules of HTML take a token in an element of MathML or SVG (HTML Standard, section 13.2.6).
 fn is_html_there(element: &ElementName, token: &NamedToken<'_>) -> bool
     requires { IsNamed token.now }
-    ensures { (n : ℕ) → result ≡ is_html_at (record { number = n; namespace = element.now.namespace; name = element.now.name })
+    ensures { (n : ℕ) → result ≡ is_html_at (record { number = n; namespace = element.now.namespace; name = element.now.name; rules = element.now.rules })
         (token_of token.now.content) }
 {
     match token.content {
@@ -262,7 +262,13 @@ impl Spot {
         ensures ok { OnOk result (spot_of self.new ≡ opened_in (namespace_of namespace.now) name.now (spot_of self.old)) }
         ensures fault { IfErr result (λ fault. fault ≡ Memory) }
     {
-        let element = ElementName::with_class(alloc, class, namespace, name)?;
+        let element = ElementName::with_class(
+            alloc,
+            self.stack.as_stack().rules(),
+            class,
+            namespace,
+            name,
+        )?;
         let number = self.elements().len();
         self.stack.push(OpenElement {
             handle: NodeId::new(number),
@@ -389,6 +395,7 @@ impl Spot {
             Condition::Both(one, other) => self.holds(one, token) && self.holds(other, token),
             Condition::ScriptingEnabled => self.scripting,
             Condition::IframeSrcdoc => false,
+            Condition::ByStandard => self.stack.as_stack().rules() == Rules::Standard,
             Condition::InFragment => false,
             Condition::ContextIs(_) => false,
             Condition::InQuirksMode => self.quirks_mode == QuirksMode::Quirks,
