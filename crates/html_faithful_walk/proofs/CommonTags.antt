@@ -22,8 +22,11 @@ use Rattle.html_rules.specs.Rules.{first_fit, rows}
 use Rattle.html_rules.specs.Stack.{in_scope, item_name}
 use Rattle.html_rules.specs.State.{Open, adjusted_by, current_is, is_in, is_named, named_in}
 use Rattle.html_rules.specs.Table.{Row}
+use Rattle.html_rules.specs.Tokens.{is_type_hidden}
 use Rattle.html_rules.specs.declared.insertion_mode.InsertionMode.{InsertionMode}
 use Rattle.html_rules.specs.declared.insertion_mode.InsertionMode.TheVariants as mode
+use Rattle.html_rules.specs.declared.rules.Rules.{Rules}
+use Rattle.html_rules.specs.declared.rules.Rules.TheVariants.{Html5ever}
 use Rattle.html_rules.specs.declared.tag_set.TagSet.TheVariants as set
 use Rattle.html_faithful.specs.Checks.{is_kept_so}
 use Rattle.html_faithful.specs.Forms.{is_tag_name, lowered, told_attribute}
@@ -34,13 +37,14 @@ use Rattle.html_faithful.specs.Listing.{link_open}
 use Rattle.html_faithful.specs.Spots.{Spot, hollow, is_marked}
 use Rattle.html_faithful.specs.Walk.{finished, is_made, is_void, is_written_tag, started, stays_open}
 use Rattle.html_faithful_walk.specs.Common.{IsPut, are_read_so, before_kids, closes_none, drops_line_feed, ends_in, is_closed_by}
-use Rattle.html_faithful_walk.specs.Common.{is_outside, lists_a, may_open, opened_as, raw_in, spot_after, spot_in, stands_in}
+use Rattle.html_faithful_walk.specs.Common.{is_outside, is_outside_select, is_settled, lists_a, may_open, opened_as, raw_in, spot_after}
+use Rattle.html_faithful_walk.specs.Common.{spot_in, stands_in}
 use Rattle.html_faithful_walk.specs.Kinds.{IsKindOf, has_end, is_common, is_listed, is_void_kind, names_as}
 use Rattle.html_faithful_walk.specs.declared.kinds.Kind.{Kind}
 use Rattle.html_faithful_walk.specs.declared.kinds.Kind.TheVariants as kind
 use Rattle.html_faithful_walk.proofs.NameRows.{IsHeaded, IsPassed, end-in-cell, end_home, end_of, ended, home, home_row, inside}
 use Rattle.html_faithful_walk.proofs.NameRows.{is_body_end, is_headed, is_placed, is_spelled}
-use Rattle.html_faithful_walk.proofs.NameRows.{is_usual, listing, open_as, row-in-body, row-in-cell}
+use Rattle.html_faithful_walk.proofs.NameRows.{by_name, is_usual, listing, open_as, row-in-body, row-in-cell}
 use Rattle.html_faithful_walk.proofs.NameRows.{row-of-start, rows-of-end, said, start_of}
 use Rattle.html_faithful_walk.proofs.ReadSo.{are-told, told}
 
@@ -60,7 +64,7 @@ by-mode : (q : Spot) (t : Token) → is_foreign (hollow q) t ≡ false → made_
 unfolding made_of
 by-mode q t e = ap (λ b. by_rows 4 (choose b (λ _. in_foreign_content) (λ _. rows q.mode)) t (nothing_yet q)) e
 
-by-own : (q : Spot) (tag : Tag) → current_is is_html_element q.path ≡ true
+pub by-own : (q : Spot) (tag : Tag) → current_is is_html_element q.path ≡ true
     → made_of (TagToken tag) q ≡ by_rows 4 (rows q.mode) (TagToken tag) (nothing_yet q)
 unfolding is_foreign
 by-own q tag h = by-mode q (TagToken tag) (own-at q q.path tag h)
@@ -87,6 +91,10 @@ pub data Way (home : InsertionMode) (placed headed : Bool) (m : InsertionMode) :
   FromBoth : m ≡ mode.InCell → home ≡ mode.InHead → placed ≡ true → headed ≡ true → Way home placed headed m
 
 way : (k : Kind) (m : InsertionMode) → stands_in k m ≡ true → Way (home k) (is_placed k) (is_headed k) m
+way kind.Head mode.BeforeHead h = Here refl
+way kind.Head m h = absurd cc
+way kind.Body mode.AfterHead h = Here refl
+way kind.Body m h = absurd cc
 way kind.Metadata mode.InHead h = Here refl
 way kind.Metadata mode.InBody h = FromBody refl refl refl
 way kind.Metadata mode.InCell h = FromBoth refl refl refl refl
@@ -114,6 +122,10 @@ way k mode.InCell h = FromCell refl refl refl
 way k m h = absurd cc
 
 end-way : (k : Kind) (m : InsertionMode) → ends_in k m ≡ true → Way (end_home k) (is_body_end k) false m
+end-way kind.Head mode.InHead h = Here refl
+end-way kind.Head m h = absurd cc
+end-way kind.Table mode.InTable h = Here refl
+end-way kind.Table m h = absurd cc
 end-way kind.Title mode.Text h = Here refl
 end-way kind.Title m h = absurd cc
 end-way kind.Style mode.Text h = Here refl
@@ -182,53 +194,70 @@ module _ (n : ℕ) (name : List ℕ) (attributes : List Attribute) (p : Spot) wh
       (λ made. concludes (λ table made. by_rows n table (start_of name attributes) made) (start_of name attributes) (home_row k).ends made)
       ≡ Some (made_by k name attributes p)
 
-  row-made : (k : Kind) → closes_none k p.path ≡ true → Made_by k
-  row-made kind.Phrase h = refl
-  row-made kind.Formatting h = refl
-  row-made kind.VoidPhrase h = refl
-  row-made kind.Metadata h = refl
-  row-made kind.Title h = refl
-  row-made kind.Style h = refl
-  row-made kind.Script h = refl
-  row-made kind.Button h =
+  row-made : (k : Kind) → is_settled k p ≡ true → closes_none k p.path ≡ true → Made_by k
+  row-made kind.Phrase g h = refl
+  row-made kind.Formatting g h = refl
+  row-made kind.VoidPhrase g h = refl
+  row-made kind.Metadata g h = refl
+  row-made kind.Head g h = refl
+  row-made kind.Body g h = refl
+  row-made kind.VoidBlock g h =
+      let parts = and_parts (is_outside p.path) (is_outside_select p.path) h in
+      let out : in_scope set.ButtonScope (is_in set.P) p.path ≡ false = is-not (in_scope set.ButtonScope (is_in set.P) p.path) parts.0 in
+      let none : in_scope set.DefaultScope (is_in set.Select) p.path ≡ false =
+      is-not (in_scope set.DefaultScope (is_in set.Select) p.path) parts.1 in
+      rw (out, none) refl
+  row-made kind.Input g h =
+      let none : in_scope set.DefaultScope (is_in set.Select) p.path ≡ false =
+      is-not (in_scope set.DefaultScope (is_in set.Select) p.path) h in
+      by (is_type_hidden (start_of name attributes)) refl none (is-not p.frameset_ok g)
+    where
+      by : (b : Bool) → is_type_hidden (start_of name attributes) ≡ b → in_scope set.DefaultScope (is_in set.Select) p.path ≡ false
+          → p.frameset_ok ≡ false → Made_by kind.Input
+      by true e none ok = rw (none, e) refl
+      by false e none ok = rw (none, e, ok) refl
+  row-made kind.Title g h = refl
+  row-made kind.Style g h = refl
+  row-made kind.Script g h = refl
+  row-made kind.Button g h =
       let none : in_scope set.DefaultScope (is_in set.Button) p.path ≡ false =
       is-not (in_scope set.DefaultScope (is_in set.Button) p.path) h in
       rw none refl
-  row-made kind.Table h =
+  row-made kind.Table g h =
       let out : in_scope set.ButtonScope (is_in set.P) p.path ≡ false = is-not (in_scope set.ButtonScope (is_in set.P) p.path) h in
       by (is_quirks p.quirks_mode) refl out
     where
       by : (b : Bool) → is_quirks p.quirks_mode ≡ b → in_scope set.ButtonScope (is_in set.P) p.path ≡ false → Made_by kind.Table
       by true e out = rw e refl
       by false e out = rw (e, out) refl
-  row-made kind.Section h = rw h refl
-  row-made kind.Row h = rw h refl
-  row-made kind.Cell h = rw h refl
-  row-made kind.Link h =
+  row-made kind.Section g h = rw h refl
+  row-made kind.Row g h = rw h refl
+  row-made kind.Cell g h = rw h refl
+  row-made kind.Link g h =
       let listed : lists_a p.path ≡ false = is-not (lists_a p.path) (and_parts (not (lists_a p.path)) (not (link_open p.path)) h).0 in
       rw listed refl
-  row-made kind.Block h =
+  row-made kind.Block g h =
       let out : in_scope set.ButtonScope (is_in set.P) p.path ≡ false = is-not (in_scope set.ButtonScope (is_in set.P) p.path) h in
       rw out refl
-  row-made kind.Preformatted h =
+  row-made kind.Preformatted g h =
       let out : in_scope set.ButtonScope (is_in set.P) p.path ≡ false = is-not (in_scope set.ButtonScope (is_in set.P) p.path) h in
       rw out refl
-  row-made kind.Heading h =
+  row-made kind.Heading g h =
       let parts = and_parts (is_outside p.path) (not (current_is (is_in set.HeadingTag) p.path)) h in
       let out : in_scope set.ButtonScope (is_in set.P) p.path ≡ false = is-not (in_scope set.ButtonScope (is_in set.P) p.path) parts.0 in
       let current : current_is (is_in set.HeadingTag) p.path ≡ false = is-not (current_is (is_in set.HeadingTag) p.path) parts.1 in
       rw (out, current) refl
-  row-made kind.Item h =
+  row-made kind.Item g h =
       let parts = and_parts (is_outside p.path) (not (is_some (item_name set.Li p.path))) h in
       let out : in_scope set.ButtonScope (is_in set.P) p.path ≡ false = is-not (in_scope set.ButtonScope (is_in set.P) p.path) parts.0 in
       let item : is_none (item_name set.Li p.path) ≡ true = no-item (item_name set.Li p.path) parts.1 in
       rw (item, out) refl
-  row-made kind.Description h =
+  row-made kind.Description g h =
       let parts = and_parts (is_outside p.path) (not (is_some (item_name set.DdDt p.path))) h in
       let out : in_scope set.ButtonScope (is_in set.P) p.path ≡ false = is-not (in_scope set.ButtonScope (is_in set.P) p.path) parts.0 in
       let item : is_none (item_name set.DdDt p.path) ≡ true = no-item (item_name set.DdDt p.path) parts.1 in
       rw (item, out) refl
-  row-made k h = absurd cc
+  row-made k g h = absurd cc
 
 -- the list of active formatting elements and the form element pointer stay those of the path
 opened-so : (a l f t : Bool) → not a && not f ≡ true → l ≡ true → (not a && (l && not (f && t))) ≡ true
@@ -259,15 +288,19 @@ and-both : {a b : Bool} → a ≡ true → b ≡ true → (a && b) ≡ true
 and-both h e = ap₂ (λ a b. a && b) h e
 
 kept-open : (k : Kind) (name : List ℕ) (attributes : List Attribute) (p : Spot) → closes_none k p.path ≡ true
-    → listing k (open_as name 0) ≡ true → is_usual (open_as name 0) ≡ true → is_kept_so name p (made_by k name attributes p) ≡ true
+    → listing k (by_name name) ≡ true → is_usual (by_name name) ≡ true → is_kept_so name p (made_by k name attributes p) ≡ true
 kept-open kind.Formatting name attributes p c l u =
-    opened-so _ _ _ _ u (listed-so (is_in set.FormattingEnd (open_as name 0)) (is_marked (open_as name 0)) (is_in set.A (open_as name 0))
+    opened-so _ _ _ _ u (listed-so (is_in set.FormattingEnd (by_name name)) (is_marked (by_name name)) (is_in set.A (by_name name))
     (link_open p.path) (bytes_eq name name) l (same-name name))
 kept-open kind.Link name attributes p c l u =
-    opened-so _ _ _ _ u (linked-so (is_in set.FormattingEnd (open_as name 0)) (is_marked (open_as name 0)) (is_in set.A (open_as name 0))
+    opened-so _ _ _ _ u (linked-so (is_in set.FormattingEnd (by_name name)) (is_marked (by_name name)) (is_in set.A (by_name name))
     (link_open p.path) (bytes_eq name name) l (same-name name) (and_parts (not (lists_a p.path)) (not (link_open p.path)) c).1)
 kept-open kind.VoidPhrase name attributes p c l u = refl
 kept-open kind.Metadata name attributes p c l u = refl
+kept-open kind.VoidBlock name attributes p c l u = refl
+kept-open kind.Input name attributes p c l u = refl
+kept-open kind.Head name attributes p c l u = opened-so _ _ _ _ u l
+kept-open kind.Body name attributes p c l u = opened-so _ _ _ _ u l
 kept-open kind.Title name attributes p c l u = opened-so _ _ _ _ u l
 kept-open kind.Style name attributes p c l u = opened-so _ _ _ _ u l
 kept-open kind.Script name attributes p c l u = opened-so _ _ _ _ u l
@@ -306,24 +339,25 @@ common-named k h = refl
 made-so : (k : Kind) (name : List ℕ) (attributes : List Attribute) (p : Spot) → is_among name (names_as k) ≡ true → may_open k p ≡ true
     → made_of (start_of name attributes) p ≡ Some (made_by k name attributes p)
 made-so k name attributes p among h =
-    let parts = and_parts (stands_in k p.mode) (current_is is_html_element p.path && closes_none k p.path) h in
+    let parts = and_parts (stands_in k p.mode && is_settled k p) (current_is is_html_element p.path && closes_none k p.path) h in
+    let place = and_parts (stands_in k p.mode) (is_settled k p) parts.0 in
     let own = and_parts (current_is is_html_element p.path) (closes_none k p.path) parts.1 in
     let common = is-common k p.path own.1 in
     in-place (home k) (is_placed k) (is_headed k) p _ (made_by k name attributes p) own.0
     (λ n. by-row n (rows (home k)) (start_of name attributes) (nothing_yet p) (home_row k)
-    (row-of-start k name common among attributes (hollow p))
-    ∙ row-made n name attributes p k own.1)
+    (row-of-start k name common among attributes p)
+    ∙ row-made n name attributes p k place.1 own.1)
     (λ placed. row-in-cell k name common among placed attributes) (λ headed. row-in-body k name common among headed attributes)
-    (way k p.mode parts.0)
+    (way k p.mode place.0)
 
-abbrev html_named : List ℕ → QualName
+abbrev pub html_named : List ℕ → QualName
 html_named name = record { prefix = None; ns = html_namespace; local = name }
 
 pub none-is : {A : Type 0} (o : Option A) → is_none o ≡ true → o ≡ None
 none-is None h = refl
 none-is (Some x) h = absurd cc
 
-named-so : (name : QualName) → is_html name ≡ true → is_none name.prefix ≡ true → name ≡ html_named name.local
+pub named-so : (name : QualName) → is_html name ≡ true → is_none name.prefix ≡ true → name ≡ html_named name.local
 named-so name h e =
     ap₂ (λ prefix ns. record { prefix = prefix; ns = ns; local = name.local }) (none-is name.prefix e)
     ((bytes_eq-Decides name.ns html_namespace).0 h)
@@ -348,8 +382,8 @@ started-by b o test made h e t = rw (h, e, t) refl
 
 module _ (k : Kind) (local : List ℕ) (attributes : List Attribute) (p : Spot) (is : IsKindOf local k)
     (opens : may_open k p ≡ true) (read : are_read_so attributes ≡ true) where
-  parts : (stands_in k p.mode ≡ true) × ((current_is is_html_element p.path && closes_none k p.path) ≡ true)
-  parts = and_parts (stands_in k p.mode) (current_is is_html_element p.path && closes_none k p.path) opens
+  parts : ((stands_in k p.mode && is_settled k p) ≡ true) × ((current_is is_html_element p.path && closes_none k p.path) ≡ true)
+  parts = and_parts (stands_in k p.mode && is_settled k p) (current_is is_html_element p.path && closes_none k p.path) opens
 
   closes : closes_none k p.path ≡ true
   closes = (and_parts (current_is is_html_element p.path) (closes_none k p.path) parts.1).1
@@ -360,22 +394,24 @@ module _ (k : Kind) (local : List ℕ) (attributes : List Attribute) (p : Spot) 
   among : is_among local (names_as k) ≡ true
   among = is.named (common-named k common)
 
-  facts : ((listing k (open_as local 0) && is_usual (open_as local 0)) ≡ true) × (is_spelled local ≡ true)
-  facts = and_parts (listing k (open_as local 0) && is_usual (open_as local 0)) (is_spelled local) (said k local common among)
+  facts : ((listing k (by_name local) && is_usual (by_name local)) ≡ true) × (is_spelled (has_end k) local ≡ true)
+  facts = and_parts (listing k (by_name local) && is_usual (by_name local)) (is_spelled (has_end k) local) (said k local common among)
 
   spelled : (is_tag_name local ≡ true) × (bytes_eq (lowered local) local ≡ true)
   spelled = and_parts (is_tag_name local) (bytes_eq (lowered local) local)
       (and_parts (is_tag_name local && bytes_eq (lowered local) local)
-      (not (bytes_eq local (codes "template")) && not (bytes_eq local (codes "body") || bytes_eq local (codes "html"))) facts.1).0
+      (not (bytes_eq local (codes "template"))
+      && not (has_end k && (bytes_eq local (codes "body") || bytes_eq local (codes "html")))) facts.1).0
 
   low : lowered local ≡ local
   low = (bytes_eq-Decides (lowered local) local).0 spelled.1
 
   no-template : bytes_eq local (codes "template") ≡ false
   no-template = is-not (bytes_eq local (codes "template")) (and_parts (not (bytes_eq local (codes "template")))
-      (not (bytes_eq local (codes "body") || bytes_eq local (codes "html")))
+      (not (has_end k && (bytes_eq local (codes "body") || bytes_eq local (codes "html"))))
       (and_parts (is_tag_name local && bytes_eq (lowered local) local)
-      (not (bytes_eq local (codes "template")) && not (bytes_eq local (codes "body") || bytes_eq local (codes "html"))) facts.1).1).0
+      (not (bytes_eq local (codes "template"))
+      && not (has_end k && (bytes_eq local (codes "body") || bytes_eq local (codes "html")))) facts.1).1).0
 
   written : is_written_tag (html_named local) attributes false ≡ true
   written = rw (low, told attributes read, spelled.0, are-told attributes read, same-name html_namespace, no-template) refl
@@ -385,7 +421,7 @@ module _ (k : Kind) (local : List ℕ) (attributes : List Attribute) (p : Spot) 
 
   kept : is_kept_so local p (made_by k local attributes p) ≡ true
   kept =
-      let list = and_parts (listing k (open_as local 0)) (is_usual (open_as local 0)) facts.0 in
+      let list = and_parts (listing k (by_name local)) (is_usual (by_name local)) facts.0 in
       kept-open k local attributes p closes list.0 list.1
 
   abbrev test : QualName → Made → Bool
@@ -433,88 +469,99 @@ closed-so f t false h e = absurd cc
 unmarked-by : (f m a : Bool) → ((f && not m) && not a) ≡ true → not m ≡ true
 unmarked-by f m a h = (and_parts f (not m) (and_parts (f && not m) (not a) h).0).1
 
-kept-closed : (k : Kind) (name : List ℕ) (number : ℕ) (xs : List Open) (p : Spot) → has_end k ≡ true
-    → listing k (open_as name 0) ≡ true → not (is_in set.Form (open_as name 0)) ≡ true
-    → is_kept_so name (inside name number xs p) (ended k (inside name number xs p)) ≡ true
-kept-closed kind.Formatting name number xs p h l u =
-    closed-so _ _ _ u (unmarked-by (is_in set.FormattingEnd (open_as name 0)) (is_marked (open_as name 0)) (is_in set.A (open_as name 0)) l)
-kept-closed kind.Link name number xs p h l u =
-    closed-so _ _ _ u (and_parts (is_in set.FormattingEnd (open_as name 0)) (not (is_marked (open_as name 0))) l).1
-kept-closed kind.Phrase name number xs p h l u = closed-so _ _ _ u l
-kept-closed kind.Block name number xs p h l u = closed-so _ _ _ u l
-kept-closed kind.Preformatted name number xs p h l u = closed-so _ _ _ u l
-kept-closed kind.Heading name number xs p h l u = closed-so _ _ _ u l
-kept-closed kind.Item name number xs p h l u = closed-so _ _ _ u l
-kept-closed kind.Description name number xs p h l u = closed-so _ _ _ u l
-kept-closed kind.Button name number xs p h l u = closed-so _ _ _ u l
-kept-closed kind.Section name number xs p h l u = closed-so _ _ _ u l
-kept-closed kind.Row name number xs p h l u = closed-so _ _ _ u l
-kept-closed kind.Cell name number xs p h l u = closed-so _ _ _ u l
-kept-closed kind.Title name number xs p h l u = closed-so _ _ _ u l
-kept-closed kind.Style name number xs p h l u = closed-so _ _ _ u l
-kept-closed kind.Script name number xs p h l u = closed-so _ _ _ u l
-kept-closed k name number xs p h l u = absurd cc
+kept-closed : (rules : Rules) (k : Kind) (name : List ℕ) (number : ℕ) (xs : List Open) (p : Spot) → has_end k ≡ true
+    → listing k (by_name name) ≡ true → not (is_in set.Form (by_name name)) ≡ true
+    → is_kept_so name (inside rules name number xs p) (ended k (inside rules name number xs p)) ≡ true
+kept-closed rules kind.Formatting name number xs p h l u =
+    closed-so _ _ _ u (unmarked-by (is_in set.FormattingEnd (by_name name)) (is_marked (by_name name)) (is_in set.A (by_name name)) l)
+kept-closed rules kind.Link name number xs p h l u =
+    closed-so _ _ _ u (and_parts (is_in set.FormattingEnd (by_name name)) (not (is_marked (by_name name))) l).1
+kept-closed rules kind.Phrase name number xs p h l u = closed-so _ _ _ u l
+kept-closed rules kind.Block name number xs p h l u = closed-so _ _ _ u l
+kept-closed rules kind.Preformatted name number xs p h l u = closed-so _ _ _ u l
+kept-closed rules kind.Heading name number xs p h l u = closed-so _ _ _ u l
+kept-closed rules kind.Item name number xs p h l u = closed-so _ _ _ u l
+kept-closed rules kind.Description name number xs p h l u = closed-so _ _ _ u l
+kept-closed rules kind.Button name number xs p h l u = closed-so _ _ _ u l
+kept-closed rules kind.Head name number xs p h l u = closed-so _ _ _ u l
+kept-closed rules kind.Table name number xs p h l u = closed-so _ _ _ u l
+kept-closed rules kind.Section name number xs p h l u = closed-so _ _ _ u l
+kept-closed rules kind.Row name number xs p h l u = closed-so _ _ _ u l
+kept-closed rules kind.Cell name number xs p h l u = closed-so _ _ _ u l
+kept-closed rules kind.Title name number xs p h l u = closed-so _ _ _ u l
+kept-closed rules kind.Style name number xs p h l u = closed-so _ _ _ u l
+kept-closed rules kind.Script name number xs p h l u = closed-so _ _ _ u l
+kept-closed rules k name number xs p h l u = absurd cc
 
 pub finished-by : (o : Option Made) (test : Made → Bool) (made : Made) → o ≡ Some made → test made ≡ true
     → and_then o (λ made. choose (test made) (λ _. Some made.spot) (λ _. None)) ≡ Some made.spot
 finished-by o test made e t = rw (e, t) refl
 
-module _ (k : Kind) (local : List ℕ) (number : ℕ) (xs : List Open) (p : Spot) (is : IsKindOf local k)
+module _ (k : Kind) (rules : Rules) (local : List ℕ) (number : ℕ) (xs : List Open) (p : Spot) (is : IsKindOf local k)
     (has : has_end k ≡ true) (place : ends_in k p.mode ≡ true) where
   end-among : is_among local (names_as k) ≡ true
   end-among = is.named (common-named k (has-common k has))
 
-  end-facts : ((listing k (open_as local 0) && is_usual (open_as local 0)) ≡ true) × (is_spelled local ≡ true)
-  end-facts = and_parts (listing k (open_as local 0)
-      && is_usual (open_as local 0)) (is_spelled local) (said k local (has-common k has) end-among)
+  end-facts : ((listing k (by_name local) && is_usual (by_name local)) ≡ true) × (is_spelled (has_end k) local ≡ true)
+  end-facts = and_parts (listing k (by_name local)
+      && is_usual (by_name local)) (is_spelled (has_end k) local) (said k local (has-common k has) end-among)
 
   end-spelled : ((is_tag_name local && bytes_eq (lowered local) local) ≡ true)
-      × ((not (bytes_eq local (codes "template")) && not (bytes_eq local (codes "body") || bytes_eq local (codes "html"))) ≡ true)
+      × ((not (bytes_eq local (codes "template"))
+      && not (has_end k && (bytes_eq local (codes "body") || bytes_eq local (codes "html")))) ≡ true)
   end-spelled = and_parts (is_tag_name local && bytes_eq (lowered local) local)
-      (not (bytes_eq local (codes "template")) && not (bytes_eq local (codes "body") || bytes_eq local (codes "html"))) end-facts.1
+      (not (bytes_eq local (codes "template"))
+      && not (has_end k && (bytes_eq local (codes "body") || bytes_eq local (codes "html")))) end-facts.1
 
   end-low : lowered local ≡ local
   end-low = (bytes_eq-Decides (lowered local) local).0 (and_parts (is_tag_name local) (bytes_eq (lowered local) local) end-spelled.0).1
 
-  not-stays : (bytes_eq local (codes "body") || bytes_eq local (codes "html")) ≡ false
-  not-stays = is-not (bytes_eq local (codes "body") || bytes_eq local (codes "html")) (and_parts (not (bytes_eq local (codes "template")))
-      (not (bytes_eq local (codes "body") || bytes_eq local (codes "html"))) end-spelled.1).1
+  abbrev stays : Bool
+  stays = bytes_eq local (codes "body") || bytes_eq local (codes "html")
 
-  made-of-end : made_of (end_of (lowered local)) (inside local number xs p) ≡ Some (ended k (inside local number xs p))
+  not-stays : (bytes_eq local (codes "body") || bytes_eq local (codes "html")) ≡ false
+  not-stays = is-not stays (sym (ap (λ b. not (b && stays)) has)
+      ∙ (and_parts (not (bytes_eq local (codes "template"))) (not (has_end k && stays)) end-spelled.1).1)
+
+  made-of-end : made_of (end_of (lowered local)) (inside rules local number xs p) ≡ Some (ended k (inside rules local number xs p))
   made-of-end =
-      ap (λ name. made_of (end_of name) (inside local number xs p)) end-low
-      ∙ in-place (end_home k) (is_body_end k) false (inside local number xs p) _ (ended k (inside local number xs p)) refl
-      (λ n. rows-of-end k local has end-among n number xs p) (end-in-cell k local has end-among) (λ h. absurd cc) (end-way k p.mode place)
+      ap (λ name. made_of (end_of name) (inside rules local number xs p)) end-low
+      ∙ in-place (end_home k) (is_body_end k) false (inside rules local number xs p) _ (ended k (inside rules local number xs p)) refl
+      (λ n. rows-of-end k local has end-among rules n number xs p) (end-in-cell k local has end-among) (λ h. absurd cc)
+      (end-way k p.mode place)
 
   abbrev end-test : Made → Bool
   end-test made = (is_none made.put && not made.drops_line_feed && is_none made.raw)
-      && cond (stays_open (html_named local)) (not made.closed) made.closed && is_kept_so (lowered local) (inside local number xs p) made
+      && cond (stays_open (html_named local)) (not made.closed) made.closed
+      && is_kept_so (lowered local) (inside rules local number xs p) made
 
-  end-tested : end-test (ended k (inside local number xs p)) ≡ true
+  end-tested : end-test (ended k (inside rules local number xs p)) ≡ true
   end-tested =
-      let list = and_parts (listing k (open_as local 0)) (is_usual (open_as local 0)) end-facts.0 in
-      let usual = and_parts (not (is_in set.AnnotationXml (open_as local 0))) (not (is_in set.Form (open_as local 0))) list.1 in
-      rw (same-name html_namespace, not-stays, kept-closed k local number xs p has list.0 usual.1) refl
+      let list = and_parts (listing k (by_name local)) (is_usual (by_name local)) end-facts.0 in
+      let usual = and_parts (not (is_in set.AnnotationXml (by_name local))) (not (is_in set.Form (by_name local))) list.1 in
+      rw (same-name html_namespace, not-stays, kept-closed rules k local number xs p has list.0 usual.1) refl
 
-  finished-as : finished (html_named local) (inside local number xs p) ≡ Some (spot_after k (inside local number xs p))
-  finished-as = finished-by (made_of (end_of (lowered local)) (inside local number xs p)) end-test (ended k (inside local number xs p))
+  finished-as : finished (html_named local) (inside rules local number xs p) ≡ Some (spot_after k (inside rules local number xs p))
+  finished-as =
+      finished-by (made_of (end_of (lowered local)) (inside rules local number xs p)) end-test (ended k (inside rules local number xs p))
       made-of-end end-tested
 
-own-by : (space : names.Namespace) (name local : List ℕ) (number : ℕ) → named_in space name local ≡ true
-    → record { number = number; namespace = space; name = name } ≡ open_as local number
-own-by names.Html name local number h =
-    ap (λ (name : List ℕ). record { number = number; namespace = names.Html; name = name }) ((bytes_eq-Decides name local).0 h)
-own-by space name local number h = absurd cc
+own-by : (rules : Rules) (space : names.Namespace) (name local : List ℕ) (number : ℕ) → named_in space name local ≡ true
+    → record { number = number; namespace = space; name = name; rules = rules } ≡ open_as rules local number
+own-by rules names.Html name local number h =
+    ap (λ (name : List ℕ). record { number = number; namespace = names.Html; name = name; rules = rules })
+    ((bytes_eq-Decides name local).0 h)
+own-by rules space name local number h = absurd cc
 
 end-path : (k : Kind) (name : QualName) (path : List Open) (p : Spot) → IsKindOf name.local k → is_html name ≡ true
     → is_none name.prefix ≡ true → p.path ≡ path → has_end k ≡ true → ends_in k p.mode ≡ true
     → current_is (is_named name.local) path ≡ true → finished name p ≡ Some (spot_after k p)
 end-path k name [] p is h e at has place current = absurd cc
 end-path k name (x ∷ xs) p is h e at has place current =
-    let own : x ≡ open_as name.local x.number = own-by x.namespace x.name name.local x.number current in
-    let there : p.path ≡ open_as name.local x.number ∷ xs = at ∙ ap (λ x. x ∷ xs) own in
+    let own : x ≡ open_as x.rules name.local x.number = own-by x.rules x.namespace x.name name.local x.number current in
+    let there : p.path ≡ open_as x.rules name.local x.number ∷ xs = at ∙ ap (λ x. x ∷ xs) own in
     ap₂ (λ name path. finished name (record p { path = path })) (named-so name h e) there
-    ∙ (finished-as k name.local x.number xs p is has place
+    ∙ (finished-as k x.rules name.local x.number xs p is has place
     ∙ ap (λ (path : List Open). Some (spot_after k (record p { path = path }))) (sym there))
 
 -- and closed by its end tag

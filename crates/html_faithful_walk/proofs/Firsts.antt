@@ -10,6 +10,7 @@ use Rattle.markup.specs.declared.attributes.Attribute.{Attribute}
 use Rattle.markup.specs.declared.names.QualName.{QualName}
 use Rattle.html_faithful.specs.Spots.{Spot}
 use Rattle.markup.specs.declared.quirks.QuirksMode.TheVariants.{Quirks}
+use Rattle.html_rules.specs.declared.rules.Rules.TheVariants.{Html5ever}
 use Rattle.html_faithful.specs.Walk.{first_spot}
 use Rattle.html_faithful_walk.specs.First.{AtEnd, Bare, Element, End, First, Leaf, OddBare, OddEnd, OddInside, OddLeaf, OddStart}
 use Rattle.html_faithful_walk.specs.First.{Outcome, Point, Reads}
@@ -153,7 +154,7 @@ module _ (scripting : Bool) (f : Forest) where
 
   -- THE LOOP
 
-  pub start-leads : (spot : Spot) (nodes : List ℕ) (levels : List Level) → spot ≡ first_spot scripting Quirks
+  pub start-leads : (spot : Spot) (nodes : List ℕ) (levels : List Level) → spot ≡ first_spot Html5ever scripting Quirks
       → nodes ≡ children_of f 0 → levels ≡ [] → Leads scripting f (record {
         stand = record { parent = Document; after_text = false; drops = false; inside = Start };
         spot = spot;

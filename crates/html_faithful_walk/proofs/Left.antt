@@ -16,7 +16,8 @@ use Rattle.markup.specs.declared.quirks.QuirksMode.TheVariants.{Quirks}
 use Rattle.html_rules.specs.Choice.{choose}
 use Rattle.html_faithful.specs.Harmless.{and_then}
 use Rattle.html_faithful.specs.Spots.{Spot}
-use Rattle.html_faithful.specs.Walk.{OfDocument, first_spot, is_at_end, is_faithful, is_faithful_forest}
+use Rattle.html_rules.specs.declared.rules.Rules.TheVariants.{Html5ever}
+use Rattle.html_faithful.specs.Walk.{OfDocument, first_spot, is_at_end, is_faithful, is_faithful_by, is_faithful_forest}
 use Rattle.html_faithful_walk.specs.Left.{IsAscent, IsElementTaken, IsTaken, Walk, descends, ended_by, left, levels_left, nodes_left}
 use Rattle.html_faithful_walk.specs.Left.{trees_after, trees_by, waiting_nodes, with_node}
 use Rattle.html_faithful_walk.specs.Steps.{spot_if}
@@ -241,8 +242,8 @@ begins-by true x o h = h
 begins-by false x o h = refl
 
 begins : (scripting : Bool) (trees : Trees)
-    → is_faithful scripting trees ≡ is_at_end (begun scripting OfDocument false false trees (first_spot scripting Quirks))
-unfolding is_faithful begun
+    → is_faithful scripting trees ≡ is_at_end (begun scripting OfDocument false false trees (first_spot Html5ever scripting Quirks))
+unfolding is_faithful_by begun
 begins scripting Nothing = refl
 begins scripting (Text text rest) = refl
 begins scripting (Comment text rest) = begins-by _ _ _ (begins scripting rest)
@@ -251,7 +252,7 @@ begins scripting (Doctype name public_id system_id rest) = begins-by _ _ _ refl
 begins scripting (Element name attributes template kids rest) = refl
 
 pub first : (scripting : Bool) (f : Forest) (spot : Spot) (nodes : List ℕ) (levels : List Level)
-    → spot ≡ first_spot scripting Quirks
+    → spot ≡ first_spot Html5ever scripting Quirks
     → nodes ≡ children_of f 0 → levels ≡ [] → is_at_end (left scripting f (record {
       stand = record { parent = Document; after_text = false; drops = false; inside = Start };
       spot = spot;
@@ -263,5 +264,5 @@ first scripting f spot nodes levels e k l =
     (λ p. levels_left scripting f (reverse ls) p)) k l
     ∙ (ap (λ p. and_then (begun scripting OfDocument false false (trees_before f (children_of f 0) Nothing) p) (λ p. Some p)) e
     ∙ then-some (begun scripting OfDocument false false (trees_before f (children_of f 0) Nothing)
-    (first_spot scripting Quirks))))
+    (first_spot Html5ever scripting Quirks))))
     ∙ sym (begins scripting (trees_before f (children_of f 0) Nothing))

@@ -15,3 +15,4 @@ mod ReadSo
 mod SvgTags
 mod SvgNames
 mod SvgAttributes
+mod StayingTags

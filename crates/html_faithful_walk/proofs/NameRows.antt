@@ -18,16 +18,20 @@ use Rattle.html_rules.specs.Rules.{first_fit, rows}
 use Rattle.html_rules.specs.Sets.{names_of}
 use Rattle.html_rules.specs.State.{Open, State, is_in}
 use Rattle.html_rules.specs.Table.{AListed, Acknowledged, AnyStartTag, AnythingElse, ClearBackTo, CloseItem, CloseMisnestedA, CloseP}
-use Rattle.html_rules.specs.Table.{CurrentIs, Done, FramesetNotOk, IgnoreLineFeed, ImpliedEndTags, InQuirksMode, InScope, InsertElement}
+use Rattle.html_rules.specs.Table.{ContextIs, CurrentIs, Done, FramesetNotOk, IgnoreLineFeed, ImpliedEndTags, InQuirksMode, InScope}
+use Rattle.html_rules.specs.Table.{InsertElement}
 use Rattle.html_rules.specs.Table.{InsertFormatting, InsertMarker, InsertVoid, Not, Nothing, ParseError, Pop, PopUntil, RawText}
-use Rattle.html_rules.specs.Table.{Reconstruct, ReportEncoding, Row, StartTags, SwitchTo, Using, When, insert_raw_text, row, ◌▸◌}
+use Rattle.html_rules.specs.Table.{Reconstruct, ReportEncoding, Row, StartTags, SetHeadElem, SwitchTo, TypeHidden, Using, When}
+use Rattle.html_rules.specs.Table.{insert_raw_text, row, ◌▸◌}
 use Rattle.html_rules.specs.declared.insertion_mode.InsertionMode.{InsertionMode}
 use Rattle.html_rules.specs.declared.insertion_mode.InsertionMode.TheVariants as mode
+use Rattle.html_rules.specs.declared.rules.Rules.{Rules}
+use Rattle.html_rules.specs.declared.rules.Rules.TheVariants.{Html5ever, Standard}
 use Rattle.html_rules.specs.declared.tag_set.TagSet.TheVariants as set
 use Rattle.html_faithful.specs.Checks.{is_unlisted}
 use Rattle.html_faithful.specs.Forms.{is_tag_name, lowered}
 use Rattle.html_faithful.specs.Harmless.{Change, EntryLeft, Made, MarkerLeft, Unchanged, by_rows, nothing_yet}
-use Rattle.html_faithful.specs.Spots.{Spot, is_marked}
+use Rattle.html_faithful.specs.Spots.{Spot, hollow, is_marked}
 use Rattle.html_faithful_walk.specs.Common.{spot_after}
 use Rattle.html_faithful_walk.specs.Kinds.{has_end, is_common, names_as}
 use Rattle.html_faithful_walk.specs.declared.kinds.Kind.{Kind}
@@ -64,6 +68,8 @@ start_of name attributes = TagToken (record (named StartTag name) { attrs = attr
 
 -- the mode whose rows take a start tag of a kind
 abbrev pub home : Kind → InsertionMode
+home kind.Head = mode.BeforeHead
+home kind.Body = mode.AfterHead
 home kind.Metadata = mode.InHead
 home kind.Title = mode.InHead
 home kind.Style = mode.InHead
@@ -94,6 +100,16 @@ home_row kind.Section = row (StartTags set.TbodyTfootThead) (ClearBackTo set.Tab
 home_row kind.Row = row (StartTags set.Tr) (ClearBackTo set.TableBodyContext ▸ InsertElement ▸ SwitchTo mode.InRow) Done
 home_row kind.Cell =
     row (StartTags set.TdTh) (ClearBackTo set.TableRowContext ▸ InsertElement ▸ SwitchTo mode.InCell ▸ InsertMarker) Done
+home_row kind.VoidBlock =
+    row (StartTags set.Hr)
+    (CloseP ▸ When (InScope set.DefaultScope set.Select)
+    (ImpliedEndTags ▸ When (InScope set.DefaultScope set.OptionOptgroup) ParseError) ▸ InsertVoid ▸ FramesetNotOk) Acknowledged
+home_row kind.Input =
+    row (StartTags set.Input)
+    (When (ContextIs set.Select) ParseError ▸ When (InScope set.DefaultScope set.Select)
+    (ParseError ▸ PopUntil set.Select) ▸ Reconstruct ▸ InsertVoid ▸ When (Not TypeHidden) FramesetNotOk) Acknowledged
+home_row kind.Head = row (StartTags set.Head) (InsertElement ▸ SetHeadElem ▸ SwitchTo mode.InHead) Done
+home_row kind.Body = row (StartTags set.Body) (InsertElement ▸ FramesetNotOk ▸ SwitchTo mode.InBody) Done
 home_row kind.Metadata = row (StartTags set.MetadataVoid) InsertVoid ReportEncoding
 home_row kind.Title = row (StartTags set.Title) insert_raw_text (RawText Rcdata)
 home_row kind.Style = row (StartTags set.NoframesStyle) insert_raw_text (RawText Rawtext)
@@ -101,7 +117,15 @@ home_row kind.Script = row (StartTags set.Script) insert_raw_text (RawText Scrip
 home_row k = row AnythingElse Nothing Done
 
 abbrev StartsBy : Kind → List ℕ → Type 0
-StartsBy k name = (attributes : List Attribute) (s : State) → first_fit (rows (home k)) (start_of name attributes) s ≡ home_row k
+StartsBy k name = (attributes : List Attribute) (p : Spot)
+    → first_fit (rows (home k)) (start_of name attributes) (hollow p) ≡ home_row k
+
+-- the Standard has a row for `input` in a fragment, which no document meets
+input-row : (rules : Rules) (attributes : List Attribute) (p : Spot)
+    → first_fit (rows mode.InBody) (start_of (codes "input") attributes) (hollow (record p { rules = rules })) ≡ home_row kind.Input
+unfolding rows names_of
+input-row Html5ever attributes p = refl
+input-row Standard attributes p = refl
 
 starts : (k : Kind) → is_common k ≡ true → Each (StartsBy k) (names_as k)
 unfolding rows names_of
@@ -129,6 +153,14 @@ starts kind.Description h =
     (λ a s. refl) & (λ a s. refl) & End
 starts kind.VoidPhrase h =
     (λ a s. refl) & (λ a s. refl) & (λ a s. refl) & (λ a s. refl) & (λ a s. refl) & (λ a s. refl) & End
+starts kind.VoidBlock h =
+    (λ a s. refl) & End
+starts kind.Input h =
+    (λ a p. input-row p.rules a p) & End
+starts kind.Head h =
+    (λ a s. refl) & End
+starts kind.Body h =
+    (λ a s. refl) & End
 starts kind.Button h =
     (λ a s. refl) & End
 starts kind.Table h =
@@ -154,6 +186,8 @@ abbrev pub is_placed : Kind → Bool
 is_placed kind.Section = false
 is_placed kind.Row = false
 is_placed kind.Cell = false
+is_placed kind.Head = false
+is_placed kind.Body = false
 is_placed k = true
 
 -- that belong to the head
@@ -197,6 +231,10 @@ cell-starts kind.Description h g =
     (λ a s. refl) & (λ a s. refl) & End
 cell-starts kind.VoidPhrase h g =
     (λ a s. refl) & (λ a s. refl) & (λ a s. refl) & (λ a s. refl) & (λ a s. refl) & (λ a s. refl) & End
+cell-starts kind.VoidBlock h g =
+    (λ a s. refl) & End
+cell-starts kind.Input h g =
+    (λ a s. refl) & End
 cell-starts kind.Button h g =
     (λ a s. refl) & End
 cell-starts kind.Table h g =
@@ -237,6 +275,8 @@ end_of name = TagToken (named EndTag name)
 
 -- the mode whose rows take an end tag of a kind
 abbrev pub end_home : Kind → InsertionMode
+end_home kind.Head = mode.InHead
+end_home kind.Table = mode.InTable
 end_home kind.Title = mode.Text
 end_home kind.Style = mode.Text
 end_home kind.Script = mode.Text
@@ -251,65 +291,76 @@ change_back kind.Link = EntryLeft
 change_back kind.Cell = MarkerLeft
 change_back k = Unchanged
 
-abbrev pub open_as : List ℕ → ℕ → Open
-open_as name number = record { number = number; namespace = Html; name = name }
+abbrev pub open_as : Rules → List ℕ → ℕ → Open
+open_as rules name number = record { number = number; namespace = Html; name = name; rules = rules }
 
-abbrev pub inside : List ℕ → ℕ → List Open → Spot → Spot
-inside name number xs p = record p { path = open_as name number ∷ xs }
+abbrev pub by_name : List ℕ → Open
+by_name name = open_as Html5ever name 0
+
+abbrev pub inside : Rules → List ℕ → ℕ → List Open → Spot → Spot
+inside rules name number xs p = record p { path = open_as rules name number ∷ xs }
 
 abbrev pub ended : Kind → Spot → Made
 ended k p = record (nothing_yet (spot_after k p)) { closed = true; change = change_back k }
 
 abbrev EndsBy : Kind → List ℕ → Type 0
-EndsBy k name = (n number : ℕ) (xs : List Open) (p : Spot)
-    → by_rows (suc n) (rows (end_home k)) (end_of name) (nothing_yet (inside name number xs p)) ≡ Some (ended k (inside name number xs p))
+EndsBy k name = (rules : Rules) (n number : ℕ) (xs : List Open) (p : Spot)
+    → by_rows (suc n) (rows (end_home k)) (end_of name) (nothing_yet (inside rules name number xs p))
+    ≡ Some (ended k (inside rules name number xs p))
 
 ends : (k : Kind) → has_end k ≡ true → Each (EndsBy k) (names_as k)
 unfolding by_rows rows names_of
 ends kind.Phrase h =
-    (λ n m xs p. refl) & (λ n m xs p. refl) & (λ n m xs p. refl) & (λ n m xs p. refl) & (λ n m xs p. refl)
-    & (λ n m xs p. refl) & (λ n m xs p. refl) & (λ n m xs p. refl) & (λ n m xs p. refl) & (λ n m xs p. refl)
-    & (λ n m xs p. refl) & (λ n m xs p. refl) & (λ n m xs p. refl) & (λ n m xs p. refl) & (λ n m xs p. refl)
-    & (λ n m xs p. refl) & (λ n m xs p. refl) & (λ n m xs p. refl) & (λ n m xs p. refl) & End
+    (λ rules n m xs p. refl) & (λ rules n m xs p. refl) & (λ rules n m xs p. refl) & (λ rules n m xs p. refl) & (λ rules n m xs p. refl)
+    & (λ rules n m xs p. refl) & (λ rules n m xs p. refl) & (λ rules n m xs p. refl) & (λ rules n m xs p. refl) & (λ rules n m xs p. refl)
+    & (λ rules n m xs p. refl) & (λ rules n m xs p. refl) & (λ rules n m xs p. refl) & (λ rules n m xs p. refl) & (λ rules n m xs p. refl)
+    & (λ rules n m xs p. refl) & (λ rules n m xs p. refl) & (λ rules n m xs p. refl) & (λ rules n m xs p. refl) & End
 ends kind.Formatting h =
-    (λ n m xs p. refl) & (λ n m xs p. refl) & (λ n m xs p. refl) & (λ n m xs p. refl) & (λ n m xs p. refl)
-    & (λ n m xs p. refl) & (λ n m xs p. refl) & (λ n m xs p. refl) & (λ n m xs p. refl) & (λ n m xs p. refl)
-    & (λ n m xs p. refl) & (λ n m xs p. refl) & End
+    (λ rules n m xs p. refl) & (λ rules n m xs p. refl) & (λ rules n m xs p. refl) & (λ rules n m xs p. refl) & (λ rules n m xs p. refl)
+    & (λ rules n m xs p. refl) & (λ rules n m xs p. refl) & (λ rules n m xs p. refl) & (λ rules n m xs p. refl) & (λ rules n m xs p. refl)
+    & (λ rules n m xs p. refl) & (λ rules n m xs p. refl) & End
 ends kind.Link h =
-    (λ n m xs p. refl) & End
+    (λ rules n m xs p. refl) & End
 ends kind.Block h =
-    (λ n m xs p. refl) & (λ n m xs p. refl) & (λ n m xs p. refl) & (λ n m xs p. refl) & (λ n m xs p. refl)
-    & (λ n m xs p. refl) & (λ n m xs p. refl) & (λ n m xs p. refl) & (λ n m xs p. refl) & (λ n m xs p. refl)
-    & (λ n m xs p. refl) & (λ n m xs p. refl) & (λ n m xs p. refl) & (λ n m xs p. refl) & (λ n m xs p. refl)
-    & (λ n m xs p. refl) & (λ n m xs p. refl) & (λ n m xs p. refl) & (λ n m xs p. refl) & (λ n m xs p. refl)
-    & (λ n m xs p. refl) & (λ n m xs p. refl) & (λ n m xs p. refl) & (λ n m xs p. refl) & (λ n m xs p. refl) & End
+    (λ rules n m xs p. refl) & (λ rules n m xs p. refl) & (λ rules n m xs p. refl) & (λ rules n m xs p. refl) & (λ rules n m xs p. refl)
+    & (λ rules n m xs p. refl) & (λ rules n m xs p. refl) & (λ rules n m xs p. refl) & (λ rules n m xs p. refl) & (λ rules n m xs p. refl)
+    & (λ rules n m xs p. refl) & (λ rules n m xs p. refl) & (λ rules n m xs p. refl) & (λ rules n m xs p. refl) & (λ rules n m xs p. refl)
+    & (λ rules n m xs p. refl) & (λ rules n m xs p. refl) & (λ rules n m xs p. refl) & (λ rules n m xs p. refl) & (λ rules n m xs p. refl)
+    & (λ rules n m xs p. refl) & (λ rules n m xs p. refl) & (λ rules n m xs p. refl) & (λ rules n m xs p. refl)
+    & (λ rules n m xs p. refl) & End
 ends kind.Heading h =
-    (λ n m xs p. refl) & (λ n m xs p. refl) & (λ n m xs p. refl) & (λ n m xs p. refl) & (λ n m xs p. refl)
-    & (λ n m xs p. refl) & End
+    (λ rules n m xs p. refl) & (λ rules n m xs p. refl) & (λ rules n m xs p. refl) & (λ rules n m xs p. refl) & (λ rules n m xs p. refl)
+    & (λ rules n m xs p. refl) & End
 ends kind.Preformatted h =
-    (λ n m xs p. refl) & (λ n m xs p. refl) & End
+    (λ rules n m xs p. refl) & (λ rules n m xs p. refl) & End
 ends kind.Item h =
-    (λ n m xs p. refl) & End
+    (λ rules n m xs p. refl) & End
 ends kind.Description h =
-    (λ n m xs p. refl) & (λ n m xs p. refl) & End
+    (λ rules n m xs p. refl) & (λ rules n m xs p. refl) & End
 ends kind.Button h =
-    (λ n m xs p. refl) & End
+    (λ rules n m xs p. refl) & End
+ends kind.Head h =
+    (λ rules n m xs p. refl) & End
+ends kind.Table h =
+    (λ rules n m xs p. refl) & End
 ends kind.Section h =
-    (λ n m xs p. refl) & (λ n m xs p. refl) & (λ n m xs p. refl) & End
+    (λ rules n m xs p. refl) & (λ rules n m xs p. refl) & (λ rules n m xs p. refl) & End
 ends kind.Row h =
-    (λ n m xs p. refl) & End
+    (λ rules n m xs p. refl) & End
 ends kind.Cell h =
-    (λ n m xs p. refl) & (λ n m xs p. refl) & End
+    (λ rules n m xs p. refl) & (λ rules n m xs p. refl) & End
 ends kind.Title h =
-    (λ n m xs p. refl) & End
+    (λ rules n m xs p. refl) & End
 ends kind.Style h =
-    (λ n m xs p. refl) & (λ n m xs p. refl) & End
+    (λ rules n m xs p. refl) & (λ rules n m xs p. refl) & End
 ends kind.Script h =
-    (λ n m xs p. refl) & End
+    (λ rules n m xs p. refl) & End
 ends k h = absurd cc
 
 -- whose end tags are those of a body
 abbrev pub is_body_end : Kind → Bool
+is_body_end kind.Head = false
+is_body_end kind.Table = false
 is_body_end kind.Section = false
 is_body_end kind.Row = false
 is_body_end kind.Cell = false
@@ -353,6 +404,8 @@ abbrev pub listing : Kind → Open → Bool
 listing kind.Formatting x = (is_in set.FormattingEnd x && not (is_marked x)) && not (is_in set.A x)
 listing kind.Link x = is_in set.FormattingEnd x && not (is_marked x)
 listing kind.VoidPhrase x = true
+listing kind.VoidBlock x = true
+listing kind.Input x = true
 listing kind.Metadata x = true
 listing kind.Cell x = is_marked x
 listing k x = is_unlisted x
@@ -361,12 +414,13 @@ listing k x = is_unlisted x
 abbrev pub is_usual : Open → Bool
 is_usual x = not (is_in set.AnnotationXml x) && not (is_in set.Form x)
 
-abbrev pub is_spelled : List ℕ → Bool
-is_spelled name = (is_tag_name name && bytes_eq (lowered name) name)
-    && (not (bytes_eq name (codes "template")) && not (bytes_eq name (codes "body") || bytes_eq name (codes "html")))
+-- a name whose end tag closes the element
+abbrev pub is_spelled : Bool → List ℕ → Bool
+is_spelled ends name = (is_tag_name name && bytes_eq (lowered name) name)
+    && (not (bytes_eq name (codes "template")) && not (ends && (bytes_eq name (codes "body") || bytes_eq name (codes "html"))))
 
 abbrev pub says : Kind → List ℕ → Bool
-says k name = (listing k (open_as name 0) && is_usual (open_as name 0)) && is_spelled name
+says k name = (listing k (open_as Html5ever name 0) && is_usual (open_as Html5ever name 0)) && is_spelled (has_end k) name
 
 all-say : (k : Kind) → is_common k ≡ true → list_all (says k) (names_as k) ≡ true
 unfolding names_of
@@ -379,6 +433,10 @@ all-say kind.Preformatted h = refl
 all-say kind.Item h = refl
 all-say kind.Description h = refl
 all-say kind.VoidPhrase h = refl
+all-say kind.VoidBlock h = refl
+all-say kind.Input h = refl
+all-say kind.Head h = refl
+all-say kind.Body h = refl
 all-say kind.Button h = refl
 all-say kind.Table h = refl
 all-say kind.Section h = refl

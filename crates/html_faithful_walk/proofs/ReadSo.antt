@@ -1,5 +1,5 @@
 -- Attributes that are read with the names and the values that they have.
-use Rattle.std.proofs.Common.{◌≡◌, ◌∙◌, ℕ, true, List, [], ◌∷◌, ◌++◌, map, refl, ap, ap₂, sym}
+use Rattle.std.proofs.Common.{◌≡◌, ◌∙◌, ◌<◌, ℕ, true, List, [], ◌∷◌, ◌++◌, length, map, refl, ap, ap₂, sym, arith}
 use Rattle.std.specs.Prelude.{◌&&◌, Option, Some, None, is_none}
 use Rattle.std.specs.List.{list_all}
 use Rattle.std.specs.Str.{bytes_eq}
@@ -60,3 +60,13 @@ pub are-told : (attributes : List Attribute) → are_read_so attributes ≡ true
 are-told attributes h =
     let parts = and_parts (list_all is_read_so attributes) (are_distinct attributes) h in
     ap₂ (λ b c. b && c) (all-kept attributes parts.0) parts.1
+
+-- no name comes twice where fewer than two attributes are
+few-distinct : (attributes : List Attribute) → length attributes < 2 → are_distinct attributes ≡ true
+few-distinct [] few = refl
+few-distinct (a ∷ []) few = refl
+few-distinct (a ∷ b ∷ rest) few = absurd (omega (arith, few))
+
+pub few-read : (attributes : List Attribute) → length attributes < 2 → list_all is_read_so attributes ≡ true
+    → are_read_so attributes ≡ true
+few-read attributes few h = ap₂ (λ b c. b && c) h (few-distinct attributes few)

@@ -27,6 +27,7 @@ use Rattle.html_rules.specs.Table.{Acknowledged, AnyEndTag, AnyStartTag, CloseFo
 use Rattle.html_rules.specs.Table.{ParseError, Reconstruct, StartTags, When, row, ◌▸◌}
 use Rattle.html_rules.specs.declared.insertion_mode.InsertionMode.{InsertionMode}
 use Rattle.html_rules.specs.declared.insertion_mode.InsertionMode.TheVariants as mode
+use Rattle.html_rules.specs.declared.rules.Rules.{Rules}
 use Rattle.html_rules.specs.declared.tag_set.TagSet.TheVariants as set
 use Rattle.html_faithful.specs.Checks.{is_kept_so}
 use Rattle.html_faithful.specs.Forms.{is_tag_name, lowered, told_attribute}
@@ -46,28 +47,29 @@ use Rattle.html_faithful_walk.proofs.SvgAttributes.{svg-adjusted, svg-told}
 
 -- IN FOREIGN CONTENT
 
-abbrev svg_open : List ℕ → ℕ → Open
-svg_open name number = record { number = number; namespace = names.Svg; name = name }
+abbrev svg_open : Rules → List ℕ → ℕ → Open
+svg_open rules name number = record { number = number; namespace = names.Svg; name = name; rules = rules }
 
-foreign-there : (s : State) (name : List ℕ) (number : ℕ) (t : Token) → is_among name (svg_names_of set.SvgHtmlIntegrationPoint) ≡ false
-    → is_foreign_at s (Some (svg_open name number)) t ≡ true
+foreign-there : (s : State) (rules : Rules) (name : List ℕ) (number : ℕ) (t : Token)
+    → is_among name (svg_names_of set.SvgHtmlIntegrationPoint) ≡ false → is_foreign_at s (Some (svg_open rules name number)) t ≡ true
 unfolding svg_names_of
-foreign-there s name number t h = rw h refl
+foreign-there s rules name number t h = rw h refl
 
 no-end : (b : Bool) → not (((false && false) || (b && false)) || (false && false)) ≡ true
 no-end true = refl
 no-end false = refl
 
-foreign-end : (s : State) (name own : List ℕ) (number : ℕ) → is_foreign_at s (Some (svg_open own number)) (end_of name) ≡ true
+foreign-end : (s : State) (rules : Rules) (name own : List ℕ) (number : ℕ)
+    → is_foreign_at s (Some (svg_open rules own number)) (end_of name) ≡ true
 unfolding svg_names_of
-foreign-end s name own number = no-end (is_among own (svg_names_of set.SvgHtmlIntegrationPoint))
+foreign-end s rules name own number = no-end (is_among own (svg_names_of set.SvgHtmlIntegrationPoint))
 
 by-foreign : (q : Spot) (t : Token) → is_foreign (hollow q) t ≡ true → made_of t q ≡ by_rows 4 in_foreign_content t (nothing_yet q)
 unfolding made_of
 by-foreign q t e = ap (λ b. by_rows 4 (choose b (λ _. in_foreign_content) (λ _. rows q.mode)) t (nothing_yet q)) e
 
-abbrev in_svg : List ℕ → ℕ → List Open → Spot → Spot
-in_svg own number xs p = record p { path = svg_open own number ∷ xs }
+abbrev in_svg : Rules → List ℕ → ℕ → List Open → Spot → Spot
+in_svg rules own number xs p = record p { path = svg_open rules own number ∷ xs }
 
 -- NAMES
 
@@ -115,18 +117,19 @@ svg-row : (name : List ℕ) (attributes : List Attribute) (s : State) → is_amo
 svg-row name attributes s h g = rw (h, g) refl
 
 abbrev svg_made : List ℕ → List Attribute → Spot → Made
-svg_made name attributes q = record (nothing_yet (record q { path = opened_at names.Svg name q.path ∷ q.path })) {
+svg_made name attributes q = record (nothing_yet (record q { path = opened_at q.rules names.Svg name q.path ∷ q.path })) {
   put = Some (put.Element names.Svg name attributes true);
 }
 
-module _ (name : List ℕ) (told attributes : List Attribute) (own : List ℕ) (number : ℕ) (xs : List Open) (p : Spot) (says : Says name)
+module _ (rules : Rules) (name : List ℕ) (told attributes : List Attribute) (own : List ℕ) (number : ℕ) (xs : List Open) (p : Spot)
+    (says : Says name)
     (takes : is_among own (svg_names_of set.SvgHtmlIntegrationPoint) ≡ false) (back : adjust_attributes names.Svg told ≡ attributes) where
   abbrev q : Spot
-  q = in_svg own number xs p
+  q = in_svg rules own number xs p
 
   start-foreign : is_foreign (hollow q) (start_of name told) ≡ true
   unfolding is_foreign
-  start-foreign = foreign-there (hollow q) own number (start_of name told) takes
+  start-foreign = foreign-there (hollow q) rules own number (start_of name told) takes
 
   made-of-svg : made_of (start_of name told) q ≡ Some (svg_made name attributes q)
   made-of-svg =
@@ -177,10 +180,10 @@ pub space-svg : (ns : List ℕ) → bytes_eq ns svg_namespace ≡ true → names
 unfolding svg_namespace html_namespace mathml_namespace
 space-svg ns h = ap namespace_of ((bytes_eq-Decides ns svg_namespace).0 h)
 
-own-open : (x : Open) → is_svg_space x.namespace ≡ true → x ≡ svg_open x.name x.number
+own-open : (x : Open) → is_svg_space x.namespace ≡ true → x ≡ svg_open x.rules x.name x.number
 own-open x h = by x.namespace refl h
   where
-    by : (space : names.Namespace) → x.namespace ≡ space → is_svg_space space ≡ true → x ≡ svg_open x.name x.number
+    by : (space : names.Namespace) → x.namespace ≡ space → is_svg_space space ≡ true → x ≡ svg_open x.rules x.name x.number
     by names.Svg e h = ap (λ (space : names.Namespace). record x { namespace = space }) e
     by space e h = absurd cc
 
@@ -195,10 +198,10 @@ svg-path name attributes (x ∷ xs) p e s says takes read =
     let out : is_among x.name (svg_names_of set.SvgHtmlIntegrationPoint) ≡ false =
     is-not (is_among x.name (svg_names_of set.SvgHtmlIntegrationPoint))
     (ap (λ (x : Open). not (is_among x.name (names_in x.namespace set.SvgHtmlIntegrationPoint))) (sym own) ∙ parts.1) in
-    let at : p.path ≡ svg_open x.name x.number ∷ xs = e ∙ ap (λ x. x ∷ xs) own in
+    let at : p.path ≡ svg_open x.rules x.name x.number ∷ xs = e ∙ ap (λ x. x ∷ xs) own in
     ap₂ (λ name path. started name attributes false (record p { path = path })) (svg-named-so name s) at
-    ∙ (svg-started name.local attributes (in_svg x.name x.number xs p) says read
-    (made-of-svg name.local (map told_attribute attributes) attributes x.name x.number xs p says out (svg-adjusted attributes read))
+    ∙ (svg-started name.local attributes (in_svg x.rules x.name x.number xs p) says read
+    (made-of-svg x.rules name.local (map told_attribute attributes) attributes x.name x.number xs p says out (svg-adjusted attributes read))
     ∙ ap (λ path. Some (svg_made name.local attributes (record p { path = path }))) (sym at))
 
 -- an element of SVG is put by its start tag
@@ -208,7 +211,8 @@ svg-put name attributes p is =
     let space = space-svg name.ns (and_parts (is_none name.prefix) (bytes_eq name.ns svg_namespace) is.svg).1 in
     ap (option_map before_kids)
     (svg-path name attributes p.path p refl is.svg (said name.local is.named) is.takes is.read)
-    ∙ ap (λ (space : names.Namespace). Some (nothing_yet (record p { path = opened_at space name.local p.path ∷ p.path }))) (sym space)
+    ∙ ap (λ (space : names.Namespace).
+    Some (nothing_yet (record p { path = opened_at p.rules space name.local p.path ∷ p.path }))) (sym space)
 
 -- `svg` in HTML takes the row of the body
 root-row : (attributes : List Attribute) (s : State)
@@ -248,48 +252,51 @@ root-put name attributes p is =
     (ap (λ name. started name attributes false p) (svg-named-so name is.svg ∙ ap svg_named local)
     ∙ svg-started (codes "svg") attributes p svg-said is.read (root-made (map told_attribute attributes) attributes p is.flow is.html
     (svg-adjusted attributes is.read)))
-    ∙ ap₂ (λ (space : names.Namespace) local. Some (nothing_yet (record p { path = opened_at space local p.path ∷ p.path })))
+    ∙ ap₂ (λ (space : names.Namespace) local. Some (nothing_yet (record p { path = opened_at p.rules space local p.path ∷ p.path })))
     (sym space) (sym local)
 
 -- END TAGS
 
-end-row : (name : List ℕ) (number : ℕ) (y : Open) (ys : List Open) (p : Spot) → is_among name (names_of set.BrP) ≡ false
-    → first_fit in_foreign_content (end_of name) (hollow (in_svg name number (y ∷ ys) p))
+end-row : (rules : Rules) (name : List ℕ) (number : ℕ) (y : Open) (ys : List Open) (p : Spot) → is_among name (names_of set.BrP) ≡ false
+    → first_fit in_foreign_content (end_of name) (hollow (in_svg rules name number (y ∷ ys) p))
     ≡ row AnyEndTag (When ForeignEndError ParseError ▸ CloseForeign) Done
 unfolding foreign_end
-end-row name number y ys p h = rw (h, same-name (map to_ascii_lowercase name)) refl
+end-row rules name number y ys p h = rw (h, same-name (map to_ascii_lowercase name)) refl
 
 abbrev svg_ended : Spot → List Open → Made
 svg_ended p xs = record (nothing_yet (record p { path = xs })) { closed = true }
 
-end-foreign : (name : List ℕ) (number : ℕ) (xs : List Open) (p : Spot) → is_foreign (hollow (in_svg name number xs p)) (end_of name) ≡ true
+end-foreign : (rules : Rules) (name : List ℕ) (number : ℕ) (xs : List Open) (p : Spot)
+    → is_foreign (hollow (in_svg rules name number xs p)) (end_of name) ≡ true
 unfolding is_foreign
-end-foreign name number xs p = foreign-end (hollow (in_svg name number xs p)) name name number
+end-foreign rules name number xs p = foreign-end (hollow (in_svg rules name number xs p)) rules name name number
 
-made-of-end : (name : List ℕ) (number : ℕ) (y : Open) (ys : List Open) (p : Spot) → is_among name (names_of set.BrP) ≡ false
-    → made_of (end_of name) (in_svg name number (y ∷ ys) p) ≡ Some (svg_ended p (y ∷ ys))
-made-of-end name number y ys p h =
-    by-foreign (in_svg name number (y ∷ ys) p) (end_of name) (end-foreign name number (y ∷ ys) p)
-    ∙ (by-row 3 in_foreign_content (end_of name) (nothing_yet (in_svg name number (y ∷ ys) p))
-    (row AnyEndTag (When ForeignEndError ParseError ▸ CloseForeign) Done) (end-row name number y ys p h)
+made-of-end : (rules : Rules) (name : List ℕ) (number : ℕ) (y : Open) (ys : List Open) (p : Spot)
+    → is_among name (names_of set.BrP) ≡ false
+    → made_of (end_of name) (in_svg rules name number (y ∷ ys) p) ≡ Some (svg_ended p (y ∷ ys))
+made-of-end rules name number y ys p h =
+    by-foreign (in_svg rules name number (y ∷ ys) p) (end_of name) (end-foreign rules name number (y ∷ ys) p)
+    ∙ (by-row 3 in_foreign_content (end_of name) (nothing_yet (in_svg rules name number (y ∷ ys) p))
+    (row AnyEndTag (When ForeignEndError ParseError ▸ CloseForeign) Done) (end-row rules name number y ys p h)
     ∙ rw (same-name (map to_ascii_lowercase name), same-name (map to_ascii_lowercase name)) refl)
 
 abbrev svg_end_test : QualName → Spot → Made → Bool
 svg_end_test name q made = (is_none made.put && not made.drops_line_feed && is_none made.raw)
     && cond (stays_open name) (not made.closed) made.closed && is_kept_so (lowered name.local) q made
 
-svg-end-tested : (local : List ℕ) (number : ℕ) (y : Open) (ys : List Open) (p : Spot)
-    → svg_end_test (svg_named local) (in_svg local number (y ∷ ys) p) (svg_ended p (y ∷ ys)) ≡ true
+svg-end-tested : (rules : Rules) (local : List ℕ) (number : ℕ) (y : Open) (ys : List Open) (p : Spot)
+    → svg_end_test (svg_named local) (in_svg rules local number (y ∷ ys) p) (svg_ended p (y ∷ ys)) ≡ true
 unfolding svg_namespace html_namespace svg_names_of
-svg-end-tested local number y ys p = refl
+svg-end-tested rules local number y ys p = refl
 
-svg-finished : (local : List ℕ) (number : ℕ) (y : Open) (ys : List Open) (p : Spot) → Says local
-    → finished (svg_named local) (in_svg local number (y ∷ ys) p) ≡ Some (record p { path = y ∷ ys })
-svg-finished local number y ys p says =
-    finished-by (made_of (end_of (lowered local)) (in_svg local number (y ∷ ys) p))
-    (svg_end_test (svg_named local) (in_svg local number (y ∷ ys) p)) (svg_ended p (y ∷ ys))
-    (ap (λ name. made_of (end_of name) (in_svg local number (y ∷ ys) p)) says.low ∙ made-of-end local number y ys p says.ends)
-    (svg-end-tested local number y ys p)
+svg-finished : (rules : Rules) (local : List ℕ) (number : ℕ) (y : Open) (ys : List Open) (p : Spot) → Says local
+    → finished (svg_named local) (in_svg rules local number (y ∷ ys) p) ≡ Some (record p { path = y ∷ ys })
+svg-finished rules local number y ys p says =
+    finished-by (made_of (end_of (lowered local)) (in_svg rules local number (y ∷ ys) p))
+    (svg_end_test (svg_named local) (in_svg rules local number (y ∷ ys) p)) (svg_ended p (y ∷ ys))
+    (ap (λ name. made_of (end_of name) (in_svg rules local number (y ∷ ys) p)) says.low
+    ∙ made-of-end rules local number y ys p says.ends)
+    (svg-end-tested rules local number y ys p)
 
 svg-end-path : (name : QualName) (path : List Open) (p : Spot) → p.path ≡ path → is_svg name ≡ true → Says name.local
     → is_current_svg name.local path ≡ true → finished name p ≡ Some (record p { path = without_current path })
@@ -297,10 +304,10 @@ svg-end-path name [] p e s says current = absurd cc
 svg-end-path name (x ∷ []) p e s says current = absurd cc
 svg-end-path name (x ∷ y ∷ ys) p e s says current =
     let parts = and_parts (is_svg_space x.namespace) (bytes_eq name.local x.name) current in
-    let own : x ≡ svg_open name.local x.number =
-    own-open x parts.0 ∙ ap (λ local. svg_open local x.number) (sym ((bytes_eq-Decides name.local x.name).0 parts.1)) in
+    let own : x ≡ svg_open x.rules name.local x.number =
+    own-open x parts.0 ∙ ap (λ local. svg_open x.rules local x.number) (sym ((bytes_eq-Decides name.local x.name).0 parts.1)) in
     ap₂ (λ name path. finished name (record p { path = path })) (svg-named-so name s) (e ∙ ap (λ x. x ∷ y ∷ ys) own)
-    ∙ svg-finished name.local x.number y ys p says
+    ∙ svg-finished x.rules name.local x.number y ys p says
 
 -- and closed by its end tag
 pub svg-closes : (name : QualName) (p : Spot) → IsClosedIn name p → finished name p ≡ Some (record p { path = without_current p.path })
@@ -315,7 +322,7 @@ text-foreign p c (x ∷ xs) h =
     let parts = and_parts (is_svg_space x.namespace) (not (is_among x.name (names_in x.namespace set.SvgHtmlIntegrationPoint))) h in
     let own = own-open x parts.0 in
     ap (λ (x : Open). is_foreign_at (hollow p) (Some x) (CharacterTokens (c ∷ []))) own
-    ∙ foreign-there (hollow p) x.name x.number (CharacterTokens (c ∷ []))
+    ∙ foreign-there (hollow p) x.rules x.name x.number (CharacterTokens (c ∷ []))
     (is-not (is_among x.name (svg_names_of set.SvgHtmlIntegrationPoint))
     (ap (λ (x : Open). not (is_among x.name (names_in x.namespace set.SvgHtmlIntegrationPoint))) (sym own) ∙ parts.1))
 

@@ -9,6 +9,7 @@ use Rattle.markup.specs.declared.names.QualName.{QualName}
 use Rattle.markup.specs.declared.quirks.QuirksMode.TheVariants.{NoQuirks, Quirks}
 use Rattle.html_tokens.specs.declared.states.RawKind.{RawKind}
 use Rattle.html_rules.specs.Choice.{choose}
+use Rattle.html_rules.specs.declared.rules.Rules.TheVariants.{Html5ever}
 use Rattle.html_faithful.specs.Forms.{is_comment_text, is_raw_text, lowered}
 use Rattle.html_faithful.specs.Harmless.{Made, and_then}
 use Rattle.html_faithful.specs.Spots.{Spot}
@@ -171,7 +172,7 @@ at_start scripting = record {
   after_text = false;
   drops = false;
   comes = Beginning;
-  spot = first_spot scripting Quirks;
+  spot = first_spot Html5ever scripting Quirks;
 }
 
 -- whether a document may end there

@@ -40,11 +40,15 @@ names_as kind.Preformatted = names_of set.PreListing
 names_as kind.Item = names_of set.Li
 names_as kind.Description = names_of set.DdDt
 names_as kind.VoidPhrase = names_of set.VoidTag
+names_as kind.VoidBlock = names_of set.Hr
+names_as kind.Input = names_of set.Input
 names_as kind.Button = names_of set.Button
 names_as kind.Table = names_of set.Table
 names_as kind.Section = names_of set.TbodyTfootThead
 names_as kind.Row = names_of set.Tr
 names_as kind.Cell = names_of set.TdTh
+names_as kind.Head = names_of set.Head
+names_as kind.Body = names_of set.Body
 names_as kind.Metadata = names_of set.MetadataVoid
 names_as kind.Title = names_of set.Title
 names_as kind.Style = names_of set.NoframesStyle
@@ -79,11 +83,14 @@ free = FREE
 abbrev pub is_void_kind : Kind → Bool
 is_void_kind kind.Void = true
 is_void_kind kind.VoidPhrase = true
+is_void_kind kind.VoidBlock = true
+is_void_kind kind.Input = true
 is_void_kind kind.Metadata = true
 is_void_kind k = false
 
 abbrev pub is_staying_kind : Kind → Bool
 is_staying_kind kind.Staying = true
+is_staying_kind kind.Body = true
 is_staying_kind k = false
 
 abbrev pub is_raw_kind : Bool → Kind → Bool
@@ -111,7 +118,9 @@ is_listed k = is_common k
 -- and whether those of their end tags are, too
 abbrev pub has_end : Kind → Bool
 has_end kind.VoidPhrase = false
-has_end kind.Table = false
+has_end kind.VoidBlock = false
+has_end kind.Input = false
+has_end kind.Body = false
 has_end kind.Metadata = false
 has_end k = is_common k
 

@@ -66,7 +66,7 @@ pub record IsRootIn (name : QualName) (attributes : List Attribute) (p : Spot) :
   pub read : are_svg_read attributes ≡ true
 
 abbrev pub opened_svg : QualName → Spot → Made
-opened_svg name p = nothing_yet (record p { path = opened_at (namespace_of name.ns) name.local p.path ∷ p.path })
+opened_svg name p = nothing_yet (record p { path = opened_at p.rules (namespace_of name.ns) name.local p.path ∷ p.path })
 
 -- whether the current node is the SVG element of a name, and does not stand alone
 abbrev pub is_current_svg : List ℕ → List Open → Bool

@@ -12,6 +12,7 @@ ghost use Rattle.html_faithful_judge.specs.Mades.{made_as};
 ghost use Rattle.html_faithful_judge.specs.Spots.{spot_of};
 ghost use Rattle.html_faithful_walk.specs.Common.{are_free, are_read_so, before_kids, closes_none, drops_line_feed, is_bare, is_closed_by};
 ghost use Rattle.html_faithful_walk.specs.Common.{ends_in, entered, is_emitted, is_flow, is_free, is_head, is_outside, is_plain_type};
+ghost use Rattle.html_faithful_walk.specs.Common.{has_head_in, is_body_ended, is_outside_select, is_root_ended, is_settled};
 ghost use Rattle.html_faithful_walk.specs.Common.{is_read_so, is_text_kind, keeps_frameset_ok, may_open};
 ghost use Rattle.html_faithful_walk.specs.Common.{mode_after, mode_in, opened_as, raw_in};
 ghost use Rattle.html_faithful_walk.specs.Common.{spot_after, stands_in};
@@ -98,7 +99,11 @@ pub(crate) fn are_distinct(attributes: &[Attribute]) -> bool
 pub(crate) fn are_read_so(attributes: &[Attribute]) -> bool
     ensures { IsTrue result → are_read_so attributes.now ≡ true }
 {
-    if attributes.len() > FEW {
+    let count = attributes.len();
+    if count < 2 {
+        return are_all_read_so(attributes);
+    }
+    if count > FEW {
         return false;
     }
     are_all_read_so(attributes) && are_distinct(attributes)
@@ -144,6 +149,8 @@ fn stands_in(kind: Kind, mode: InsertionMode) -> bool
     ensures { result ≡ stands_in kind mode }
 {
     match kind {
+        Kind::Head => matches!(mode, InsertionMode::BeforeHead),
+        Kind::Body => matches!(mode, InsertionMode::AfterHead),
         Kind::Metadata => is_head(mode),
         Kind::Title => is_head(mode),
         Kind::Style => is_head(mode),
@@ -160,6 +167,8 @@ fn ends_in(kind: Kind, mode: InsertionMode) -> bool
     ensures { result ≡ ends_in kind mode }
 {
     match kind {
+        Kind::Head => matches!(mode, InsertionMode::InHead),
+        Kind::Table => matches!(mode, InsertionMode::InTable),
         Kind::Title => matches!(mode, InsertionMode::Text),
         Kind::Style => matches!(mode, InsertionMode::Text),
         Kind::Script => matches!(mode, InsertionMode::Text),
@@ -177,6 +186,15 @@ fn is_outside(spot: &Spot) -> bool
     !spot.as_stack().in_scope(TagSet::ButtonScope, TagSet::P)
 }
 
+/// Whether no `select` is open in scope.
+fn is_outside_select(spot: &Spot) -> bool
+    ensures { result ≡ is_outside_select spot.now.stack.open_elems }
+{
+    !spot
+        .as_stack()
+        .in_scope(TagSet::DefaultScope, TagSet::Select)
+}
+
 /// Whether an element of a kind that is put in the open elements closes none of them.
 fn closes_none(spot: &Spot, kind: Kind) -> bool
     ensures { result ≡ closes_none kind spot.now.stack.open_elems }
@@ -191,6 +209,10 @@ fn closes_none(spot: &Spot, kind: Kind) -> bool
         Kind::Phrase => true,
         Kind::Formatting => true,
         Kind::VoidPhrase => true,
+        Kind::VoidBlock => is_outside(spot) && is_outside_select(spot),
+        Kind::Input => is_outside_select(spot),
+        Kind::Head => true,
+        Kind::Body => true,
         Kind::Metadata => true,
         Kind::Title => true,
         Kind::Style => true,
@@ -211,11 +233,22 @@ fn closes_none(spot: &Spot, kind: Kind) -> bool
     }
 }
 
+/// Whether a flag says what a start tag of a kind does, since its attributes are not looked at.
+fn is_settled(spot: &Spot, kind: Kind) -> bool
+    ensures { result ≡ is_settled kind (spot_of spot.now) }
+{
+    match kind {
+        Kind::Input => !spot.frameset_ok,
+        _ => true,
+    }
+}
+
 /// Whether an element of a kind is only put here by its start tag.
 fn may_open(spot: &Spot, kind: Kind) -> bool
     ensures { result ≡ may_open kind (spot_of spot.now) }
 {
-    stands_in(kind, spot.mode) && (is_in_html(spot) && closes_none(spot, kind))
+    (stands_in(kind, spot.mode) && is_settled(spot, kind))
+        && (is_in_html(spot) && closes_none(spot, kind))
 }
 
 /// Whether a line feed that comes first in an element of a kind is dropped.
@@ -235,6 +268,8 @@ fn keeps_frameset_ok(kind: Kind) -> bool
             | Kind::Item
             | Kind::Description
             | Kind::VoidPhrase
+            | Kind::VoidBlock
+            | Kind::Body
             | Kind::Button
             | Kind::Table
     )
@@ -249,6 +284,8 @@ fn mode_in(kind: Kind, mode: InsertionMode) -> InsertionMode
         Kind::Section => InsertionMode::InTableBody,
         Kind::Row => InsertionMode::InRow,
         Kind::Cell => InsertionMode::InCell,
+        Kind::Head => InsertionMode::InHead,
+        Kind::Body => InsertionMode::InBody,
         Kind::Title => InsertionMode::Text,
         Kind::Style => InsertionMode::Text,
         Kind::Script => InsertionMode::Text,
@@ -273,18 +310,20 @@ fn mode_back(spot: &Spot) -> InsertionMode
     }
 }
 
-/// The mode after the end of an element of a kind.
-fn mode_after(kind: Kind, spot: &Spot) -> InsertionMode
-    ensures { result ≡ mode_after kind (spot_of spot.now) }
+/// The mode is that after the end of an element of a kind, which was the current node.
+fn leave(spot: &mut Spot, kind: Kind)
+    ensures { spot_of spot.new ≡ record (spot_of spot.old) { mode = mode_after kind (spot_of spot.old) } }
 {
     match kind {
-        Kind::Section => InsertionMode::InTable,
-        Kind::Row => InsertionMode::InTableBody,
-        Kind::Cell => InsertionMode::InRow,
-        Kind::Title => mode_back(spot),
-        Kind::Style => mode_back(spot),
-        Kind::Script => mode_back(spot),
-        _ => spot.mode,
+        Kind::Head => spot.mode = InsertionMode::AfterHead,
+        Kind::Table => spot.reset_mode(),
+        Kind::Section => spot.mode = InsertionMode::InTable,
+        Kind::Row => spot.mode = InsertionMode::InTableBody,
+        Kind::Cell => spot.mode = InsertionMode::InRow,
+        Kind::Title => spot.mode = mode_back(spot),
+        Kind::Style => spot.mode = mode_back(spot),
+        Kind::Script => spot.mode = mode_back(spot),
+        _ => {}
     }
 }
 
@@ -300,6 +339,13 @@ fn raw_in(kind: Kind) -> Option<RawKind>
     }
 }
 
+/// Whether there is a head element, once one of a kind is opened.
+fn has_head_in(kind: Kind, has: bool) -> bool
+    ensures { result ≡ has_head_in kind has }
+{
+    matches!(kind, Kind::Head) || has
+}
+
 /// The modes where an element of a kind is opened.
 fn enter(spot: &mut Spot, kind: Kind)
     ensures { spot_of spot.new ≡ entered kind (spot_of spot.old) }
@@ -308,17 +354,18 @@ fn enter(spot: &mut Spot, kind: Kind)
         spot.orig_mode = Some(spot.mode);
     }
     spot.mode = mode_in(kind, spot.mode);
+    spot.has_head = has_head_in(kind, spot.has_head);
 }
 
 /// The current node, an element of a kind, is closed.
 fn close(spot: &mut Spot, kind: Kind)
     ensures { spot_of spot.new ≡ spot_after kind (spot_of spot.old) }
 {
-    spot.mode = mode_after(kind, spot);
+    spot.close_current();
+    leave(spot, kind);
     if is_text_kind(kind) {
         spot.orig_mode = None;
     }
-    spot.close_current();
 }
 
 /// An element of a kind and a name is put, and opened, unless it is void.
@@ -403,4 +450,66 @@ pub(crate) fn finish_common(made: &mut Made, name: &QualName) -> bool
     }
     close(&mut made.spot, kind);
     true
+}
+
+/// Whether the body ends here where its end tag comes.
+fn ends_body(spot: &Spot) -> bool
+    ensures { IsTrue result → is_body_ended (spot_of spot.now) ≡ true }
+{
+    matches!(spot.mode, InsertionMode::InBody)
+        && (spot.current_is(TagSet::Body) && spot.ends_with_body())
+}
+
+/// Whether the document ends here where the end tag of `html` comes.
+fn ends_root(spot: &Spot) -> bool
+    ensures { result ≡ is_root_ended (spot_of spot.now) }
+{
+    matches!(spot.mode, InsertionMode::AfterBody) && is_in_html(spot)
+}
+
+/// The end tag of an element comes; answers whether it is that of the body, and only says that it ends.
+fn finish_body(made: &mut Made, name: &QualName) -> bool
+    ensures ok { IsTrue result → finished name.now (spot_of made.old.spot) ≡ Some (spot_of made.new.spot) }
+    ensures other { result ≡ false → made.new ≡ made.old }
+{
+    if !is_plain_html(name) {
+        return false;
+    }
+    if !name.local.is("body") {
+        return false;
+    }
+    if !ends_body(&made.spot) {
+        return false;
+    }
+    made.spot.mode = InsertionMode::AfterBody;
+    true
+}
+
+/// The end tag of an element comes; answers whether it is that of the root, and only says that it ends.
+fn finish_root(made: &mut Made, name: &QualName) -> bool
+    ensures ok { IsTrue result → finished name.now (spot_of made.old.spot) ≡ Some (spot_of made.new.spot) }
+    ensures other { result ≡ false → made.new ≡ made.old }
+{
+    if !is_plain_html(name) {
+        return false;
+    }
+    if !name.local.is("html") {
+        return false;
+    }
+    if !ends_root(&made.spot) {
+        return false;
+    }
+    made.spot.mode = InsertionMode::AfterAfterBody;
+    true
+}
+
+/// The end tag of an element comes; answers whether it is that of the body or of the root, which stay open, and only says that they end.
+pub(crate) fn finish_staying(made: &mut Made, name: &QualName) -> bool
+    ensures ok { IsTrue result → finished name.now (spot_of made.old.spot) ≡ Some (spot_of made.new.spot) }
+    ensures other { result ≡ false → made.new ≡ made.old }
+{
+    if finish_body(made, name) {
+        return true;
+    }
+    finish_root(made, name)
 }

@@ -39,6 +39,10 @@ pub(crate) enum Kind {
     Description,
     /// A void element that is put anywhere in a body.
     VoidPhrase,
+    /// A void element that closes a paragraph.
+    VoidBlock,
+    /// A control that is void.
+    Input,
     /// A button.
     Button,
     /// A table.
@@ -49,6 +53,10 @@ pub(crate) enum Kind {
     Row,
     /// A cell of a table.
     Cell,
+    /// The head.
+    Head,
+    /// The body, which stays open where it ends.
+    Body,
     /// A void element of the head.
     Metadata,
     /// A title, whose text is escaped.
@@ -125,14 +133,17 @@ pub(crate) fn is_free_name(name: &LocalName) -> bool
 pub(crate) fn is_void_kind(kind: Kind) -> bool
     ensures { result ≡ is_void_kind kind }
 {
-    matches!(kind, Kind::Void | Kind::VoidPhrase | Kind::Metadata)
+    matches!(
+        kind,
+        Kind::Void | Kind::VoidPhrase | Kind::VoidBlock | Kind::Input | Kind::Metadata
+    )
 }
 
 /// Whether an element of a kind stays open where it ends.
 pub(crate) fn is_staying_kind(kind: Kind) -> bool
     ensures { result ≡ is_staying_kind kind }
 {
-    matches!(kind, Kind::Staying)
+    matches!(kind, Kind::Staying | Kind::Body)
 }
 
 /// Whether the text of an element of a kind is written as it is.
@@ -152,18 +163,36 @@ pub(crate) fn is_raw_kind(scripting: bool, kind: Kind) -> bool
 pub(crate) fn has_end(kind: Kind) -> bool
     ensures { result ≡ has_end kind }
 {
-    !matches!(
-        kind,
-        Kind::Usual
-            | Kind::Staying
-            | Kind::Void
-            | Kind::Raw
-            | Kind::RawWithScripts
-            | Kind::VoidPhrase
-            | Kind::Table
-            | Kind::Metadata
-            | Kind::Svg
-    )
+    match kind {
+        Kind::Usual => false,
+        Kind::Void => false,
+        Kind::Raw => false,
+        Kind::RawWithScripts => false,
+        Kind::Staying => false,
+        Kind::Phrase => true,
+        Kind::Formatting => true,
+        Kind::Link => true,
+        Kind::Block => true,
+        Kind::Heading => true,
+        Kind::Preformatted => true,
+        Kind::Item => true,
+        Kind::Description => true,
+        Kind::VoidPhrase => false,
+        Kind::VoidBlock => false,
+        Kind::Input => false,
+        Kind::Button => true,
+        Kind::Table => true,
+        Kind::Section => true,
+        Kind::Row => true,
+        Kind::Cell => true,
+        Kind::Head => true,
+        Kind::Body => false,
+        Kind::Metadata => false,
+        Kind::Title => true,
+        Kind::Style => true,
+        Kind::Script => true,
+        Kind::Svg => false,
+    }
 }
 
 /// Whether a kind is that of SVG's elements.

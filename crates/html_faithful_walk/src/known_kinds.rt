@@ -1,9 +1,9 @@
 //! The kinds of known names, by their places: written by `tools/names.py`.
 use crate::kinds::Kind;
 use crate::kinds::Kind::{
-    Block, Button, Cell, Description, Formatting, Heading, Item, Link, Metadata, Phrase,
-    Preformatted, Raw, RawWithScripts, Row, Script, Section, Staying, Style, Svg, Table, Title,
-    Usual, Void, VoidPhrase,
+    Block, Body, Button, Cell, Description, Formatting, Head, Heading, Input, Item, Link, Metadata,
+    Phrase, Preformatted, Raw, RawWithScripts, Row, Script, Section, Staying, Style, Svg, Table,
+    Title, Usual, Void, VoidBlock, VoidPhrase,
 };
 
 /// The kind of the HTML element, or `Svg` for an element of SVG.
@@ -13,19 +13,19 @@ pub(crate) const KINDS: [Kind; 626] = [
     Usual, Usual, Usual, Usual, Usual, Usual, Svg, Usual, Usual, Usual, Usual, Usual, Usual, Usual, Usual, Usual, Usual,
     VoidPhrase, Block, Usual, Block, Usual, Usual, Usual, Usual, Usual, Usual, Usual, Usual, Usual, Usual, Usual,
     Formatting, Usual, Metadata, Usual, Usual, Metadata, Usual, Usual, Phrase, Phrase, Usual, Metadata, Formatting,
-    Usual, Usual, Block, Staying, Usual, VoidPhrase, Button, Usual, Usual, Usual, Usual, Usual, Usual, Block, Usual,
-    Usual, Svg, Phrase, Usual, Usual, Usual, Usual, Usual, Usual, Usual, Usual, Usual, Formatting, Void, Usual, Usual,
-    Usual, Usual, Usual, Usual, Usual, Usual, Usual, Usual, Usual, Usual, Usual, Usual, Usual, Usual, Usual, Phrase,
-    Usual, Usual, Description, Usual, Usual, Usual, Usual, Usual, Svg, Phrase, Usual, Block, Phrase, Block, Usual,
-    Usual, Block, Usual, Usual, Usual, Usual, Usual, Block, Block, Usual, Usual, Description, Usual, Usual, Usual,
-    Usual, Svg, Formatting, VoidPhrase, Usual, Usual, Usual, Usual, Usual, Usual, Usual, Usual, Usual, Usual, Usual,
+    Usual, Usual, Block, Body, Usual, VoidPhrase, Button, Usual, Usual, Usual, Usual, Usual, Usual, Block, Usual, Usual,
+    Svg, Phrase, Usual, Usual, Usual, Usual, Usual, Usual, Usual, Usual, Usual, Formatting, Void, Usual, Usual, Usual,
+    Usual, Usual, Usual, Usual, Usual, Usual, Usual, Usual, Usual, Usual, Usual, Usual, Usual, Usual, Phrase, Usual,
+    Usual, Description, Usual, Usual, Usual, Usual, Usual, Svg, Phrase, Usual, Block, Phrase, Block, Usual, Usual,
+    Block, Usual, Usual, Usual, Usual, Usual, Block, Block, Usual, Usual, Description, Usual, Usual, Usual, Usual, Svg,
+    Formatting, VoidPhrase, Usual, Usual, Usual, Usual, Usual, Usual, Usual, Usual, Usual, Usual, Usual, Usual, Usual,
     Usual, Usual, Usual, Usual, Usual, Usual, Usual, Usual, Usual, Usual, Usual, Usual, Usual, Usual, Usual, Usual,
     Usual, Usual, Usual, Usual, Usual, Usual, Usual, Usual, Usual, Usual, Usual, Usual, Usual, Usual, Usual, Usual,
-    Usual, Usual, Usual, Usual, Usual, Usual, Usual, Usual, Usual, Usual, Usual, Usual, Usual, Block, Block, Block,
-    Usual, Usual, Usual, Svg, Usual, Usual, Formatting, Block, Usual, Usual, Usual, Usual, Usual, Usual, Usual, Usual,
-    Usual, Void, Usual, Usual, Usual, Usual, Svg, Usual, Usual, Usual, Usual, Usual, Usual, Heading, Heading, Heading,
-    Heading, Heading, Heading, Usual, Usual, Usual, Block, Usual, Usual, Block, Usual, Usual, Void, Usual, Usual, Usual,
-    Staying, Usual, Formatting, Usual, Raw, Svg, Usual, Usual, VoidPhrase, Usual, Void, Usual, Phrase, Usual, Usual,
+    Usual, Usual, Usual, Usual, Usual, Usual, Usual, Usual, Usual, Usual, Usual, Block, Block, Block, Usual, Usual,
+    Usual, Svg, Usual, Usual, Formatting, Block, Usual, Usual, Usual, Usual, Usual, Usual, Usual, Usual, Usual, Void,
+    Usual, Usual, Usual, Usual, Svg, Usual, Usual, Usual, Usual, Usual, Usual, Heading, Heading, Heading, Heading,
+    Heading, Heading, Usual, Usual, Head, Block, Usual, Usual, Block, Usual, Usual, VoidBlock, Usual, Usual, Usual,
+    Staying, Usual, Formatting, Usual, Raw, Svg, Usual, Usual, VoidPhrase, Usual, Input, Usual, Phrase, Usual, Usual,
     Usual, Usual, Usual, Usual, Usual, Usual, Usual, Phrase, Usual, Usual, Usual, Usual, Usual, Usual, Usual,
     VoidPhrase, Usual, Usual, Usual, Usual, Phrase, Usual, Usual, Usual, Usual, Usual, Usual, Item, Usual, Usual, Svg,
     Usual, Usual, Usual, Metadata, Usual, Preformatted, Usual, Usual, Usual, Usual, Usual, Usual, Block, Usual, Usual,

@@ -14,7 +14,7 @@ ghost use Rattle.html_faithful_judge.specs.Tokens.{IsNamed, token_of};
 ghost use Rattle.html_faithful_walk.specs.Steps.{ends_as, is_started, spot_if, started_by};
 
 use crate::checks::{Closing, is_kept_closed, is_kept_open, what_closes};
-use crate::common::{are_free, finish_common, start_common};
+use crate::common::{are_free, finish_common, finish_staying, start_common};
 use crate::names::{is_html, is_raw, is_void, stays_open};
 use crate::svg::{finish_svg, start_root, start_svg};
 use crate::tags::{end_tag, is_made, written_tag};
@@ -171,6 +171,9 @@ pub(crate) fn finish(made: &mut Made, alloc: Global, name: &QualName) -> Result<
         return Ok(true);
     }
     if finish_svg(made, name) {
+        return Ok(true);
+    }
+    if finish_staying(made, name) {
         return Ok(true);
     }
     finish_by_rows(made, alloc, name)

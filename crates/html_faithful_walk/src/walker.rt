@@ -7,6 +7,7 @@ ghost use Rattle.markup.specs.declared.fault.ParseFault.TheVariants.{Memory};
 ghost use Rattle.html_forest.specs.Views.{attributes};
 ghost use Rattle.html_faithful.specs.Walk.{first_spot, is_at_end, is_end_mode, is_faithful_forest};
 ghost use Rattle.html_faithful_judge.specs.Spots.{spot_of};
+ghost use Rattle.html_rules.specs.declared.rules.Rules.TheVariants.{Html5ever};
 ghost use Rattle.markup.specs.declared.quirks.QuirksMode.TheVariants.{Quirks};
 ghost use Rattle.html_faithful_walk.specs.First.{IsFirst, is_end};
 ghost use Rattle.html_faithful_walk.specs.Firsts.{IsPast, IsTagTaken, IsUpward, point_of};
@@ -223,7 +224,7 @@ fn unended(judge: &Judge<'_>, alloc: Global, document: NodeId) -> Result<Option<
 
 /// The spot where the root stands, if no doctype is before it.
 fn first_spot(alloc: Global, scripting: bool) -> Spot
-    ensures { spot_of result ≡ first_spot scripting Quirks }
+    ensures { spot_of result ≡ first_spot Html5ever scripting Quirks }
 {
     Spot {
         mode: InsertionMode::BeforeHtml,
