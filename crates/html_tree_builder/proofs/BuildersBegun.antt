@@ -7,9 +7,10 @@ use Rattle.markup.specs.Named.{HasContents, IsTree}
 use Rattle.markup.specs.Names.{html_namespace}
 use Rattle.markup.specs.declared.names.QualName.{QualName}
 use Rattle.markup.proofs.PutTexts.{element-IsNode}
-use Rattle.html_rules.specs.Documents.{Setting, before_document, before_fragment}
+use Rattle.html_rules.specs.Documents.{Setting, before_document, before_fragment, form_of_context}
 use Rattle.html_rules.specs.Names.{Html, MathMl, Svg, Other, element_name_of, mathml_namespace, namespace_of, svg_namespace}
 use Rattle.html_rules.specs.State.{State, hushed}
+use Rattle.html_rules.specs.declared.rules.Rules.{Rules}
 use Rattle.html_rules_laws.specs.Soundness.{IsOwn}
 use Rattle.html_rules_laws.specs.Usable.{Usable}
 use Rattle.html_rules_laws.proofs.Progress.UsableTokens.{states-usable}
@@ -39,14 +40,15 @@ own-namespace uri = by (bytes_eq uri html_namespace) (bytes_eq uri mathml_namesp
   by false false true e = tt
   by false false false e = e
 
-pub named-own : (n : ℕ) (o : Option QualName) → IsOwn (named_open n o).namespace
+pub named-own : (rules : Rules) (n : ℕ) (o : Option QualName) → IsOwn (named_open rules n o).namespace
 unfolding html_namespace
-named-own n None = refl
-named-own n (Some name) = own-namespace name.ns
+named-own rules n None = refl
+named-own rules n (Some name) = own-namespace name.ns
 
-some-node : (f : Forest) (n : ℕ) (o : Option QualName) → element_name (data_of f n) ≡ o → IsSome o → IsNode f (named_open n o).number
-some-node f n None e h = absurd (true≢false (sym h))
-some-node f n (Some name) e h = element-IsNode f n name e
+some-node : (rules : Rules) (f : Forest) (n : ℕ) (o : Option QualName) → element_name (data_of f n) ≡ o → IsSome o
+    → IsNode f (named_open rules n o).number
+some-node rules f n None e h = absurd (true≢false (sym h))
+some-node rules f n (Some name) e h = element-IsNode f n name e
 
 named-same : (f g : Forest) (o : Option ℕ) → g ≡ f
     → IfSome o (λ n. element_name (data_of f n) ≡ Some (element_name_of Html (codes "form")))
@@ -65,11 +67,15 @@ form-node f g o e h = form-there g o (named-same f g o e h)
 
 pub fragment-usable : (setting : Setting) (n : ℕ) (form : Option ℕ) (f g : Forest) (s : State) → g ≡ f → IsForest g
     → HasContents g → above_of f 0 ≡ None → IsSome (element_name (data_of f n))
-    → IfSome form (λ n. element_name (data_of f n) ≡ Some (element_name_of Html (codes "form")))
-    → s ≡ before_fragment setting (context_in g n) form g → Usable (hushed s)
+    → IfSome (form_of_context setting.opts.rules (context_in setting.opts.rules f n) form)
+    (λ n. element_name (data_of f n) ≡ Some (element_name_of Html (codes "form")))
+    → s ≡ before_fragment setting (context_in setting.opts.rules g n) form g → Usable (hushed s)
 fragment-usable setting n form f g s e forest contents top context named is =
     let at = topped f g e forest contents top in
     let there = subst (λ x. IsSome (element_name (data_of x n))) (sym e) context in
     subst (λ x. Usable (hushed x)) (sym is)
-    (states-usable.fragment setting (context_in g n) form g at.tree at.top
-    (named-own n (element_name (data_of g n))) (some-node g n (element_name (data_of g n)) refl there) (named-same f g form e named))
+    (states-usable.fragment setting (context_in setting.opts.rules g n) form g at.tree at.top
+    (named-own setting.opts.rules n (element_name (data_of g n)))
+    (some-node setting.opts.rules g n (element_name (data_of g n)) refl there)
+    (subst (λ x. IfSome (form_of_context setting.opts.rules (context_in setting.opts.rules x n) form)
+    (λ n. element_name (data_of x n) ≡ Some (element_name_of Html (codes "form")))) (sym e) named))

@@ -26,7 +26,7 @@ left_of {x = x} e = x
 
 -- the head that is opened again
 pub pushed-head : (a : Answers) (b : Building) (f : Forest) (n : ℕ) (x : Open) (stack : Stacked)
-    → b.head_elem ≡ Some n → x ≡ record { number = n; namespace = Html; name = codes "head" }
+    → b.head_elem ≡ Some n → x ≡ record { number = n; namespace = Html; name = codes "head"; rules = b.stack.rules }
     → stack ≡ record b.stack { open_elems = x ∷ b.stack.open_elems }
     → state_of a (record b { stack = stack }) f ≡ push_head_elem (state_of a b f)
 unfolding push_head_elem

@@ -5,7 +5,7 @@ use Rattle.markup.specs.Forest.{Forest, IsNode, above_of}
 use Rattle.markup.specs.Named.{IsTree}
 use Rattle.html_rules.specs.Actions.{push_template_mode}
 use Rattle.html_rules.specs.Choice.{choose}
-use Rattle.html_rules.specs.Documents.{Setting, before_document, before_fragment, modes_of_context}
+use Rattle.html_rules.specs.Documents.{Setting, before_document, before_fragment, modes_of_context, form_of_context}
 use Rattle.html_rules.specs.Places.{create_root}
 use Rattle.html_rules.specs.Reset.{reset_insertion_mode}
 use Rattle.html_rules.specs.State.{Answers, Open, State, is_in}
@@ -19,7 +19,7 @@ use Rattle.html_tree_builder.proofs.Acted.{stands-of}
 abbrev rootless : Setting → Open → Option ℕ → Forest → State
 rootless setting context form f = record (before_document setting f) {
   context_elem = Some context;
-  form_elem = form;
+  form_elem = form_of_context setting.opts.rules context form;
   template_modes = modes_of_context context;
 }
 
@@ -35,19 +35,25 @@ unfolding push_template_mode
 moded true context form setting f = refl
 moded false context form setting f = refl
 
-pub rootless-is : (setting : Setting) (context : Open) (form : Option ℕ) (f : Forest) (s t u : State)
+pub rootless-is : (setting : Setting) (context : Open) (form held : Option ℕ) (f : Forest) (s t u : State)
+    → held ≡ form_of_context setting.opts.rules context form
     → s ≡ before_document setting f → t ≡ with_mode_of context s → u ≡ record t {
       context_elem = Some context;
-      form_elem = form;
+      form_elem = held;
     } → u ≡ rootless setting context form f
-rootless-is setting context form f s t u is_s is_t is_u =
-    is_u ∙ ap (λ (x : State). record x { context_elem = Some context; form_elem = form })
-    (is_t ∙ ap (with_mode_of context) is_s) ∙ moded (is_in Template context) context form setting f
+rootless-is setting context form held f s t u is_held is_s is_t is_u =
+    is_u ∙ ap (λ (x : State). record x { context_elem = Some context; form_elem = held })
+    (is_t ∙ ap (with_mode_of context) is_s) ∙ moded (is_in Template context) context held setting f
+    ∙ ap (λ form. record (before_document setting f) {
+      context_elem = Some context;
+      form_elem = form;
+      template_modes = modes_of_context context;
+    }) is_held
 
 -- it stands, so that the root may be put
 pub rootless-stands : (a : Answers) (b : Building) (setting : Setting) (context : Open) (form : Option ℕ)
     (f : Forest) → state_of a b f ≡ rootless setting context form f → IsTree f → above_of f 0 ≡ None
-    → IsNode f context.number → IfSome form (IsNode f) → Stands f b
+    → IsNode f context.number → IfSome (form_of_context setting.opts.rules context form) (IsNode f) → Stands f b
 rootless-stands a b setting context form f e tree top at is =
     stands-of a b f (subst Grounded (sym e)
     (record {

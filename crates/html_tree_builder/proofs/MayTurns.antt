@@ -16,7 +16,7 @@ use Rattle.html_rules.specs.ForeignContent.{is_end_tag, is_start_tag}
 use Rattle.html_rules.specs.Modes.Foreign.{in_foreign_content}
 use Rattle.html_rules.specs.Names.{Html, MathMl, Svg, Other, element_name_of}
 use Rattle.html_rules.specs.Rules.{Turn, first_fit, fits, most_modes, rows, using_rules_for}
-use Rattle.html_rules.specs.Sets.{mathml_names_of, svg_names_of}
+use Rattle.html_rules.specs.Sets.{mathml_names_of, set_by, svg_names_of}
 use Rattle.html_rules.specs.Shape.{is_at_root}
 use Rattle.html_rules.specs.Stack.{parse_error}
 use Rattle.html_rules.specs.State.{State}
@@ -26,6 +26,8 @@ use Rattle.html_rules.specs.Table.{Acknowledged, Using, UsingThen, UsingCurrentM
 use Rattle.html_rules.specs.Tokens.{class_fits}
 use Rattle.html_rules.specs.declared.insertion_mode.InsertionMode.{InsertionMode}
 use Rattle.html_rules.specs.declared.insertion_mode.InsertionMode.TheVariants as mode
+use Rattle.html_rules.specs.declared.rules.Rules.{Rules}
+use Rattle.html_rules.specs.declared.tag_set.TagSet.{TagSet}
 use Rattle.html_rules.specs.declared.tag_set.TagSet.TheVariants as set
 use Rattle.html_rules_laws.specs.Soundness.{IsClear}
 use Rattle.html_rules_laws.specs.Upright.{MayCome, Upright, is_first, is_head_start}
@@ -44,13 +46,24 @@ abbrev is_nothing : List (List ℕ) → Bool
 is_nothing [] = true
 is_nothing (name ∷ names) = false
 
+-- sets of names that all rules share
+abbrev is_shared : TagSet → Bool
+is_shared set.Li = true
+is_shared set.DdDt = true
+is_shared names = false
+
+shared-same : (names : TagSet) → is_shared names ≡ true → (rules : Rules) → set_by rules names ≡ names
+shared-same set.Li h rules = refl
+shared-same set.DdDt h rules = refl
+shared-same names h rules = no h
+
 abbrev is_free : Action → Bool
 is_free (Then a b) = is_free a && is_free b
 is_free (When c a) = is_free a
 is_free PushHeadElem = false
 is_free InsertForeign = false
 is_free (EnterForeign (Other uri)) = false
-is_free (CloseItem names) = is_nothing (mathml_names_of names) && is_nothing (svg_names_of names)
+is_free (CloseItem names) = is_shared names && (is_nothing (mathml_names_of names) && is_nothing (svg_names_of names))
 is_free a = true
 
 nothing-is : (names : List (List ℕ)) → is_nothing names ≡ true → names ≡ []
@@ -67,8 +80,13 @@ free-act (EnterForeign Html) h t s = tt
 free-act (EnterForeign MathMl) h t s = tt
 free-act (EnterForeign Svg) h t s = tt
 free-act (CloseItem names) h t s =
-    let parts = and_parts (is_nothing (mathml_names_of names)) (is_nothing (svg_names_of names)) h in
-    record { no_mathml = nothing-is (mathml_names_of names) parts.0; no_svg = nothing-is (svg_names_of names) parts.1 }
+    let shared = and_parts (is_shared names) (is_nothing (mathml_names_of names) && is_nothing (svg_names_of names)) h in
+    let parts = and_parts (is_nothing (mathml_names_of names)) (is_nothing (svg_names_of names)) shared.1 in
+    record {
+      no_mathml = nothing-is (mathml_names_of names) parts.0;
+      no_svg = nothing-is (svg_names_of names) parts.1;
+      same = shared-same names shared.0;
+    }
 free-act a h t s = tt
 
 -- rows that may always be taken

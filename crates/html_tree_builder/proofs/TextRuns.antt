@@ -144,6 +144,7 @@ one-reopened tag s r h = record {
     number = node_count r.forest;
     namespace = Html;
     name = tag.name;
+    rules = r.opts.rules;
   }) r.open_elems refl (h.takes e);
   done = rw (eq-eqb (node_count r.forest) (node_count r.forest) refl) refl;
 }

@@ -13,6 +13,7 @@ use Rattle.html_rules.specs.State.{Answers, Open, Options, State, is_in}
 use Rattle.html_rules_laws.specs.Soundness.{IsStanding}
 use Rattle.html_rules.specs.declared.insertion_mode.InsertionMode.{InsertionMode}
 use Rattle.html_rules.specs.declared.insertion_mode.InsertionMode.TheVariants.{InTemplate}
+use Rattle.html_rules.specs.declared.rules.Rules.{Rules}
 use Rattle.html_rules.specs.declared.tag_set.TagSet.TheVariants.{Template}
 use Rattle.html_stack.specs.Stacks.{Stacked, open_of}
 use Rattle.html_stack.specs.declared.entries.OpenElement.{OpenElement}
@@ -31,6 +32,7 @@ options_of opts = record {
   scripting_enabled = opts.scripting_enabled;
   iframe_srcdoc = opts.iframe_srcdoc;
   drop_doctype = opts.drop_doctype;
+  rules = opts.rules;
 }
 
 -- how the rules are set up, where the sink answers so
@@ -78,17 +80,17 @@ state_of answers b f = record {
   quirks_mode = b.quirks_mode;
   context_elem = b.context_elem;
   has_ended = b.has_ended;
-  opts = b.opts;
+  opts = record b.opts { rules = b.stack.rules };
   answers = answers;
 }
 
 -- an element of a tree, as what a fragment is parsed in
-abbrev pub named_open : ℕ → Option QualName → Open
-named_open n None = record { number = n; namespace = Other []; name = [] }
-named_open n (Some name) = record { number = n; namespace = namespace_of name.ns; name = name.local }
+abbrev pub named_open : Rules → ℕ → Option QualName → Open
+named_open rules n None = record { number = n; namespace = Other []; name = []; rules = rules }
+named_open rules n (Some name) = record { number = n; namespace = namespace_of name.ns; name = name.local; rules = rules }
 
-abbrev pub context_in : Forest → ℕ → Open
-context_in f n = named_open n (element_name (data_of f n))
+abbrev pub context_in : Rules → Forest → ℕ → Open
+context_in rules f n = named_open rules n (element_name (data_of f n))
 
 -- a template that is a context has its template insertion mode
 abbrev pub with_mode_of : Open → State → State

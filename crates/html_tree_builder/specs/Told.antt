@@ -3,7 +3,7 @@ use Rattle.std.specs.Prelude.{◌≡◌, Bool, true, false, ◌&&◌}
 use Rattle.std.specs.Str.{chars}
 use Rattle.html_tokens.specs.declared.tags.TagKind.{TagKind}
 use Rattle.html_tokens.specs.declared.token.Token as tokens
-use Rattle.html_tokens.specs.declared.token.Token.TheVariants.{TagToken, CharacterTokens, NullCharacterToken, CommentToken, EOFToken}
+use Rattle.html_tokens.specs.declared.token.Token.TheVariants.{TagToken, DoctypeToken, CharacterTokens, NullCharacterToken, CommentToken, EOFToken}
 use Rattle.html_rules.specs.Names.{Html}
 use Rattle.html_rules.specs.Sets.{is_among, names_of}
 use Rattle.html_rules.specs.Tokens.{name_of}
@@ -13,7 +13,7 @@ use Rattle.html_rules.specs.declared.insertion_mode.InsertionMode.{InsertionMode
 use Rattle.html_rules.specs.declared.insertion_mode.InsertionMode.TheVariants.{Text}
 use Rattle.html_names.specs.Classes.{IsClassOf}
 use Rattle.html_tree_builder.specs.declared.told.Content.{Content}
-use Rattle.html_tree_builder.specs.declared.told.Content.TheVariants.{Tag, Characters, Null, Comment, EndOfFile}
+use Rattle.html_tree_builder.specs.declared.told.Content.TheVariants.{Tag, Characters, Null, Comment, Doctype, EndOfFile}
 use Rattle.html_tree_builder.specs.declared.told.NamedToken.{NamedToken}
 
 -- the token that is lent
@@ -22,6 +22,7 @@ token_of (Tag tag) = TagToken tag.now
 token_of (Characters text) = CharacterTokens (chars text.now)
 token_of Null = NullCharacterToken
 token_of (Comment text) = CommentToken text.now
+token_of (Doctype d) = DoctypeToken d.now
 token_of EndOfFile = EOFToken
 
 -- the name is the token's, and the class is of that name

@@ -3,7 +3,7 @@ ghost use Rattle.std.specs.Prelude.{◌≡◌, false, IfErr, IfOk, IfSome, IsSom
 ghost use Rattle.markup.specs.Forest.{above_of, data_of, element_name};
 ghost use Rattle.markup.specs.declared.fault.ParseFault.TheVariants.{Memory};
 ghost use Rattle.html_rules_laws.specs.Usable.{Usable};
-ghost use Rattle.html_rules.specs.Documents.{before_document, before_fragment, tokenizer_state};
+ghost use Rattle.html_rules.specs.Documents.{before_document, before_fragment, form_of_context, tokenizer_state};
 ghost use Rattle.html_stack.specs.Stacks.{open_of};
 ghost use Rattle.html_rules.specs.Names.{Html, element_name_of};
 ghost use Rattle.html_rules.specs.State.{hushed, is_fragment_by};
@@ -13,6 +13,7 @@ use crate::beginnings::tokenizer_state;
 use crate::construction::Construction;
 use crate::options::TreeBuilderOpts;
 use html_names::ElementName;
+use html_rules::Rules;
 use html_stack::OpenElement;
 use html_tokens::State;
 use markup::count::Count;
@@ -38,15 +39,16 @@ pub struct TreeBuilder<Sink: TreeSink> {
 /// The context of a fragment, with the name that its sink says it has.
 fn context_of<Sink: TreeSink>(
     alloc: Global,
+    rules: Rules,
     sink: &Sink,
     context: Sink::Handle,
 ) -> Result<OpenElement<Sink::Handle>, ParseFault>
     requires { IsSome (element_name (data_of (Sink.forest sink.now) (Sink.node context))) }
-    ensures ok { IfOk result (λ made. open_of Sink.node made ≡ context_in (Sink.forest sink.now) (Sink.node context)) }
+    ensures ok { IfOk result (λ made. open_of Sink.node made ≡ context_in rules (Sink.forest sink.now) (Sink.node context)) }
     ensures fault { IfErr result (λ fault. fault ≡ Memory) }
 {
     let name = sink.elem_name(&context);
-    let name = ElementName::new(alloc, &name.ns, &name.local)?;
+    let name = ElementName::new(alloc, rules, &name.ns, &name.local)?;
     Ok(OpenElement {
         handle: context,
         name,
@@ -87,12 +89,12 @@ impl<Sink: TreeSink> TreeBuilder<Sink> {
         Sink: Drop,
         requires top { above_of (Sink.forest sink) 0 ≡ None }
         requires context { IsSome (element_name (data_of (Sink.forest sink) (Sink.node context))) }
-        requires form { IfSome (number_if Sink.node form) (λ n. element_name (data_of (Sink.forest sink) n) ≡ Some
-            (element_name_of Html (codes "form"))) }
+        requires form { IfSome (form_of_context opts.rules (context_in opts.rules (Sink.forest sink) (Sink.node context))
+            (number_if Sink.node form)) (λ n. element_name (data_of (Sink.forest sink) n) ≡ Some (element_name_of Html (codes "form"))) }
         ensures begun { IfOk result
             (λ builder. built Sink.TreeSink builder.construction (Sink.forest builder.sink) ≡ before_fragment
             (setting_of (answers_of Sink.integration_point Sink.allows_shadow_roots Sink.attaches_shadow) opts)
-            (context_in (Sink.forest sink) (Sink.node context)) (number_if Sink.node form) (Sink.forest sink)) }
+            (context_in opts.rules (Sink.forest sink) (Sink.node context)) (number_if Sink.node form) (Sink.forest sink)) }
         ensures usable { IfOk result (λ builder. Usable (hushed (built Sink.TreeSink builder.construction (Sink.forest builder.sink)))) }
         ensures works { IfOk result (λ builder. builder.has_failed ≡ false) }
         ensures turns { IfOk result (λ builder. builder.turns.count ≡ 0) }
@@ -100,7 +102,7 @@ impl<Sink: TreeSink> TreeBuilder<Sink> {
     {
         let mut sink = sink;
         let _ = sink.get_document();
-        let context = context_of(alloc, &sink, context)?;
+        let context = context_of(alloc, opts.rules, &sink, context)?;
         let construction = Construction::for_fragment(alloc, &mut sink, context, form, opts)?;
         Ok(TreeBuilder {
             sink,

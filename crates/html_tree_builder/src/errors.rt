@@ -16,6 +16,7 @@ fn unexpected(told: &NamedToken<'_>) -> &'static str {
         Content::Characters(_) => "unexpected character",
         Content::Null => "unexpected-null-character",
         Content::Comment(_) => "unexpected comment",
+        Content::Doctype(_) => "unexpected doctype",
         Content::EndOfFile => "unexpected end of input",
     }
 }

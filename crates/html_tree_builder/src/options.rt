@@ -1,4 +1,5 @@
 //! How a tree builder is set up.
+use html_rules::Rules;
 use markup::QuirksMode;
 
 /// How a tree builder is set up.
@@ -14,11 +15,14 @@ pub struct TreeBuilderOpts {
     pub drop_doctype: bool,
     /// The quirks mode to begin with. `NoQuirks` by default.
     pub quirks_mode: QuirksMode,
+    /// Whose rules hold. html5ever's by default.
+    pub rules: Rules,
 }
 
 impl Default for TreeBuilderOpts {
     ghost use Rattle.std.specs.Prelude.{◌≡◌, true, false};
     ghost use Rattle.markup.specs.declared.quirks.QuirksMode.TheVariants.{NoQuirks};
+    ghost use Rattle.html_rules.specs.declared.rules.Rules.TheVariants.{Html5ever};
 
     ghost is_default = { λ opts. opts ≡ record {
       exact_errors = false;
@@ -26,6 +30,7 @@ impl Default for TreeBuilderOpts {
       iframe_srcdoc = false;
       drop_doctype = false;
       quirks_mode = NoQuirks;
+      rules = Html5ever;
     } };
 
     fn default() -> TreeBuilderOpts {
@@ -35,6 +40,7 @@ impl Default for TreeBuilderOpts {
             iframe_srcdoc: false,
             drop_doctype: false,
             quirks_mode: QuirksMode::NoQuirks,
+            rules: Rules::Html5ever,
         }
     }
 }

@@ -16,7 +16,7 @@ use crate::told::{Content, NamedToken};
 use html_modes::{
     Action, Class, Conclusion, Condition, Row, row_at, rows_before, rows_of_foreign_content,
 };
-use html_rules::InsertionMode;
+use html_rules::{InsertionMode, Rules};
 use markup::TreeSink;
 
 /// What a token takes that no row is for.
@@ -56,6 +56,7 @@ impl<Sink: TreeSink> Construction<Sink> {
             }
             Condition::ScriptingEnabled => self.opts.scripting_enabled,
             Condition::IframeSrcdoc => self.opts.iframe_srcdoc,
+            Condition::ByStandard => self.stack.rules() == Rules::Standard,
             Condition::InFragment => self.is_fragment(),
             Condition::ContextIs(set) => self.context_is(*set),
             Condition::InQuirksMode => self.is_quirks(),

@@ -11,7 +11,7 @@ ghost use Rattle.html_tokens.specs.declared.token.Token.TheVariants.{CharacterTo
 ghost use Rattle.html_rules.specs.Rules.{settle};
 ghost use Rattle.html_rules.specs.State.{Answers};
 ghost use Rattle.html_rules.specs.Stack.{parse_error};
-ghost use Rattle.html_rules.specs.Step.{doctype_taken, first_doctype_taken, if_kept, text_taken, untouched};
+ghost use Rattle.html_rules.specs.Step.{ends_table_text, doctype_taken, first_doctype_taken, if_kept, text_taken, untouched};
 ghost use Rattle.html_rules.specs.Tokens.{name_of};
 ghost use Rattle.html_tree_builder.specs.States.{Stands, built, state_of, Performs};
 ghost use Rattle.html_tree_builder.specs.Told.{IsTold, token_of};
@@ -22,7 +22,7 @@ use crate::errors;
 use crate::texts::{after_line_feed, split_first};
 use crate::told::{Content, NamedToken};
 use html_names::{ElementClass, doctype_error_and_quirks};
-use html_rules::InsertionMode;
+use html_rules::{InsertionMode, Rules};
 use html_tokens::{Doctype, Tag, Token, TokenSinkResult};
 use markup::count::Count;
 use markup::{LocalName, ParseFault, Text, TreeSink};
@@ -198,13 +198,27 @@ impl<Sink: TreeSink> Construction<Sink> {
         Ok(())
     }
 
+    /// Whether a doctype puts the pending table character tokens into the tree, as it does by the Standard.
+    fn ends_table_text(&self) -> bool
+        ensures { result ≡ ends_table_text self.now.stack.rules self.now.mode }
+    {
+        match (self.stack.rules(), self.mode) {
+            (Rules::Standard, InsertionMode::InTableText) => true,
+            _ => false,
+        }
+    }
+
     /// Takes a doctype where one belongs.
     fn process_first_doctype(&mut self, sink: &mut Sink, doctype: Doctype) -> Result<(), ParseFault>
         requires stands { Stands (Sink.forest sink.old) self.old }
         ensures ok { OnOk result (Performs (first_doctype_taken doctype) self.old self.new (Sink.forest sink.old) (Sink.forest sink.new)) }
         ensures fault { IfErr result (λ fault. fault ≡ Memory) }
     {
-        let (is_error, quirks) = doctype_error_and_quirks(&doctype, self.opts.iframe_srcdoc);
+        let (is_error, quirks) = doctype_error_and_quirks(
+            self.stack.rules(),
+            &doctype,
+            self.opts.iframe_srcdoc,
+        );
         self.report_doctype(sink, is_error);
         self.append_doctype(sink, doctype)?;
         self.set_quirks_mode(sink, quirks);
@@ -323,6 +337,9 @@ impl<Sink: TreeSink> Construction<Sink> {
                 Ok(TokenSinkResult::Continue)
             }
             Token::DoctypeToken(doctype) => {
+                if self.ends_table_text() {
+                    return self.process_nameless(sink, Content::Doctype(doctype), turns);
+                }
                 self.set_ignore_lf(false);
                 self.process_doctype(sink, doctype)?;
                 Ok(TokenSinkResult::Continue)

@@ -9,7 +9,7 @@ ghost use Rattle.std.specs.Str.{chars};
 use html_modes::Class;
 use html_names::ElementClass;
 use html_rules::TagSet;
-use html_tokens::{Tag, TagKind};
+use html_tokens::{Doctype, Tag, TagKind};
 use markup::{Attributes, LocalName, ParseFault, Text};
 use std::alloc::Global;
 
@@ -24,6 +24,8 @@ pub(crate) enum Content<'a> {
     Null,
     /// A comment.
     Comment(&'a Text),
+    /// A doctype that ends text in a table.
+    Doctype(&'a Doctype),
     /// The end of the input.
     EndOfFile,
 }
@@ -57,6 +59,7 @@ impl<'a> NamedToken<'a> {
             Content::Comment(text) => text.as_str(),
             Content::Tag(_) => "",
             Content::Null => "",
+            Content::Doctype(_) => "",
             Content::EndOfFile => "",
         }
     }

@@ -43,6 +43,7 @@ impl<'a> NamedToken<'a> {
             Content::Characters(_) => TokenShape::Text,
             Content::Null => TokenShape::Text,
             Content::Comment(_) => TokenShape::Other,
+            Content::Doctype(_) => TokenShape::Other,
             Content::EndOfFile => TokenShape::EndOfFile,
         }
     }
@@ -143,7 +144,7 @@ impl<Sink: TreeSink> Construction<Sink> {
     #[tactic(auto, unfolding(html_rules::specs::ForeignContent::pop_foreign, html_rules::specs::Stack::pop_until_current))]
     pub(crate) fn pop_foreign(&mut self, sink: &mut Sink)
         requires stands { Stands (Sink.forest sink.old) self.old }
-        ensures { Performs pop_foreign self.old self.new (Sink.forest sink.old) (Sink.forest sink.new) }
+        ensures { built Sink.TreeSink self.new (Sink.forest sink.new) ≡ pop_foreign (built Sink.TreeSink self.old (Sink.forest sink.old)) }
     {
         self.stack.pop_foreign(sink);
     }

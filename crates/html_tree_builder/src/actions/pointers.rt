@@ -102,12 +102,12 @@ impl<Sink: TreeSink> Construction<Sink> {
     /// The name of a head.
     #[tactic(auto, unfolding(markup::specs::Namespaces::name_of, markup::specs::Names::html_namespace, html_rules::specs::Names::mathml_namespace, html_rules::specs::Names::svg_namespace))]
     fn head_name(&self) -> Result<ElementName, ParseFault>
-        ensures ok { IfOk result (λ name. name ≡ record { namespace = Html; name = codes "head" }) }
+        ensures ok { IfOk result (λ name. name ≡ record { namespace = Html; name = codes "head"; rules = self.now.stack.rules }) }
         ensures fault { IfErr result (λ fault. fault ≡ Memory) }
     {
         let name = Implied::Head.local_name(self.alloc)?;
         let namespace = Namespace::from_known(KnownNamespace::Html);
-        ElementName::new(self.alloc, &namespace, &name)
+        ElementName::new(self.alloc, self.stack.rules(), &namespace, &name)
     }
 
     /// The element of the head element pointer is opened.

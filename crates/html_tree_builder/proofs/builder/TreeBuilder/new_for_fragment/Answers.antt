@@ -1,7 +1,9 @@
-use Rattle.std.proofs.Common.{◌∙◌, ap, subst, sym}
-use Rattle.std.specs.Prelude.{IsSome}
+use Rattle.std.proofs.Common.{◌≡◌, ◌∙◌, Some, ap, codes, refl, subst, sym}
+use Rattle.std.specs.Prelude.{IfSome, IsSome}
 use Rattle.markup.specs.Forest.{above_of, data_of, element_name}
-use Rattle.html_rules.specs.Documents.{before_fragment}
+use Rattle.html_rules.specs.Documents.{before_fragment, form_of_context}
+use Rattle.html_rules.specs.Names.{Html, element_name_of}
+use Rattle.html_stack.specs.Stacks.{open_of}
 use Rattle.html_tree_builder.specs.States.{built, context_in, number_if, setting_of}
 use Rattle.html_tree_builder.proofs.Acted.{its_answers}
 use Rattle.html_tree_builder.proofs.BuildersBegun.{form-node, fragment-usable}
@@ -9,8 +11,15 @@ use Rattle.html_tree_builder.proofs.builder.TreeBuilder.new_for_fragment.Goals a
 
 pub for_fragment-requires-clause-form : goal.for_fragment-requires-clause-form
 for_fragment-requires-clause-form g c =
-    form-node (g.Sink.TreeSink.forest c.args.sink) (g.Sink.TreeSink.forest c.get_document.new.self)
-    (number_if g.Sink.TreeSink.node c.args.form) c.get_document.ensures.same c.requires.form
+    let rules = c.args.opts.rules in
+    let n = g.Sink.TreeSink.node c.args.context in
+    let form = number_if g.Sink.TreeSink.node c.args.form in
+    let f = g.Sink.TreeSink.forest c.get_document.new.self in
+    form-node f f (form_of_context rules (open_of g.Sink.TreeSink.node c.in_ok-context.context) form) refl
+    (subst (λ context. IfSome (form_of_context rules context form)
+    (λ n. element_name (data_of f n) ≡ Some (element_name_of Html (codes "form")))) (sym c.in_ok-context.ensures.ok)
+    (subst (λ x. IfSome (form_of_context rules (context_in rules x n) form)
+    (λ n. element_name (data_of x n) ≡ Some (element_name_of Html (codes "form")))) (sym c.get_document.ensures.same) c.requires.form))
 
 pub returns-clause-begun : goal.returns-clause-begun
 returns-clause-begun g c =
@@ -21,7 +30,7 @@ returns-clause-begun g c =
     let f = g.Sink.TreeSink.forest c.get_document.new.self in
     c.in_ok-construction.ensures.ok a
     ∙ ap (λ context. before_fragment setting context form f) c.in_ok-context.ensures.ok
-    ∙ ap (λ x. before_fragment setting (context_in x n) form x) c.get_document.ensures.same
+    ∙ ap (λ x. before_fragment setting (context_in c.args.opts.rules x n) form x) c.get_document.ensures.same
 
 pub returns-clause-usable : goal.returns-clause-usable
 returns-clause-usable g c =

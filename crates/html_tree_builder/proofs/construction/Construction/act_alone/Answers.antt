@@ -150,7 +150,7 @@ pub returns-in-SetQuirks-clause-ok : goal.returns-in-SetQuirks-clause-ok
 returns-in-SetQuirks-clause-ok g c = acted-as _ _ _ _ _ c.in-SetQuirks.is (c.set_quirks_mode.ensures (its_answers g.Sink.TreeSink))
 
 pub returns-in-PopForeign-clause-ok : goal.returns-in-PopForeign-clause-ok
-returns-in-PopForeign-clause-ok g c = acted-as _ _ _ _ _ c.in-PopForeign.is (c.pop_foreign.ensures (its_answers g.Sink.TreeSink))
+returns-in-PopForeign-clause-ok g c = acted-as _ _ _ _ _ c.in-PopForeign.is c.pop_foreign.ensures
 
 pub returns-in-PopUntil-clause-ok : goal.returns-in-PopUntil-clause-ok
 returns-in-PopUntil-clause-ok g c = acted-as _ _ _ _ _ c.in-PopUntil.is

@@ -10,9 +10,10 @@ create_new_root-requires g c =
     let context = open_of g.Sink.TreeSink.node c.args.context in
     let form = number_if g.Sink.TreeSink.node c.args.form in
     let setting = setting_of no_answers c.args.opts in
-    let is = rootless-is setting context form f (state_of no_answers c.new-made.result f)
+    let held = number_if g.Sink.TreeSink.node c.form_of_context-form.result in
+    let is = rootless-is setting context form held f (state_of no_answers c.new-made.result f)
     (state_of no_answers c.push_mode_of_context.new.self f) (state_of no_answers c.set_context.new.self f)
-    (c.new-made.ensures no_answers f)
+    (c.form_of_context-form.ensures g.Sink.TreeSink.node) (c.new-made.ensures no_answers f)
     (c.in_ok-push_mode_of_context.ensures.ok no_answers f (g.Sink.TreeSink.node c.args.context.handle))
     (c.set_context.ensures no_answers f) in
     record {
@@ -28,8 +29,9 @@ returns-clause-ok g c a =
     let form = number_if g.Sink.TreeSink.node c.args.form in
     let setting = setting_of a c.args.opts in
     let u = state_of a c.set_context.new.self f in
-    let is = rootless-is setting context form f (state_of a c.new-made.result f) (state_of a c.push_mode_of_context.new.self f) u
-    (c.new-made.ensures a f) (c.in_ok-push_mode_of_context.ensures.ok a f
+    let held = number_if g.Sink.TreeSink.node c.form_of_context-form.result in
+    let is = rootless-is setting context form held f (state_of a c.new-made.result f) (state_of a c.push_mode_of_context.new.self f) u
+    (c.form_of_context-form.ensures g.Sink.TreeSink.node) (c.new-made.ensures a f) (c.in_ok-push_mode_of_context.ensures.ok a f
     (g.Sink.TreeSink.node c.args.context.handle)) (c.set_context.ensures a f) in
     fragment-begun setting context form f u (state_of a c.create_new_root.new.self r)
     (state_of a c.reset_mode.new.self r) is (c.in_ok-create_new_root.ensures.ok a) (c.reset_mode.ensures a r)

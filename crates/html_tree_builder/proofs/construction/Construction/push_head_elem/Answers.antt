@@ -14,11 +14,13 @@ returns-clause-ok g c = λ a f.
       number = node c.in-Some.handle;
       namespace = c.in_ok-name.name.namespace;
       name = c.in_ok-name.name.name;
+      rules = c.in_ok-name.name.rules;
     }) c.push.new.self
     (ap (number_if node) c.in-Some.is)
-    (ap {A = Named} {B = Open} (λ named. record {
+    (rw (← c.self.view_is) at (ap {A = Named} {B = Open} (λ named. record {
       number = node c.in-Some.handle;
       namespace = named.namespace;
       name = named.name;
-    }) c.in_ok-name.ensures.ok)
+      rules = named.rules;
+    }) c.in_ok-name.ensures.ok))
     c.in_ok-push.ensures.ok)

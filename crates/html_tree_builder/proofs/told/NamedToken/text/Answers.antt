@@ -10,3 +10,6 @@ returns-in-Null c = rw c.in-Null.is (chars-plain (codes "") refl)
 
 pub returns-in-EndOfFile : goal.returns-in-EndOfFile
 returns-in-EndOfFile c = rw c.in-EndOfFile.is (chars-plain (codes "") refl)
+
+pub returns-in-Doctype : goal.returns-in-Doctype
+returns-in-Doctype c = rw c.in-Doctype.is (chars-plain (codes "") refl)
