@@ -13,6 +13,7 @@ use Rattle.html_rules.specs.ForeignContent.{asks_cdata}
 use Rattle.html_rules.specs.Names.{flags_of, namespace_of}
 use Rattle.html_rules.specs.State.{Open, State, hushed}
 use Rattle.html_rules.specs.Step.{ended, is_quiet, step}
+use Rattle.html_rules.specs.declared.rules.Rules.{Rules}
 use Rattle.html_tokens.specs.Table.{Row}
 use Rattle.html_tokens.specs.declared.options.TokenizerOpts.{TokenizerOpts}
 use Rattle.html_tokens.specs.declared.sink.TokenSink.{Ghosts}
@@ -85,14 +86,14 @@ pub record Begins {K H O : Type 0} (Sink : TreeGhosts K H O) (begin : Beginning 
   pub starts : Starts Sink begin has_failed k input
   pub taken : IsTaken (builder Sink) begin
 
+-- a new element of that name, as what a fragment is parsed in
+abbrev pub new_context : Rules → QualName → Forest → Open
+new_context rules name f = record { number = node_count f; namespace = namespace_of name.ns; name = name.local; rules = rules }
+
 -- before the text of a fragment in a new element
 abbrev pub of_new_context : List Row → TokenizerOpts → Setting → QualName → List Attribute → Bool → Forest → Beginning State
 of_new_context table opts setting name attributes scripting f =
-    of_fragment table opts setting (record {
-      number = node_count f;
-      namespace = namespace_of name.ns;
-      name = name.local;
-    }) None scripting
+    of_fragment table opts setting (new_context setting.opts.rules name f) None scripting
     (create_element f name attributes (flags_of (namespace_of name.ns) name.local attributes false))
 
 -- An error was told: it is counted, and all else stands. What was read still was, after one error more, and what could be called still

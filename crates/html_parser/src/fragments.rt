@@ -4,7 +4,8 @@ ghost use Rattle.markup.specs.Forest.{above_of, data_of, element_name};
 ghost use Rattle.markup.specs.declared.fault.ParseFault.TheVariants.{Memory};
 ghost use Rattle.html_rules.specs.Names.{Html, element_name_of};
 ghost use Rattle.html_tree_builder.specs.States.{answers_of, context_in, number_if, setting_of};
-ghost use Rattle.html_parser.specs.Documents.{Begins, of_fragment, of_new_context};
+ghost use Rattle.html_parser.specs.Documents.{Begins, new_context, of_fragment, of_new_context};
+ghost use Rattle.html_rules.specs.Documents.{form_of_context};
 
 use crate::documents::over;
 use crate::options::ParseOpts;
@@ -32,13 +33,14 @@ pub fn parse_fragment_for_element<Sink: TreeSink + Drop>(
 ) -> Result<Parser<Sink>, ParseFault>
     requires top { above_of (Sink.forest sink) 0 ≡ None }
     requires context { IsSome (element_name (data_of (Sink.forest sink) (Sink.node context))) }
-    requires form { IfSome (number_if Sink.node form) (λ n. element_name (data_of (Sink.forest sink) n) ≡ Some
-        (element_name_of Html (codes "form"))) }
+    requires form { IfSome (form_of_context opts.tree_builder.rules
+        (context_in opts.tree_builder.rules (Sink.forest sink) (Sink.node context)) (number_if Sink.node form))
+        (λ n. element_name (data_of (Sink.forest sink) n) ≡ Some (element_name_of Html (codes "form"))) }
     ensures begins { IfOk result
         (λ parser. Begins Sink.TreeSink
         (of_fragment table opts.tokenizer
         (setting_of (answers_of Sink.integration_point Sink.allows_shadow_roots Sink.attaches_shadow)
-        opts.tree_builder) (context_in (Sink.forest sink) (Sink.node context)) (number_if Sink.node form)
+        opts.tree_builder) (context_in opts.tree_builder.rules (Sink.forest sink) (Sink.node context)) (number_if Sink.node form)
         scripting (Sink.forest sink)) parser.has_failed parser.tokenizer parser.input_buffer) }
     ensures fault { IfErr result (λ fault. fault ≡ Memory) }
 {
@@ -55,7 +57,7 @@ pub fn parse_fragment_for_element<Sink: TreeSink + Drop>(
 }
 
 /// A parser of what stands in a new element, the context, which is made in the sink and stands in no form; all else as for
-/// [`parse_fragment_for_element`].
+/// [`parse_fragment_for_element`]. By the Standard's rules a context that is HTML's `form` has no prefix.
 ///
 /// Errors: [`ParseFault::Memory`]; the sink is then dropped.
 pub fn parse_fragment<Sink: TreeSink + Drop>(
@@ -68,6 +70,9 @@ pub fn parse_fragment<Sink: TreeSink + Drop>(
     table: References,
 ) -> Result<Parser<Sink>, ParseFault>
     requires top { above_of (Sink.forest sink) 0 ≡ None }
+    requires form { IfSome (form_of_context opts.tree_builder.rules
+        (new_context opts.tree_builder.rules context_name (Sink.forest sink)) None)
+        (λ n. context_name ≡ element_name_of Html (codes "form")) }
     ensures begins { IfOk result
         (λ parser. Begins Sink.TreeSink
         (of_new_context table opts.tokenizer

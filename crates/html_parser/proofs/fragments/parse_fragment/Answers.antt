@@ -3,7 +3,7 @@ use Rattle.std.specs.Prelude.{IfOk, IsSome}
 use Rattle.markup.specs.Forest.{above_of, create_element, data_of, element_name}
 use Rattle.html_tree_builder.specs.States.{answers_of, setting_of}
 use Rattle.html_parser.specs.Documents.{Begins}
-use Rattle.html_parser.proofs.FragmentsBegun.{flags_by, new-beginning, new-context, new-top}
+use Rattle.html_parser.proofs.FragmentsBegun.{flags_by, new-beginning, new-context, new-form, new-top}
 use Rattle.html_parser.proofs.fragments.parse_fragment.Goals as goal
 
 pub parse_fragment_for_element-requires-clause-top : goal.parse_fragment_for_element-requires-clause-top
@@ -34,3 +34,10 @@ returns-clause-begins g c =
     c.get_document.ensures.same c.get_document.ensures.is_forest c.in_ok-context.ensures.named c.in_ok-context.ensures.ok in
     subst (λ b. IfOk c.parse_fragment_for_element.result
     (λ parser. Begins sink b parser.has_failed parser.tokenizer parser.input_buffer)) same c.parse_fragment_for_element.ensures.begins
+
+pub parse_fragment_for_element-requires-clause-form : goal.parse_fragment_for_element-requires-clause-form
+parse_fragment_for_element-requires-clause-form g c =
+    let sink = g.Sink.TreeSink in
+    new-form c.args.opts.tree_builder.rules c.args.context_name c.args.context_attrs (sink.forest c.args.sink)
+    (sink.forest c.get_document.new.self) _ _ c.get_document.ensures.same c.get_document.ensures.is_forest
+    c.in_ok-context.ensures.named c.in_ok-context.ensures.ok c.requires.form

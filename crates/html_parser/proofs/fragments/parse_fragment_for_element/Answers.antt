@@ -3,7 +3,7 @@ use Rattle.std.specs.Prelude.{IfSome, IsSome, codes}
 use Rattle.markup.specs.Forest.{above_of, data_of, element_name}
 use Rattle.markup.specs.Named.{IsTree}
 use Rattle.html_tokens.specs.TextState.{is_text_state}
-use Rattle.html_rules.specs.Documents.{tokenizer_state}
+use Rattle.html_rules.specs.Documents.{form_of_context, tokenizer_state}
 use Rattle.html_rules.specs.Names.{Html, element_name_of}
 use Rattle.html_tree_builder.specs.States.{answers_of, context_in, number_if, setting_of}
 use Rattle.html_parser.proofs.FragmentsBegun.{begun-context, fragment-begins, of-context, state-text}
@@ -19,7 +19,8 @@ new_for_fragment-requires-clause-context g c =
 
 pub new_for_fragment-requires-clause-form : goal.new_for_fragment-requires-clause-form
 new_for_fragment-requires-clause-form g c =
-    subst (λ f. IfSome (number_if g.Sink.TreeSink.node c.args.form)
+    subst (λ f. IfSome (form_of_context c.args.opts.tree_builder.rules
+    (context_in c.args.opts.tree_builder.rules f (g.Sink.TreeSink.node c.args.context)) (number_if g.Sink.TreeSink.node c.args.form))
     (λ n. element_name (data_of f n) ≡ Some (element_name_of Html (codes "form")))) (sym c.get_document.ensures.same) c.requires.form
 
 pub tokenizer_state_for_context_elem-state-requires : goal.tokenizer_state_for_context_elem-state-requires
@@ -27,7 +28,8 @@ tokenizer_state_for_context_elem-state-requires g c =
     let sink = g.Sink.TreeSink in
     let setting = setting_of (answers_of sink.integration_point sink.allows_shadow_roots sink.attaches_shadow) c.args.opts.tree_builder in
     let f = sink.forest c.get_document.new.self in
-    let e = begun-context setting (context_in f (sink.node c.args.context)) (number_if sink.node c.args.form) f _
+    let e = begun-context setting (context_in c.args.opts.tree_builder.rules f (sink.node c.args.context))
+    (number_if sink.node c.args.form) f _
     c.in_ok-builder.ensures.begun in
     subst (λ o. IsSome o) (sym e) refl
 
@@ -36,7 +38,7 @@ over-requires-clause-text g c =
     let sink = g.Sink.TreeSink in
     let setting = setting_of (answers_of sink.integration_point sink.allows_shadow_roots sink.attaches_shadow) c.args.opts.tree_builder in
     let f = sink.forest c.get_document.new.self in
-    let context = context_in f (sink.node c.args.context) in
+    let context = context_in c.args.opts.tree_builder.rules f (sink.node c.args.context) in
     let e = begun-context setting context (number_if sink.node c.args.form) f _ c.in_ok-builder.ensures.begun in
     let is = of-context _ context (λ x. c.tokenizer_state_for_context_elem-state.result ≡ tokenizer_state x
     c.args.scripting) e c.tokenizer_state_for_context_elem-state.ensures in
@@ -47,7 +49,7 @@ returns-clause-begins g c =
     let sink = g.Sink.TreeSink in
     let setting = setting_of (answers_of sink.integration_point sink.allows_shadow_roots sink.attaches_shadow) c.args.opts.tree_builder in
     let f = sink.forest c.get_document.new.self in
-    let context = context_in f (sink.node c.args.context) in
+    let context = context_in c.args.opts.tree_builder.rules f (sink.node c.args.context) in
     let e = begun-context setting context (number_if sink.node c.args.form) f _ c.in_ok-builder.ensures.begun in
     let is = of-context _ context (λ x. c.tokenizer_state_for_context_elem-state.result ≡ tokenizer_state x
     c.args.scripting) e c.tokenizer_state_for_context_elem-state.ensures in
