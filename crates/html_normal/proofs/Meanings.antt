@@ -31,10 +31,13 @@ use Rattle.html_tokens.specs.Table.{Row}
 use Rattle.html_tokens.specs.declared.options.TokenizerOpts.{TokenizerOpts}
 use Rattle.html_tokens.specs.declared.sink.TokenSink.{Ghosts}
 use Rattle.html_tokenizer.specs.declared.tokenizer.Tokenizer.{Tokenizer}
-use Rattle.html_normal.specs.Document.{CountsErrors, default_opts, default_setting, document_bytes, faults_of}
-use Rattle.html_normal.specs.Document.{is_free_of_emitted, is_quiet_document, emitted_characters}
+use Rattle.html_rules.specs.declared.rules.Rules.{Rules}
+use Rattle.html_rules.specs.declared.rules.Rules.TheVariants.{Html5ever}
+use Rattle.html_normal.specs.Document.{CountsErrorsBy, default_opts, document_bytes, emitted_characters, faults_by}
+use Rattle.html_normal.specs.Document.{is_free_of_emitted, is_quiet_by, setting_by}
 use Rattle.html_normal.specs.Faults.{fault_of, write_fault_of}
-use Rattle.html_normal.specs.Normal.{CountsReads, IsBegun, IsFailed, IsInputFault, IsNormalised, IsRead, is_write_fault}
+use Rattle.html_normal.specs.Normal.{CountsReads, IsBegunBy, IsFailedBy, IsInputFault, IsNormalised, IsNormalisedBy, IsReadBy}
+use Rattle.html_normal.specs.Normal.{is_write_fault}
 use Rattle.html_normal.specs.declared.fault.NormalFault.{NormalFault}
 use Rattle.html_normal.specs.declared.fault.NormalFault.TheVariants.{NotUtf8, Read, Write, Memory, Refused}
 use Rattle.html_normal.specs.declared.report.Report.{Report}
@@ -97,40 +100,41 @@ from-none : (m errors : ℕ) → min (0 + m) 0xffff_ffff_ffff_ffff ≤ errors �
 from-none m errors h = omega arith
 
 -- the errors of a forest that was built count what its text owes
-built-counts : {K H : Type 0} (Sink : TreeGhosts K H Forest) (table : List Row) (exact : Bool) (text : List ℕ)
+built-counts : {K H : Type 0} (Sink : TreeGhosts K H Forest) (rules : Rules) (table : List Row) (exact : Bool) (text : List ℕ)
     (errors : ℕ) → RisesTo (owed_by (builder Sink)
-    (of_document table (opts_with exact) default_setting empty_forest) text) 0 errors → CountsErrors table exact text errors
-built-counts Sink table exact text errors r = record {
-  enough = from-none (faults_of table text + emitted_characters exact text) errors r.enough;
-  none = λ quiet free. r.stays (and_from (is_quiet_document table text) (is_free_of_emitted exact text) quiet free);
+    (of_document table (opts_with exact) (setting_by rules) empty_forest) text) 0 errors → CountsErrorsBy rules table exact text errors
+built-counts Sink rules table exact text errors r = record {
+  enough = from-none (faults_by rules table text + emitted_characters exact text) errors r.enough;
+  none = λ quiet free. r.stays (and_from (is_quiet_by rules table text) (is_free_of_emitted exact text) quiet free);
 }
 
 module _ {K H : Type 0} (Sink : TreeGhosts K H Forest) where
   -- how a document begins does not depend on how the parts of its beginning are named
-  built-same : (table : List Row) (exact : Bool) (opts : TokenizerOpts) (setting : Setting) (f : Forest)
-      (text waits : List ℕ) (out : Forest) → opts ≡ opts_with exact → setting ≡ default_setting → f ≡ empty_forest → waits ≡ []
+  built-same : (rules : Rules) (table : List Row) (exact : Bool) (opts : TokenizerOpts) (setting : Setting) (f : Forest)
+      (text waits : List ℕ) (out : Forest) → opts ≡ opts_with exact → setting ≡ setting_by rules → f ≡ empty_forest → waits ≡ []
       → IsBuilt Sink (of_document table opts setting f) (text ++ waits) out
-      → IsBuilt Sink (of_document table (opts_with exact) default_setting empty_forest) text out
-  built-same table exact opts setting f text waits out opts_is setting_is forest_is none built =
-      subst (λ (g : Forest). IsBuilt Sink (of_document table (opts_with exact) default_setting g) text out) forest_is
+      → IsBuilt Sink (of_document table (opts_with exact) (setting_by rules) empty_forest) text out
+  built-same rules table exact opts setting f text waits out opts_is setting_is forest_is none built =
+      subst (λ (g : Forest). IsBuilt Sink (of_document table (opts_with exact) (setting_by rules) g) text out) forest_is
       (subst (λ (s : Setting). IsBuilt Sink (of_document table (opts_with exact) s f) text out) setting_is
       (subst (λ (o : TokenizerOpts). IsBuilt Sink (of_document table o setting f) text out) opts_is
       (subst (λ (cs : List ℕ). IsBuilt Sink (of_document table opts setting f) cs out) (append-nil text)
       (subst (λ (cs : List ℕ). IsBuilt Sink (of_document table opts setting f) (text ++ cs) out) none built))))
 
   -- what was built of all that a reader had is its document
-  pub document-made : (table : List Row) (exact : Bool) (opts : TokenizerOpts) (setting : Setting) (f : Forest)
+  pub document-made : (rules : Rules) (table : List Row) (exact : Bool) (opts : TokenizerOpts) (setting : Setting) (f : Forest)
       (old new : Option (List ℕ)) (bytes waits : List ℕ) (out : Forest)
       → ((sink : K) → Sink.finish_gives sink out → out ≡ Sink.forest sink) → opts ≡ opts_with exact
-      → setting ≡ default_setting → f ≡ empty_forest → waits ≡ []
+      → setting ≡ setting_by rules → f ≡ empty_forest → waits ≡ []
       → IsUtf8 bytes → old ≡ prepend_known bytes new → IsAtEnd new
       → IsBuilt Sink (of_document table opts setting f) (chars bytes ++ waits) out
-      → (whole : List ℕ) → old ≡ Some whole → IsRead table exact whole new (with_errors 0 out) out.errors
-  document-made table exact opts setting f old new bytes waits out gives opts_is setting_is forest_is none text moved end built whole told =
+      → (whole : List ℕ) → old ≡ Some whole → IsReadBy rules table exact whole new (with_errors 0 out) out.errors
+  document-made rules table exact opts setting f old new bytes waits out gives opts_is setting_is forest_is none text moved end built
+      whole told =
       let every = all-read old new bytes whole moved end told in
-      let made = built-same table exact opts setting f (chars bytes) waits out opts_is setting_is forest_is none built in
+      let made = built-same rules table exact opts setting f (chars bytes) waits out opts_is setting_is forest_is none built in
       let of_all = subst (λ (bs : List ℕ). IsBuilt Sink
-      (of_document table (opts_with exact) default_setting empty_forest) (chars bs) out) every.same made in
+      (of_document table (opts_with exact) (setting_by rules) empty_forest) (chars bs) out) every.same made in
       let is = gives of_all.sink of_all.gives in
       record {
         input = record {
@@ -140,9 +144,9 @@ module _ {K H : Type 0} (Sink : TreeGhosts K H Forest) where
           tree = ap (with_errors 0) is ∙ of_all.same;
         };
         taken = every.taken;
-        counts = built-counts Sink table exact (chars whole) out.errors
+        counts = built-counts Sink rules table exact (chars whole) out.errors
             (subst (λ (g : Forest). RisesTo
-            (owed_by (builder Sink) (of_document table (opts_with exact) default_setting empty_forest)
+            (owed_by (builder Sink) (of_document table (opts_with exact) (setting_by rules) empty_forest)
             (chars whole)) 0 g.errors) (sym is) of_all.rises);
       }
 
@@ -175,27 +179,26 @@ module _ (opts : SerializeOpts) (f g : Forest) (id : ℕ)
       ∙ bytes-walked f top ∙ ap document_bytes forest_is ∙ sym (bytes-same 0 g)
 
   -- the document was written, and the report is of it
-  pub normalised : (table : List Row) (exact : Bool) (whole : List ℕ) (left : Option (List ℕ))
+  pub normalised : (rules : Rules) (table : List Row) (exact : Bool) (whole : List ℕ) (left : Option (List ℕ))
       (old new : WriterView) (plain : Bool) (mode : QuirksMode) (errors : ℕ)
-      → IsRead table exact whole left (with_errors 0 g) g.errors → new ≡ with_bytes old (given_bytes opts f id)
+      → IsReadBy rules table exact whole left (with_errors 0 g) g.errors → new ≡ with_bytes old (given_bytes opts f id)
       → plain ≡ is_plain_forest g → mode ≡ f.quirks → errors ≡ f.errors
-      → IsNormalised table exact whole left old.written new.written (report_with plain mode errors)
-  normalised table exact whole left old new plain mode errors read wrote plain_is mode_is errors_is = record {
+      → IsNormalisedBy rules table exact whole left old.written new.written (report_with plain mode errors)
+  normalised rules table exact whole left old new plain mode errors read wrote plain_is mode_is errors_is = record {
     document = with_errors 0 g;
     input = read.input;
     taken = read.taken;
     output = ap (λ (t : WriterView). t.written) wrote ∙ ap (append_known old.written) given_bytes-are;
     plain = plain_is ∙ sym (plain-same 0 g);
     quirks = mode_is ∙ ap (λ (h : Forest). h.quirks) forest_is;
-    errors = subst (λ (n : ℕ). CountsErrors table exact (chars whole) n)
+    errors = subst (λ (n : ℕ). CountsErrorsBy rules table exact (chars whole) n)
         (sym (errors_is ∙ ap (λ (h : Forest). h.errors) forest_is)) read.counts;
-    again = λ is other reads. plain-normal other reads (with_errors 0 g) (plain-same 0 g ∙ (sym plain_is ∙ is));
   }
 
-  begun : (table : List Row) (exact : Bool) (whole : List ℕ) (left old new : Option (List ℕ)) (count : ℕ)
-      → IsRead table exact whole left (with_errors 0 g) g.errors → count ≤ length (given_bytes opts f id)
-      → new ≡ append_known old (take count (given_bytes opts f id)) → IsBegun table whole old new
-  begun table exact whole left old new count read within moved = record {
+  begun : (rules : Rules) (table : List Row) (exact : Bool) (whole : List ℕ) (left old new : Option (List ℕ)) (count : ℕ)
+      → IsReadBy rules table exact whole left (with_errors 0 g) g.errors → count ≤ length (given_bytes opts f id)
+      → new ≡ append_known old (take count (given_bytes opts f id)) → IsBegunBy rules table whole old new
+  begun rules table exact whole left old new count read within moved = record {
     document = with_errors 0 g;
     input = read.input;
     count = count;
@@ -204,18 +207,33 @@ module _ (opts : SerializeOpts) (f g : Forest) (id : ℕ)
   }
 
   -- a fault of the serializer
-  pub write-failed : (table : List Row) (exact : Bool) (fault : SerializeFault) (left left' : Option (List ℕ)) (old new : WriterView)
-      → ((whole : List ℕ) → left ≡ Some whole → IsRead table exact whole left' (with_errors 0 g) g.errors)
+  pub write-failed : (rules : Rules) (table : List Row) (exact : Bool) (fault : SerializeFault) (left left' : Option (List ℕ))
+      (old new : WriterView)
+      → ((whole : List ℕ) → left ≡ Some whole → IsReadBy rules table exact whole left' (with_errors 0 g) g.errors)
       → Writes {R = Unit {0}} (given_bytes opts f id) old (Err fault) new
-      → IsFailed table left left' old.written new.written (write_fault_of fault)
-  write-failed table exact serial.Write left left' old new read wrote =
-      λ whole told. begun table exact whole left' old.written new.written wrote.count (read whole told) wrote.within wrote.written
-  write-failed table exact serial.NoParent left left' old new read wrote = absurd wrote
-  write-failed table exact serial.NoElemInfo left left' old new read wrote = absurd wrote
-  write-failed table exact serial.Memory left left' old new read wrote =
-      inr (λ whole told. begun table exact whole left' old.written new.written wrote.count (read whole told)
+      → IsFailedBy rules table left left' old.written new.written (write_fault_of fault)
+  write-failed rules table exact serial.Write left left' old new read wrote =
+      λ whole told. begun rules table exact whole left' old.written new.written wrote.count (read whole told) wrote.within wrote.written
+  write-failed rules table exact serial.NoParent left left' old new read wrote = absurd wrote
+  write-failed rules table exact serial.NoElemInfo left left' old new read wrote = absurd wrote
+  write-failed rules table exact serial.Memory left left' old new read wrote =
+      inr (λ whole told. begun rules table exact whole left' old.written new.written wrote.count (read whole told)
       wrote.within (ap (λ (t : WriterView). t.written) wrote.told))
-  write-failed table exact serial.Failed left left' old new read wrote = absurd wrote
+  write-failed rules table exact serial.Failed left left' old new read wrote = absurd wrote
+
+-- by html5ever's rules a plain document's text is read back
+pub read-again : (table : List Row) (exact : Bool) (whole : List ℕ) (left old new : Option (List ℕ)) (report : Report)
+    → IsNormalisedBy Html5ever table exact whole left old new report → IsNormalised table exact whole left old new report
+read-again table exact whole left old new report n = record {
+  document = n.document;
+  input = n.input;
+  taken = n.taken;
+  output = n.output;
+  plain = n.plain;
+  quirks = n.quirks;
+  errors = n.errors;
+  again = λ is other reads. plain-normal other reads n.document (sym n.plain ∙ is);
+}
 
 -- how often the writer failed, where a serializer did
 pub writes-counted : (T : Type 0) (fault : SerializeFault) (bytes : List ℕ) (old new : WriterView)

@@ -14,6 +14,8 @@ use Rattle.html_rules.specs.ForeignContent.{asks_cdata}
 use Rattle.html_rules.specs.State.{Answers, State, hushed}
 use Rattle.html_rules.specs.Step.{ended, is_quiet, step}
 use Rattle.html_tokens.specs.Owed.{owed_for_text}
+use Rattle.html_rules.specs.declared.rules.Rules.{Rules}
+use Rattle.html_rules.specs.declared.rules.Rules.TheVariants.{Html5ever}
 
 -- what is not asked for otherwise: a byte order mark is dropped, and reading begins in data
 abbrev pub default_opts : TokenizerOpts
@@ -27,34 +29,49 @@ forest_answers = record {
   attaches_shadow = λ f host template attributes. false;
 }
 
--- scripts run, and the document is a page of its own
-abbrev pub default_setting : Setting
-default_setting = record {
-  opts = record { scripting_enabled = true; iframe_srcdoc = false; drop_doctype = false };
+-- scripts run, and the document is a page of its own; by html5ever's rules or the Standard's
+abbrev pub setting_by : Rules → Setting
+setting_by rules = record {
+  opts = record { scripting_enabled = true; iframe_srcdoc = false; drop_doctype = false; rules = rules };
   quirks_mode = NoQuirks;
   answers = forest_answers;
 }
 
+abbrev pub default_setting : Setting
+default_setting = setting_by Html5ever
+
 -- the state in which the rules leave a text that is read with this table of references
+abbrev pub document_by : Rules → List Row → List ℕ → Result State Refusal
+document_by rules table text = document table default_opts (setting_by rules) empty_forest text
+
 abbrev pub document_of : List Row → List ℕ → Result State Refusal
-document_of table text = document table default_opts default_setting empty_forest text
+document_of table text = document_by Html5ever table text
 
 -- Bytes are UTF-8, and this is the document that the rules give their text.
-pub record IsDocument (table : List Row) (bytes : List ℕ) (f : Forest) : Type 0 where
+pub record IsDocumentBy (rules : Rules) (table : List Row) (bytes : List ℕ) (f : Forest) : Type 0 where
   pub text : IsUtf8 bytes
   pub state : State
-  pub read : document_of table (chars bytes) ≡ Ok state
+  pub read : document_by rules table (chars bytes) ≡ Ok state
   pub tree : f ≡ state.forest
 
+abbrev pub IsDocument : List Row → List ℕ → Forest → Type 0
+IsDocument table bytes f = IsDocumentBy Html5ever table bytes f
+
 -- how many faulty items a text has as a document
-abbrev pub faults_of : List Row → List ℕ → ℕ
-faults_of table text = owed step is_quiet asks_cdata ended table (stand_of default_opts) 0
-    (hushed (before_document default_setting empty_forest)) (normal_text true text)
+abbrev pub faults_by : Rules → List Row → List ℕ → ℕ
+faults_by rules table text = owed step is_quiet asks_cdata ended table (stand_of default_opts) 0
+    (hushed (before_document (setting_by rules) empty_forest)) (normal_text true text)
 
 -- whether no item of a text has a fault and the rules find no error in a token
+abbrev pub is_quiet_by : Rules → List Row → List ℕ → Bool
+is_quiet_by rules table text = is_quiet_reading step is_quiet asks_cdata ended table (stand_of default_opts) 0
+    (hushed (before_document (setting_by rules) empty_forest)) (normal_text true text)
+
+abbrev pub faults_of : List Row → List ℕ → ℕ
+faults_of table text = faults_by Html5ever table text
+
 abbrev pub is_quiet_document : List Row → List ℕ → Bool
-is_quiet_document table text = is_quiet_reading step is_quiet asks_cdata ended table (stand_of default_opts) 0
-    (hushed (before_document default_setting empty_forest)) (normal_text true text)
+is_quiet_document table text = is_quiet_by Html5ever table text
 
 -- how many characters of a text are errors on their own: control characters and noncharacters, where these are told
 abbrev pub emitted_characters : Bool → List ℕ → ℕ
@@ -65,9 +82,12 @@ abbrev pub is_free_of_emitted : Bool → List ℕ → Bool
 is_free_of_emitted exact text = (owed_for_text exact (normal_text true text)).is_quiet
 
 -- A number of errors counts each faulty item of a text and each character that is told, and maybe more; of a text without any it is 0.
-pub record CountsErrors (table : List Row) (exact : Bool) (text : List ℕ) (errors : ℕ) : Type 0 where
-  pub enough : min (faults_of table text + emitted_characters exact text) 0xffff_ffff_ffff_ffff ≤ errors
-  pub none : is_quiet_document table text ≡ true → is_free_of_emitted exact text ≡ true → errors ≡ 0
+pub record CountsErrorsBy (rules : Rules) (table : List Row) (exact : Bool) (text : List ℕ) (errors : ℕ) : Type 0 where
+  pub enough : min (faults_by rules table text + emitted_characters exact text) 0xffff_ffff_ffff_ffff ≤ errors
+  pub none : is_quiet_by rules table text ≡ true → is_free_of_emitted exact text ≡ true → errors ≡ 0
+
+abbrev pub CountsErrors : List Row → Bool → List ℕ → ℕ → Type 0
+CountsErrors table exact text errors = CountsErrorsBy Html5ever table exact text errors
 
 -- the trees that stand in a document
 abbrev pub document_trees : Forest → Trees

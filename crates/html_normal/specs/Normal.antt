@@ -6,23 +6,39 @@ use Rattle.devices.specs.Devices.{count_after}
 use Rattle.markup.specs.Forest.{Forest}
 use Rattle.html_input.specs.Reading.{HasBegun, ShowsNotUtf8}
 use Rattle.html_plain.specs.Grammar.{is_plain_forest}
+use Rattle.html_rules.specs.declared.rules.Rules.{Rules}
+use Rattle.html_rules.specs.declared.rules.Rules.TheVariants.{Html5ever}
 use Rattle.html_tokens.specs.Laws.{ReadsEscapes}
 use Rattle.html_tokens.specs.Table.{Row}
 use Rattle.html_normal.specs.Again.{IsNormal}
-use Rattle.html_normal.specs.Document.{CountsErrors, IsDocument, document_bytes, document_trees}
+use Rattle.html_normal.specs.Document.{CountsErrors, CountsErrorsBy, IsDocument, IsDocumentBy, document_bytes, document_trees}
 use Rattle.html_normal.specs.declared.fault.NormalFault.{NormalFault}
 use Rattle.html_normal.specs.declared.fault.NormalFault.TheVariants.{NotUtf8, Read, Write, Memory, Refused}
 use Rattle.html_normal.specs.declared.report.Report.{Report}
 
 -- All of the input was read, this is its document, and so many errors were counted.
-pub record IsRead (table : List Row) (exact : Bool) (whole : List ℕ) (left : Option (List ℕ)) (document : Forest)
+pub record IsReadBy (rules : Rules) (table : List Row) (exact : Bool) (whole : List ℕ) (left : Option (List ℕ)) (document : Forest)
     (errors : ℕ) : Type 0 where
-  pub input : IsDocument table whole document
+  pub input : IsDocumentBy rules table whole document
   pub taken : left ≡ Some []
-  pub counts : CountsErrors table exact (chars whole) errors
+  pub counts : CountsErrorsBy rules table exact (chars whole) errors
+
+abbrev pub IsRead : List Row → Bool → List ℕ → Option (List ℕ) → Forest → ℕ → Type 0
+IsRead table exact whole left document errors = IsReadBy Html5ever table exact whole left document errors
 
 -- All of the input was read, its document was written after what was written before, and the report is of that document, and of the
 -- errors that were counted. `exact` is whether the tokenizer tells characters.
+pub record IsNormalisedBy (rules : Rules) (table : List Row) (exact : Bool) (whole : List ℕ) (left old new : Option (List ℕ))
+    (report : Report) : Type 0 where
+  pub document : Forest
+  pub input : IsDocumentBy rules table whole document
+  pub taken : left ≡ Some []
+  pub output : new ≡ append_known old (document_bytes document)
+  pub plain : report.plain ≡ is_plain_forest document
+  pub quirks : report.quirks ≡ document.quirks
+  pub errors : CountsErrorsBy rules table exact (chars whole) report.errors
+
+-- The same by html5ever's rules.
 pub record IsNormalised (table : List Row) (exact : Bool) (whole : List ℕ) (left old new : Option (List ℕ)) (report : Report) : Type 0 where
   pub document : Forest
   pub input : IsDocument table whole document
@@ -36,9 +52,9 @@ pub record IsNormalised (table : List Row) (exact : Bool) (whole : List ℕ) (le
       → IsNormal other (document_trees document) (document_bytes document)
 
 -- A beginning of the document was written.
-pub record IsBegun (table : List Row) (whole : List ℕ) (old new : Option (List ℕ)) : Type 0 where
+pub record IsBegunBy (rules : Rules) (table : List Row) (whole : List ℕ) (old new : Option (List ℕ)) : Type 0 where
   pub document : Forest
-  pub input : IsDocument table whole document
+  pub input : IsDocumentBy rules table whole document
   pub count : ℕ
   pub within : count ≤ length (document_bytes document)
   pub output : new ≡ append_known old (take count (document_bytes document))
@@ -59,14 +75,18 @@ IsInputFault refused old new Memory = Unit {0}
 IsInputFault refused old new Refused = refused
 
 -- What a fault says of the bytes of the input that were left before and are left now, and of those written before and now.
-abbrev pub IsFailed : List Row → (left left' old new : Option (List ℕ)) → NormalFault → Type 0
-IsFailed table left left' old new (NotUtf8 at) =
+abbrev pub IsFailedBy : Rules → List Row → (left left' old new : Option (List ℕ)) → NormalFault → Type 0
+IsFailedBy rules table left left' old new (NotUtf8 at) =
     (new ≡ old) × ((whole rest : List ℕ) → left ≡ Some whole → left' ≡ Some rest → ShowsNotUtf8 whole rest at)
-IsFailed table left left' old new Read =
+IsFailedBy rules table left left' old new Read =
     (new ≡ old) × ((whole rest : List ℕ) → left ≡ Some whole → left' ≡ Some rest → HasBegun whole rest ⊎ IsTooLong whole rest)
-IsFailed table left left' old new Write = (whole : List ℕ) → left ≡ Some whole → IsBegun table whole old new
-IsFailed table left left' old new Memory = (new ≡ old) ⊎ ((whole : List ℕ) → left ≡ Some whole → IsBegun table whole old new)
-IsFailed table left left' old new Refused = ⊥
+IsFailedBy rules table left left' old new Write = (whole : List ℕ) → left ≡ Some whole → IsBegunBy rules table whole old new
+IsFailedBy rules table left left' old new Memory = (new ≡ old)
+    ⊎ ((whole : List ℕ) → left ≡ Some whole → IsBegunBy rules table whole old new)
+IsFailedBy rules table left left' old new Refused = ⊥
+
+abbrev pub IsFailed : List Row → (left left' old new : Option (List ℕ)) → NormalFault → Type 0
+IsFailed table left left' old new fault = IsFailedBy Html5ever table left left' old new fault
 
 -- A reader that tells its bytes told more than can be counted.
 pub record HasTooMany (left left' : Option (List ℕ)) : Type 0 where

@@ -1,9 +1,10 @@
 //! The document of what a reader has.
 ghost use Rattle.std.specs.Prelude.{◌≡◌, ℕ, List, Some, IfOk, IfErr, OnOk};
 ghost use Rattle.markup.specs.TreeLaws.{with_errors};
-ghost use Rattle.html_normal.specs.Document.{default_opts, default_setting, forest_answers};
+ghost use Rattle.html_normal.specs.Document.{default_opts, default_setting, forest_answers, setting_by};
+ghost use Rattle.html_rules.specs.declared.rules.Rules.TheVariants.{Html5ever};
 ghost use Rattle.html_tree_builder.specs.States.{setting_of};
-ghost use Rattle.html_normal.specs.Normal.{CountsReads, IsInputFault, IsRead};
+ghost use Rattle.html_normal.specs.Normal.{CountsReads, IsInputFault, IsRead, IsReadBy};
 ghost use Rattle.html_normal.specs.Parsing.{HasReadAll, IsAtRest, MayRefuse};
 
 use crate::fault::NormalFault;
@@ -13,6 +14,7 @@ use html_forest::Forest;
 use html_input::{PIECE, split_text};
 use html_parser::{ParseOpts, Parser, parse_document};
 use html_references::References;
+use html_rules::Rules;
 use html_tokenizer::TokenizerOpts;
 use html_tree_builder::TreeBuilderOpts;
 use markup::TreeSink;
@@ -57,10 +59,11 @@ pub(crate) fn read_into<R: Source, Sink: TreeSink>(
     Err(NormalFault::NotUtf8 { at: taken })
 }
 
-/// How a document is parsed: with default options, but for the errors that are told.
-pub fn options(exact: Exact) -> ParseOpts
+/// How a document is parsed: with default options, but for the errors that are told and for whose rules hold.
+pub fn options_with(exact: Exact, rules: Rules) -> ParseOpts
     ensures tokenizer { result.tokenizer ≡ record default_opts { exact_errors = exact.tokenizer } }
-    ensures tree_builder { setting_of forest_answers result.tree_builder ≡ default_setting }
+    ensures tree_builder { setting_of forest_answers result.tree_builder ≡ setting_by rules }
+    ensures rules { result.tree_builder.rules ≡ rules }
 {
     ParseOpts {
         tokenizer: TokenizerOpts {
@@ -69,12 +72,22 @@ pub fn options(exact: Exact) -> ParseOpts
         },
         tree_builder: TreeBuilderOpts {
             exact_errors: exact.tree_builder,
+            rules,
             ..TreeBuilderOpts::default()
         },
     }
 }
 
-/// The document of what a reader has, read to its end. Faults are as those of [`crate::normalise`].
+/// The same by html5ever's rules.
+pub fn options(exact: Exact) -> ParseOpts
+    ensures tokenizer { result.tokenizer ≡ record default_opts { exact_errors = exact.tokenizer } }
+    ensures tree_builder { setting_of forest_answers result.tree_builder ≡ default_setting }
+    ensures rules { result.tree_builder.rules ≡ Html5ever }
+{
+    options_with(exact, Rules::Html5ever)
+}
+
+/// The document of what a reader has, read to its end, by html5ever's rules. Faults are as those of [`crate::normalise`].
 pub fn read_document<R: Source>(
     alloc: Global,
     reader: &mut R,
@@ -87,8 +100,25 @@ pub fn read_document<R: Source>(
     ensures counted { CountsReads result (R.left reader.old) (R.left reader.new) (R.failures reader.old) (R.failures reader.new) }
     ensures same_references { R.references reader.new ≡ R.references reader.old }
 {
+    read_document_with(alloc, reader, references, exact, Rules::Html5ever)
+}
+
+/// The document of what a reader has, read to its end, by the rules that are asked for. Faults are as those of [`crate::normalise`].
+pub fn read_document_with<R: Source>(
+    alloc: Global,
+    reader: &mut R,
+    references: References,
+    exact: Exact,
+    rules: Rules,
+) -> Result<Forest, NormalFault>
+    ensures ok { IfOk result (λ forest. (whole : List ℕ) → R.left reader.old ≡ Some whole
+        → IsReadBy rules references exact.tokenizer whole (R.left reader.new) (with_errors 0 forest) forest.errors) }
+    ensures err { IfErr result (IsInputFault ⊥ (R.left reader.old) (R.left reader.new)) }
+    ensures counted { CountsReads result (R.left reader.old) (R.left reader.new) (R.failures reader.old) (R.failures reader.new) }
+    ensures same_references { R.references reader.new ≡ R.references reader.old }
+{
     let forest = Forest::new(alloc)?;
-    let mut parser = parse_document(alloc, forest, options(exact), references)?;
+    let mut parser = parse_document(alloc, forest, options_with(exact, rules), references)?;
     read_into(alloc, reader, &mut parser)?;
     Ok(parser.finish()?)
 }

@@ -1,6 +1,10 @@
-use Rattle.std.proofs.Common.{[], rules}
+use Rattle.std.proofs.Common.{◌≡◌, [], None, codes, rules, subst, sym}
+use Rattle.std.specs.Prelude.{IfSome}
 use Rattle.std.proofs.lemmas.Result.{err_from_is_err_and}
 use Rattle.markup.specs.Forest.{Forest}
+use Rattle.html_parser.specs.Documents.{new_context}
+use Rattle.html_rules.specs.Documents.{form_of_context}
+use Rattle.html_rules.specs.Names.{Html, element_name_of}
 use Rattle.html_normal.specs.Document.{forest_answers}
 use Rattle.html_normal.proofs.Fragments.{fragment-made}
 use Rattle.html_normal.proofs.Meanings.{counts-any, finish-fault, none-refused, not-refused}
@@ -38,3 +42,8 @@ returns-clause-ok g c =
     c.read_into.new.parser.input_buffer.characters _ (λ sink is. is) c.options.ensures.tokenizer
     c.options.ensures.tree_builder (search rules) c.in_ok-forest.ensures.ok
     c.in_ok-read_into.ensures.rest.empty all.text all.moved all.end (gives _ _ read)
+
+pub parse_fragment-requires-clause-form : goal.parse_fragment-requires-clause-form
+parse_fragment-requires-clause-form g c =
+    subst (λ r. IfSome (form_of_context r (new_context r c.args.context c.in_ok-forest.forest) None)
+    (λ n. c.args.context ≡ element_name_of Html (codes "form"))) (sym c.options.ensures.rules) tt

@@ -4,7 +4,7 @@ use Rattle.markup.specs.Forest.{Forest}
 use Rattle.html_normal.specs.Document.{forest_answers}
 use Rattle.html_normal.proofs.Meanings.{counts-any, document-made, finish-fault, none-refused, not-refused}
 use Rattle.html_tree_builder.specs.States.{setting_of}
-use Rattle.html_normal.proofs.document.read_document.Goals as goal
+use Rattle.html_normal.proofs.document.read_document_with.Goals as goal
 
 pub returns-in_err-read_into-clause-err : goal.returns-in_err-read_into-clause-err
 returns-in_err-read_into-clause-err g c =
@@ -32,8 +32,8 @@ returns-clause-ok g c =
     let all = c.in_ok-read_into.ensures.ok in
     let read = all.reads.reads _ [] begins.starts.read in
     let gives = rw c.in_ok-read_into.ensures.rest.free at c.in_ok-finish.ensures.gives in
-    document-made _ _ c.args.exact.tokenizer c.options.result.tokenizer
-    (setting_of forest_answers c.options.result.tree_builder) c.in_ok-forest.forest _ _ all.bytes
-    c.read_into.new.parser.input_buffer.characters _ (λ sink is. is) c.options.ensures.tokenizer
-    c.options.ensures.tree_builder c.in_ok-forest.ensures.ok
+    document-made _ c.args.rules _ c.args.exact.tokenizer c.options_with.result.tokenizer
+    (setting_of forest_answers c.options_with.result.tree_builder) c.in_ok-forest.forest _ _ all.bytes
+    c.read_into.new.parser.input_buffer.characters _ (λ sink is. is) c.options_with.ensures.tokenizer
+    c.options_with.ensures.tree_builder c.in_ok-forest.ensures.ok
     c.in_ok-read_into.ensures.rest.empty all.text all.moved all.end (gives _ _ read)
