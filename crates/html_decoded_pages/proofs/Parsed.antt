@@ -13,6 +13,7 @@ use Rattle.html_parser.specs.Documents.{IsBuilt, builder, of_document}
 use Rattle.html_parser.specs.Read.{Beginning, FailsAfter, IsLeft, RisesTo, owed_by}
 use Rattle.html_rules.specs.Documents.{Setting}
 use Rattle.html_rules.specs.State.{Answers, State}
+use Rattle.html_rules.specs.declared.rules.Rules.TheVariants.{Html5ever}
 use Rattle.html_tokens.specs.Table.{Row}
 use Rattle.html_tokens.specs.declared.options.TokenizerOpts.{TokenizerOpts}
 use Rattle.html_tokenizer.specs.declared.tokenizer.Tokenizer.{Tokenizer}
@@ -137,7 +138,8 @@ module _ {K H O : Type 0} (Sink : TreeGhosts K H O) (forest_of : O → Forest)
       let built = subst (λ (b : Beginning State). IsBuilt Sink b (chars bytes) out) (begins-first table f f_is) is.0 in
       let same = subst (λ (b : Beginning State). settled_by (builder Sink) b (chars bytes) encoding ≡ encoding)
       (begins-first table f f_is) is.1 in (
-        page-made Sink forest_of is_its table exact (opts_with exact) default_setting empty_forest bytes out refl refl refl text built,
+        page-made Sink forest_of is_its Html5ever table exact
+            (opts_with exact) default_setting empty_forest bytes out refl refl refl text built,
         sym (settled-same Sink table exact bytes encoding) ∙ same,
       )
   page-parsed table bytes encoding f (Other other) f_is text is =

@@ -3,3 +3,4 @@ mod Again
 mod Leads
 pub mod Emitted
 mod Takings
+mod Contexts

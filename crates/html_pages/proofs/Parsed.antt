@@ -10,8 +10,9 @@ use Rattle.markup.specs.declared.fault.ParseFault.{ParseFault}
 use Rattle.markup.specs.declared.fault.ParseFault.TheVariants as parse
 use Rattle.markup.specs.declared.names.QualName.{QualName}
 use Rattle.markup.specs.declared.tree_sink.TreeSink.{Ghosts as TreeGhosts}
-use Rattle.html_normal.specs.Document.{default_opts, default_setting}
+use Rattle.html_normal.specs.Document.{default_opts, setting_by}
 use Rattle.html_normal.specs.Faults.{fault_of}
+use Rattle.html_normal.specs.Fragment.{fragment_opts}
 use Rattle.html_normal.specs.Normal.{IsInputFault}
 use Rattle.html_normal.specs.declared.fault.NormalFault.TheVariants.{Memory}
 use Rattle.html_normal.proofs.Meanings.{document-made, finish-fault}
@@ -20,12 +21,13 @@ use Rattle.html_parser.specs.Read.{Beginning, stopped_by}
 use Rattle.html_queue.specs.Queue.{Queue}
 use Rattle.html_rules.specs.Documents.{Setting}
 use Rattle.html_rules.specs.State.{State}
+use Rattle.html_rules.specs.declared.rules.Rules.{Rules}
 use Rattle.html_tokens.specs.Table.{Row}
 use Rattle.html_tokens.specs.declared.options.TokenizerOpts.{TokenizerOpts}
 use Rattle.html_tokenizer.specs.Calls.{refusal_of}
 use Rattle.html_tokenizer.specs.declared.tokenizer.Tokenizer.{Tokenizer}
 use Rattle.html_tree_builder.specs.declared.builder.TreeBuilder.{TreeBuilder}
-use Rattle.html_pages.specs.Pages.{IsFragment, IsPage}
+use Rattle.html_pages.specs.Pages.{IsFragmentBy, IsPageBy}
 
 pub on-ok : {A E : Type 0} {P Q : A → Type 0} (r : Result A E) → IfOk r P → ((x : A) → P x → Q x) → IfOk r Q
 on-ok (Ok x) h f = f x h
@@ -83,28 +85,29 @@ module _ {K H O : Type 0} (Sink : TreeGhosts K H O) (forest_of : O → Forest)
   }
 
   -- what was built of a text is its page
-  pub page-made : (table : List Row) (exact : Bool) (opts : TokenizerOpts) (setting : Setting) (f : Forest) (bytes : List ℕ) (out : O)
-      → opts ≡ record default_opts { exact_errors = exact } → setting ≡ default_setting → f ≡ empty_forest → IsUtf8 bytes
-      → IsBuilt Sink (of_document table opts setting f) (chars bytes) out → IsPage table exact bytes (forest_of out)
-  page-made table exact opts setting f bytes out opts_is setting_is forest_is text built =
+  pub page-made : (rules : Rules) (table : List Row) (exact : Bool) (opts : TokenizerOpts) (setting : Setting) (f : Forest)
+      (bytes : List ℕ) (out : O)
+      → opts ≡ record default_opts { exact_errors = exact } → setting ≡ setting_by rules → f ≡ empty_forest → IsUtf8 bytes
+      → IsBuilt Sink (of_document table opts setting f) (chars bytes) out → IsPageBy rules table exact bytes (forest_of out)
+  page-made rules table exact opts setting f bytes out opts_is setting_is forest_is text built =
       let made = forest-built (of_document table opts setting f) (chars bytes) out built in
       let all = subst (λ (cs : List ℕ). IsBuilt (forest_sink Sink) (of_document table opts setting f) cs
       (forest_of out)) (sym (append-nil (chars bytes))) made in
-      let read = document-made (forest_sink Sink) table exact opts setting f (Some bytes) (Some []) bytes []
+      let read = document-made (forest_sink Sink) rules table exact opts setting f (Some bytes) (Some []) bytes []
       (forest_of out) (λ sink is. is) opts_is setting_is forest_is refl text
       (ap (λ (bs : List ℕ). Some bs) (sym (append-nil bytes))) refl all bytes refl in
       record { document = read.input; counts = read.counts }
 
 -- what was built of a text in a new element is its fragment
 pub fragment-made : {K H : Type 0} (Sink : TreeGhosts K H Forest)
-    → ((sink : K) (out : Forest) → Sink.finish_gives sink out → out ≡ Sink.forest sink) → (table : List Row)
+    → ((sink : K) (out : Forest) → Sink.finish_gives sink out → out ≡ Sink.forest sink) → (rules : Rules) (table : List Row)
     (opts : TokenizerOpts) (setting : Setting) (f : Forest) (name : QualName) (attrs : List Attribute) (text : List ℕ) (out : Forest)
-    → opts ≡ default_opts → setting ≡ default_setting → f ≡ empty_forest → attrs ≡ []
-    → IsBuilt Sink (of_new_context table opts setting name attrs true f) text out → IsFragment table name text out
-fragment-made Sink gives table opts setting f name attrs text out opts_is setting_is forest_is none built =
+    → opts ≡ fragment_opts rules → setting ≡ setting_by rules → f ≡ empty_forest → attrs ≡ []
+    → IsBuilt Sink (of_new_context table opts setting name attrs true f) text out → IsFragmentBy rules table name text out
+fragment-made Sink gives rules table opts setting f name attrs text out opts_is setting_is forest_is none built =
     let made =
-    subst (λ (g : Forest). IsBuilt Sink (of_new_context table default_opts default_setting name [] true g) text out) forest_is
-    (subst (λ (s : Setting). IsBuilt Sink (of_new_context table default_opts s name [] true f) text out) setting_is
+    subst (λ (g : Forest). IsBuilt Sink (of_new_context table (fragment_opts rules) (setting_by rules) name [] true g) text out) forest_is
+    (subst (λ (s : Setting). IsBuilt Sink (of_new_context table (fragment_opts rules) s name [] true f) text out) setting_is
     (subst (λ (o : TokenizerOpts). IsBuilt Sink (of_new_context table o setting name [] true f) text out) opts_is
     (subst (λ (none' : List Attribute). IsBuilt Sink (of_new_context table opts setting name none' true f) text out) none built))) in
     record { state = made.state; read = made.is; tree = ap (with_errors 0) (gives made.sink out made.gives) ∙ made.same }

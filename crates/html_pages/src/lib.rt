@@ -11,5 +11,8 @@ mod reading;
 pub use forbidden::exact_for;
 pub use html_normal::{Exact, NormalFault, References, read_document};
 pub use html_places::{Around, Noted, NotedForest, Place, Surroundings};
+pub use html_rules::Rules;
 pub use read_back::is_read_back;
-pub use reading::{document, document_lossy, fragment, noted_document};
+pub use reading::{
+    document, document_lossy, document_with, fragment, fragment_with, noted_document,
+};

@@ -9,14 +9,15 @@ ghost use Rattle.html_parser.specs.Read.{Beginning, stopped_by};
 ghost use Rattle.html_rules.specs.State.{State};
 ghost use Rattle.html_tokenizer.specs.Calls.{IsReadyIf, refusal_of};
 ghost use Rattle.html_places.specs.Noted.{IsPlaced};
-ghost use Rattle.html_pages.specs.Pages.{IsFragment, IsPage, html_name};
+ghost use Rattle.html_pages.specs.Pages.{IsFragment, IsFragmentBy, IsPage, IsPageBy, html_name};
 
 use crate::forbidden::exact_for;
 use crate::pieces::whole_in_pieces;
 use html_forest::Forest;
-use html_normal::{Exact, NormalFault, References, options};
+use html_normal::{Exact, NormalFault, References, fragment_options, options, options_with};
 use html_parser::{Parser, parse_document, parse_fragment};
 use html_places::{NotedForest, Pieces};
+use html_rules::Rules;
 use markup::{Attributes, KnownNamespace, LocalName, Namespace, QualName, TreeSink};
 use std::alloc::Global;
 
@@ -40,15 +41,30 @@ fn whole<Sink: TreeSink + Drop>(
     Ok(parser.one(text)?)
 }
 
-/// The document of a text.
+/// The document of a text, by html5ever's rules.
 ///
 /// Errors: [`NormalFault::Memory`].
 pub fn document(alloc: Global, references: References, page: String) -> Result<Forest, NormalFault>
     ensures ok { IfOk result (IsPage references false (string_bytes page)) }
     ensures fault { IfErr result (λ fault. fault ≡ Memory) }
 {
+    document_with(alloc, references, Rules::Html5ever, page)
+}
+
+/// The document of a text, by the rules that are asked for.
+///
+/// Errors: [`NormalFault::Memory`].
+pub fn document_with(
+    alloc: Global,
+    references: References,
+    rules: Rules,
+    page: String,
+) -> Result<Forest, NormalFault>
+    ensures ok { IfOk result (IsPageBy rules references false (string_bytes page)) }
+    ensures fault { IfErr result (λ fault. fault ≡ Memory) }
+{
     let forest = Forest::new(alloc)?;
-    let parser = parse_document(alloc, forest, options(FEW_ERRORS), references)?;
+    let parser = parse_document(alloc, forest, options_with(FEW_ERRORS, rules), references)?;
     whole(parser, page)
 }
 
@@ -81,6 +97,23 @@ pub fn fragment(
     ensures ok { IfOk result (IsFragment references (html_name (chars context.now)) (chars (string_bytes text))) }
     ensures fault { IfErr result (λ fault. fault ≡ Memory) }
 {
+    fragment_with(alloc, references, Rules::Html5ever, context, text)
+}
+
+/// What [`fragment`] does, by the rules that are asked for. By the Standard's, a context that is a `form` is the form element pointer,
+/// and a U+FEFF at the beginning is kept.
+///
+/// Errors: [`NormalFault::Memory`].
+pub fn fragment_with(
+    alloc: Global,
+    references: References,
+    rules: Rules,
+    context: &str,
+    text: String,
+) -> Result<Forest, NormalFault>
+    ensures ok { IfOk result (IsFragmentBy rules references (html_name (chars context.now)) (chars (string_bytes text))) }
+    ensures fault { IfErr result (λ fault. fault ≡ Memory) }
+{
     let local = LocalName::from_str(alloc, context)?;
     let html = Namespace::from_known(KnownNamespace::Html);
     let name = QualName::new(None, html, local);
@@ -88,7 +121,7 @@ pub fn fragment(
     let parser = parse_fragment(
         alloc,
         forest,
-        options(FEW_ERRORS),
+        fragment_options(FEW_ERRORS, rules),
         name,
         Attributes::new(alloc),
         true,

@@ -6,6 +6,7 @@ use Rattle.html_tokens.specs.Forbidden.{is_forbidden}
 use Rattle.std.specs.String.{string_bytes}
 use Rattle.std.proofs.lemmas.Result.{err_from_is_err_and}
 use Rattle.html_normal.specs.Document.{forest_answers}
+use Rattle.html_rules.specs.declared.rules.Rules.TheVariants.{Html5ever}
 use Rattle.html_tree_builder.specs.States.{setting_of}
 use Rattle.html_places.specs.declared.noted.NotedForest.{NotedForest}
 use Rattle.html_pages.proofs.Emitted.{page-of-all}
@@ -29,7 +30,7 @@ returns-clause-ok c =
     (page-of-all c.args.references c.exact_for-exact.result.tokenizer (string_bytes c.args.page) c.in_ok-built.built.forest
     (c.exact_for-exact.ensures.tokenizer ∙ ap (λ (bytes : List ℕ). list_any is_forbidden (chars bytes)) text)
     (page-made _ (λ (n : NotedForest). n.forest) (λ sink made is. ap (λ (n : NotedForest). n.forest) is)
-    c.args.references c.exact_for-exact.result.tokenizer c.options.result.tokenizer
+    Html5ever c.args.references c.exact_for-exact.result.tokenizer c.options.result.tokenizer
     (setting_of forest_answers c.options.result.tree_builder) c.in_ok-sink.sink.forest (string_bytes c.args.page) c.in_ok-built.built
     c.options.ensures.tokenizer c.options.ensures.tree_builder c.in_ok-sink.ensures.ok
     (IsUtf8-string_bytes c.args.page) (built _ c.in_ok-parser.ensures.begins)))
