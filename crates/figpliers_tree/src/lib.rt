@@ -14,7 +14,8 @@ pub use html_nodes::{
 };
 pub use html_normal::{Exact, NormalFault, TableFileFault, read_document, read_table};
 pub use html_pages::{
-    Noted, NotedForest, Place, document, document_lossy, fragment, noted_document,
+    Noted, NotedForest, Place, Rules, document, document_lossy, document_with, fragment,
+    fragment_with, noted_document,
 };
 pub use html_parser::{
     ParseOpts, Parser, parse_document, parse_fragment, parse_fragment_for_element,

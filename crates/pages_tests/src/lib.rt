@@ -1,4 +1,5 @@
-//! Tests of what callers of pages name: texts and bytes to trees, parse errors, the Standard's references, what is read back, and nodes.
+//! Tests of what callers of pages name: texts and bytes to trees by both rules, parse errors, the Standard's references, what is read back,
+//! and nodes.
 #![tactic(auto)]
 
 #[cfg(test)]
@@ -13,3 +14,5 @@ mod pages;
 mod places;
 #[cfg(test)]
 mod references;
+#[cfg(test)]
+mod rules;

@@ -73,7 +73,7 @@ const PAGES: &[(How, &[u8], &str)] = &[
 ];
 
 /// Texts as vectors of bytes, which readers take.
-fn bytes_of(alloc: Global, bytes: &[u8]) -> Result<MemReader, AllocError> {
+pub(crate) fn bytes_of(alloc: Global, bytes: &[u8]) -> Result<MemReader, AllocError> {
     Ok(MemReader::new(Vec::from_slice(alloc, bytes)?, 3, None))
 }
 
@@ -100,7 +100,7 @@ fn top(forest: &Forest, how: How) -> NodeId {
 }
 
 /// Whether that is written of what stands in a node.
-fn is_written(alloc: Global, forest: &Forest, id: NodeId, wanted: &str) -> bool {
+pub(crate) fn is_written(alloc: Global, forest: &Forest, id: NodeId, wanted: &str) -> bool {
     let mut writer = VecWriter::new(alloc);
     let node = ForestNode { forest, id };
     serialize(alloc, &mut writer, &node, SerializeOpts::default()).is_ok()
