@@ -1,5 +1,6 @@
 //! What the settings of a row say.
 ghost use Rattle.std.specs.Prelude.{◌≡◌, true, IfOk, IfSome, None};
+ghost use Rattle.html_rules.specs.declared.rules.Rules.TheVariants.{Html5ever};
 ghost use Rattle.html_tokens.specs.TextState.{is_text_state};
 
 use devices::MemReader;
@@ -65,7 +66,8 @@ pub fn scripting(row: &Row) -> bool {
 
 /// The options of a parser.
 pub fn parse_opts(row: &Row, exact: bool) -> ParseOpts
-    ensures { result.tokenizer.initial_state ≡ None }
+    ensures state { result.tokenizer.initial_state ≡ None }
+    ensures rules { result.tree_builder.rules ≡ Html5ever }
 {
     ParseOpts {
         tokenizer: TokenizerOpts {
