@@ -40,9 +40,9 @@ use crate::names::Manner::{Raw, RawWithScripts, Usual, Void};
 KINDS_FILE = """//! The kinds of known names, by their places: written by `tools/names.py`.
 use crate::kinds::Kind;
 use crate::kinds::Kind::{{
-    Block, Button, Cell, Description, Formatting, Heading, Item, Link, Metadata, Phrase,
-    Preformatted, Raw, RawWithScripts, Row, Script, Section, Staying, Style, Svg, Table, Title,
-    Usual, Void, VoidPhrase,
+    Block, Body, Button, Cell, Description, Formatting, Head, Heading, Input, Item, Link, Metadata,
+    Phrase, Preformatted, Raw, RawWithScripts, Row, Script, Section, Staying, Style, Svg, Table,
+    Title, Usual, Void, VoidBlock, VoidPhrase,
 }};
 
 /// The kind of the HTML element, or `Svg` for an element of SVG.
@@ -94,11 +94,15 @@ COMMON = {
     "FormattingTag": "Formatting",
     "A": "Link",
     "VoidTag": "VoidPhrase",
+    "Hr": "VoidBlock",
+    "Input": "Input",
     "Button": "Button",
     "Table": "Table",
     "TbodyTfootThead": "Section",
     "Tr": "Row",
     "TdTh": "Cell",
+    "Head": "Head",
+    "Body": "Body",
     "MetadataVoid": "Metadata",
     "Title": "Title",
     "NoframesStyle": "Style",
