@@ -7,6 +7,3 @@ parse_fragment_for_element-requires-clause-top g c = c.in_ok-form.ensures.top
 
 pub parse_fragment_for_element-requires-clause-context : goal.parse_fragment_for_element-requires-clause-context
 parse_fragment_for_element-requires-clause-context g c = subst (λ o. IsSome o) (sym c.in_ok-form.ensures.named) refl
-
-pub parse_fragment_for_element-requires-clause-form : goal.parse_fragment_for_element-requires-clause-form
-parse_fragment_for_element-requires-clause-form g c = c.in_ok-form.ensures.named
