@@ -59,7 +59,7 @@ pub(crate) fn read_into<R: Source, Sink: TreeSink>(
     Err(NormalFault::NotUtf8 { at: taken })
 }
 
-/// How a document is parsed: with default options, but for the errors that are told and for whose rules hold.
+/// The options of a parser of documents: the default ones, but for which parse errors are reported and for the rules of tree construction.
 pub fn options_with(exact: Exact, rules: Rules) -> ParseOpts
     ensures tokenizer { result.tokenizer ≡ record default_opts { exact_errors = exact.tokenizer } }
     ensures tree_builder { setting_of forest_answers result.tree_builder ≡ setting_by rules }
@@ -87,7 +87,7 @@ pub fn options(exact: Exact) -> ParseOpts
     options_with(exact, Rules::Html5ever)
 }
 
-/// The document of what a reader has, read to its end, by html5ever's rules. Faults are as those of [`crate::normalise`].
+/// The document of what a reader has, read to its end, by html5ever's rules. Errors: those of [`crate::normalise`].
 pub fn read_document<R: Source>(
     alloc: Global,
     reader: &mut R,
@@ -103,7 +103,7 @@ pub fn read_document<R: Source>(
     read_document_with(alloc, reader, references, exact, Rules::Html5ever)
 }
 
-/// The document of what a reader has, read to its end, by the rules that are asked for. Faults are as those of [`crate::normalise`].
+/// The document of what a reader has, read to its end, by these rules of tree construction. Errors: those of [`crate::normalise`].
 pub fn read_document_with<R: Source>(
     alloc: Global,
     reader: &mut R,

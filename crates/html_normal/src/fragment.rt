@@ -38,7 +38,7 @@ pub fn fragment_options(exact: Exact, rules: Rules) -> ParseOpts
 }
 
 /// The fragment of what a reader has, read to its end, as it stands in a new element of a name, where scripts run (HTML Standard, section
-/// 13.4). It stands in the first child of the forest's document. Faults are as those of [`crate::normalise`].
+/// 13.4). It stands in the first child of the forest's document. Errors: those of [`crate::normalise`].
 pub fn read_fragment<R: Source>(
     alloc: Global,
     reader: &mut R,

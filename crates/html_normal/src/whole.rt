@@ -14,10 +14,10 @@ use html_serialize::{SerializeOpts, serialize};
 use markup::TreeSink;
 use std::alloc::Global;
 
-/// Reads an HTML document to its end, and writes its normal text. html5ever's rules hold.
+/// Reads an HTML document to its end by html5ever's rules, and writes its normal text.
 ///
-/// Nothing is written before the input has ended. Where a fault is told, the reader and the writer stand where they
-/// stopped: after `Write`, or `Memory` while writing, a beginning of the text was written; after any other fault nothing.
+/// Nothing is written before the input has ended. After an error the reader and the writer stand where they stopped: after
+/// `Write`, or after `Memory` while writing, a prefix of the text was written; after any other error nothing.
 pub fn normalise<R: Source, W: Target>(
     alloc: Global,
     reader: &mut R,
@@ -36,10 +36,10 @@ pub fn normalise<R: Source, W: Target>(
     normalise_with(alloc, reader, writer, references, exact, Rules::Html5ever)
 }
 
-/// Reads an HTML document to its end by the rules that are asked for, and writes its normal text.
+/// Reads an HTML document to its end by these rules of tree construction, and writes its normal text.
 ///
-/// Nothing is written before the input has ended. Where a fault is told, the reader and the writer stand where they
-/// stopped: after `Write`, or `Memory` while writing, a beginning of the text was written; after any other fault nothing.
+/// Nothing is written before the input has ended. After an error the reader and the writer stand where they stopped: after
+/// `Write`, or after `Memory` while writing, a prefix of the text was written; after any other error nothing.
 pub fn normalise_with<R: Source, W: Target>(
     alloc: Global,
     reader: &mut R,

@@ -51,7 +51,7 @@ pub fn document(alloc: Global, references: References, page: String) -> Result<F
     document_with(alloc, references, Rules::Html5ever, page)
 }
 
-/// The document of a text, by the rules that are asked for.
+/// The document of a text, by these rules of tree construction.
 ///
 /// Errors: [`NormalFault::Memory`].
 pub fn document_with(
@@ -100,7 +100,7 @@ pub fn fragment(
     fragment_with(alloc, references, Rules::Html5ever, context, text)
 }
 
-/// What [`fragment`] does, by the rules that are asked for. By the Standard's, a context that is a `form` is the form element pointer,
+/// What [`fragment`] does, by these rules of tree construction. By the Standard's, a context that is a `form` is the form element pointer,
 /// and a U+FEFF at the beginning is kept.
 ///
 /// Errors: [`NormalFault::Memory`].

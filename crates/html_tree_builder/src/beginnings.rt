@@ -41,7 +41,7 @@ pub(crate) fn tokenizer_state(name: &ElementName, scripting: bool) -> State
     }
 }
 
-/// The form element pointer of a fragment: by the Standard, a context that is a form is meant itself.
+/// The form element pointer of a fragment: by the Standard, it is the context itself where that is a form (section 13.4).
 fn form_of_context<Handle: Copy>(
     rules: Rules,
     context: &OpenElement<Handle>,

@@ -31,11 +31,12 @@ returns-clause-ok g c =
     let copy = c.in_ok-copy.copy in
     let is : IsNewest (entry_of node) (stands_for (node c.args.node.now)) items c.in-Some.place =
     rw c.as_slice.ensures.value at c.in-Some.ensures in
-    let told : IsTagAt items c.in-Some.place (Some c.in-Some-2.tag) = subst (IsTagAt items c.in-Some.place)
+    let tagged : IsTagAt items c.in-Some.place (Some c.in-Some-2.tag) = subst (IsTagAt items c.in-Some.place)
     c.in-Some-2.is (rw c.as_slice-2.ensures.value at c.in_ok-tag.ensures.tag) in
     ap (λ xs. walk_of node k xs (record { elements = c.push_reserved.new.self; last = copy.handle; rules = c.args.copies.now.rules })) (c.rename.ensures Marker)
-    ∙ copied node f k items c.in-Some.place (node c.args.node.now) told.0 c.in-Some-2.tag c.args.copies.now
-    (record { elements = c.push_reserved.new.self; last = copy.handle; rules = c.args.copies.now.rules }) copy is told.1 c.in_ok-copy.ensures.ok c.in_ok-copy.ensures.opened
+    ∙ copied node f k items c.in-Some.place (node c.args.node.now) tagged.0 c.in-Some-2.tag c.args.copies.now
+    (record { elements = c.push_reserved.new.self; last = copy.handle; rules = c.args.copies.now.rules }) copy is tagged.1
+    c.in_ok-copy.ensures.ok c.in_ok-copy.ensures.opened
     (c.push_reserved.ensures.items ∙ ap (λ xs. xs ++ copy ∷ []) c.in_ok-reserve.ensures.items) refl refl
 
 pub returns-in_default-2-clause-ok : goal.returns-in_default-2-clause-ok
@@ -44,6 +45,6 @@ returns-in_default-2-clause-ok g c =
     let items = c.args.entries.now.items in
     let is : IsNewest (entry_of node) (stands_for (node c.args.node.now)) items c.in-Some.place =
     rw c.as_slice.ensures.value at c.in-Some.ensures in
-    let told : IsTagAt items c.in-Some.place None = subst (IsTagAt items c.in-Some.place) c.in_default-2.is
+    let tagged : IsTagAt items c.in-Some.place None = subst (IsTagAt items c.in-Some.place) c.in_default-2.is
     (rw c.as_slice-2.ensures.value at c.in_ok-tag.ensures.tag) in
-    no-marker node (node c.args.node.now) items c.in-Some.place is told
+    no-marker node (node c.args.node.now) items c.in-Some.place is tagged
